@@ -1,0 +1,10 @@
+pub mod Near
+pub mod Ahead
+pub mod Rule
+pub mod Whole
+pub mod Stops
+pub mod Pieces
+pub mod Bounds
+pub mod Exact
+pub mod Worked
+pub mod Oracle

@@ -1,0 +1,4 @@
+pub mod Lists
+pub mod Course
+pub mod Pieces
+pub mod Exact

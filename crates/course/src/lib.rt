@@ -1,0 +1,13 @@
+// Courses.
+
+// A course (document 01's own term): what the opening or one instruction sets going. It begins at a second of the day,
+// at the level `start` (after any step), and goes to `target` (kW), with the start-up column of `heat`. `up` and `down`
+// replace all five ramp-up or ramp-down rates (kW a minute; 0: none does).
+pub struct Course {
+    pub begin: u32,
+    pub start: level::Level,
+    pub target: u32,
+    pub heat: u32,
+    pub up: u32,
+    pub down: u32,
+}
