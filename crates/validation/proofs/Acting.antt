@@ -1,0 +1,71 @@
+-- Acting times strictly increase in the acting order, and all lie before the day's end.
+-- Assumes nothing.
+use mathlib.Core.Path.{_≡_, refl, ap, sym, _∙_}
+use mathlib.Core.List.{List, [], _∷_}
+use mathlib.Core.Bool.{Bool, true, false, _||_, true≢false}
+use Prim.Native.Nat.{ℕ, zero, suc, _+_, _≤_, _<_}
+use native.Mathlib.Omega.{arith}
+use lib.Dec.{T, leb, ltb, eqb, leb→le, nleb→lt, eqb→eq}
+use Rattle.level.specs.Choice.{pick}
+use Rattle.level.specs.Lists.{All, some}
+use Rattle.validation.specs.declared.Numbered.{Numbered}
+use Rattle.validation.specs.Kept.{acting, overtaken, lateFate, actors, Checked, Validated, turned, keptOf, used, check, validated}
+
+-- each acts before all after it
+abbrev pub Rises : List Numbered → Type 0
+Rises [] = Unit {0}
+Rises (o ∷ os) = All (λ l. acting o < acting l) os × Rises os
+
+or-false : (a b : Bool) → (a || b) ≡ false → (a ≡ false) × (b ≡ false)
+or-false true b e = absurd (true≢false e)
+or-false false b e = (refl, e)
+
+not-overtaken : (o : Numbered) (ls : List Numbered) → overtaken o ls ≡ false → All (λ l. acting o < acting l) ls
+unfolding overtaken some
+not-overtaken o [] e = tt
+not-overtaken o (l ∷ ls) e =
+    let q = or-false (leb (acting l) (acting o)) (overtaken o ls) e in
+    (nleb→lt (acting l) (acting o) (rw (q .0) tt), not-overtaken o ls (q .1))
+
+acts : (end : ℕ) (o : Numbered) (later : List Numbered) → eqb (lateFate end o later) 0 ≡ true → (overtaken o later ≡ false) × (acting o < end)
+unfolding lateFate
+acts end o later = go (overtaken o later) (leb end (acting o)) refl refl
+  where
+    go : (a b : Bool) → overtaken o later ≡ a → leb end (acting o) ≡ b → eqb (pick a 6 (pick b 8 0)) 0 ≡ true → (overtaken o later ≡ false) × (acting o < end)
+    go true b p q e = absurd (true≢false (sym e))
+    go false true p q e = absurd (true≢false (sym e))
+    go false false p q e = (p, nleb→lt end (acting o) (rw q tt))
+
+module _ (end : ℕ) where
+  actors-all : (P : Numbered → Type 0) (os : List Numbered) → All P os → All P (actors end os)
+  unfolding actors
+  actors-all P [] h = tt
+  actors-all P (o ∷ os) h = go (eqb (lateFate end o os) 0) (actors-all P os (h .1))
+    where
+      go : (b : Bool) → All P (actors end os) → All P (pick b (o ∷ actors end os) (actors end os))
+      go true ih = (h .0, ih)
+      go false ih = ih
+
+  pub actors-before : (os : List Numbered) → All (λ o. acting o < end) (actors end os)
+  unfolding actors
+  actors-before [] = tt
+  actors-before (o ∷ os) = go (eqb (lateFate end o os) 0) refl (actors-before os)
+    where
+      go : (b : Bool) → eqb (lateFate end o os) 0 ≡ b → All (λ o. acting o < end) (actors end os) →
+          All (λ o. acting o < end) (pick b (o ∷ actors end os) (actors end os))
+      go true e ih = (acts end o os e .1, ih)
+      go false e ih = ih
+
+  pub actors-rise : (os : List Numbered) → Rises (actors end os)
+  unfolding actors
+  actors-rise [] = tt
+  actors-rise (o ∷ os) = go (eqb (lateFate end o os) 0) refl (actors-rise os)
+    where
+      go : (b : Bool) → eqb (lateFate end o os) 0 ≡ b → Rises (actors end os) → Rises (pick b (o ∷ actors end os) (actors end os))
+      go true e ih = (actors-all (λ l. acting o < acting l) os (not-overtaken o os (acts end o os e .0)), ih)
+      go false e ih = ih
+
+  -- of any instructions at all
+  pub acting-rise : (os : List Numbered) → Rises (validated end os .acts) × All (λ o. acting o < end) (validated end os .acts)
+  unfolding validated keptOf
+  acting-rise os = (actors-rise _, actors-before _)
