@@ -1,0 +1,5 @@
+pub mod Tiles
+pub mod States
+pub mod Rates
+pub mod Areas
+pub mod Whole

@@ -1,0 +1,141 @@
+-- What each does at its acting second (Table 7).
+-- Assumes nothing.
+use Prim.Native.Nat.{ℕ, zero, suc, _+_, _*_, _-_, min, max}
+use mathlib.Core.List.{List, [], _∷_}
+use mathlib.Core.Bool.{Bool, true, false, _&&_, _||_, not}
+use lib.Dec.{leb, ltb, eqb}
+use lib.ListN.{getD}
+use Rattle.level.specs.Choice.{pick}
+use Rattle.level.specs.Level.{grains}
+use Rattle.records.specs.declared.Effect.{Effect}
+use Rattle.records.specs.declared.Effect.the-variants.{Trip, Mwof, Mxon, Sync, Mxof, Desy, Fail}
+use Rattle.records.specs.declared.UnitData.{UnitData}
+use Rattle.records.specs.declared.Opening.{Opening}
+use Rattle.records.specs.declared.Instruction.{Instruction}
+use Rattle.course.specs.declared.Course.{Course}
+use Rattle.course.specs.Lists.{columnFor}
+use Rattle.course.specs.Course.{Trajectory, trajectoryOf}
+use Rattle.validation.specs.declared.Numbered.{Numbered}
+use Rattle.validation.specs.Kept.{Mark, mark, acting}
+use Rattle.profile.specs.declared.UnderWay.{UnderWay}
+use Rattle.profile.specs.State.{State}
+
+-- "Fate 7, and the course under way goes on: at level 0, MWOF(0), DESY, TRIP, MXON; above 0, SYNC; MXON while maximised; MXOF when not".
+-- x is the instruction's level, v the level just before, m whether the unit is maximised. (FAIL never acts.)
+unfoldable pub idle : Effect → ℕ → ℕ → Bool → Bool
+idle Trip x v m = eqb v 0
+idle Mwof x v m = eqb v 0 && eqb x 0
+idle Mxon x v m = eqb v 0 || m
+idle Sync x v m = ltb 0 v
+idle Mxof x v m = not m
+idle Desy x v m = eqb v 0
+idle Fail x v m = true
+
+-- "column by seconds off: hot up to the hot boundary, else warm up to the warm one, else cold"
+unfoldable pub heatBy : UnitData → ℕ → ℕ
+heatBy u off = pick (leb off (60 * u .hot)) 1 (pick (leb off (60 * u .warm)) 2 3)
+
+-- what a fate-0 instruction sets: the level it starts from (grains), the target (kW), heat, the rates that replace all five of
+-- their kind (0 for none), whether it maximises, and the target that MXOF goes back to
+pub record Setting : Type 0 where
+  pub from : ℕ
+  pub target : ℕ
+  pub heat : ℕ
+  pub up : ℕ
+  pub down : ℕ
+  pub maximised : Bool
+  pub ordered : ℕ
+
+-- on the unit u, with the course now under way, of the instruction i, read with s
+module _ (u : UnitData) (now : UnderWay) (i : Instruction) (s : State) where
+  -- "MWOF(x): target the smaller of x and capacity; from 0 with the cold column"
+  unfoldable pub mwofTarget : ℕ
+  mwofTarget = min (i .level) (u .capacity)
+
+  -- "SYNC: target the larger of its x (0 if none) and MSG, at most capacity"
+  unfoldable pub syncTarget : ℕ
+  syncTarget = min (max (i .level) (u .msg)) (u .capacity)
+
+  -- "DESY: target 0. TRIP: level 0 at that second, target 0. MXON: target the short-term maximum; ramp-up rate 5 for all five.
+  -- MXOF: target that of the last MWOF or SYNC with fate 0, or the opening target; ramp-down rate 1 for all five.
+  -- MXON turns maximised on; any other fate-0 instruction turns it off. Column and heat stay until the next start."
+  unfoldable pub setting : Effect → Setting
+  setting Trip = record {
+    from = 0; target = 0; heat = now .course .heat; up = i .up; down = i .down; maximised = false; ordered = now .ordered;
+  }
+  setting Mwof = record {
+    from = s .level; target = mwofTarget; heat = pick (eqb (s .level) 0) 3 (now .course .heat); up = i .up; down = i .down; maximised = false; ordered = mwofTarget;
+  }
+  setting Mxon = record {
+    from = s .level; target = u .maximum; heat = now .course .heat; up = getD (u .up .rates) 4 0; down = i .down; maximised = true; ordered = now .ordered;
+  }
+  setting Sync = record {
+    from = s .level; target = syncTarget; heat = heatBy u (s .off); up = i .up; down = i .down; maximised = false; ordered = syncTarget;
+  }
+  setting Mxof = record {
+    from = s .level; target = now .ordered; heat = now .course .heat; up = i .up; down = getD (u .down .rates) 0 0; maximised = false; ordered = now .ordered;
+  }
+  setting Desy = record {
+    from = s .level; target = 0; heat = now .course .heat; up = i .up; down = i .down; maximised = false; ordered = now .ordered;
+  }
+  setting Fail = record {
+    from = s .level; target = 0; heat = now .course .heat; up = i .up; down = i .down; maximised = false; ordered = now .ordered;
+  }
+
+-- "At level 0 with a target above 0 the level goes at once to the smaller of block load and target .. That is the course's start"
+unfoldable pub stepped : ℕ → ℕ → ℕ → ℕ
+stepped block target v = pick (eqb v 0 && ltb 0 target) (min block target) v
+
+-- the course that a setting makes at a second
+unfoldable pub courseFrom : UnitData → ℕ → Setting → Course
+courseFrom u begin g = record {
+  begin = begin;
+  start = record { grains = stepped (grains (columnFor u (g .heat) .block)) (grains (g .target)) (g .from) };
+  target = g .target;
+  heat = g .heat;
+  up = g .up;
+  down = g .down;
+}
+
+-- it under way, the unit having been off so many seconds where it began
+unfoldable pub underWay : UnitData → ℕ → Setting → ℕ → UnderWay
+underWay u begin g off = record { course = courseFrom u begin g; maximised = g .maximised; ordered = g .ordered; off = off }
+
+-- "The opening starts a course at 0 to its target"
+unfoldable pub opened : UnitData → Opening → UnderWay
+opened u o =
+    underWay u 0
+    (record { from = o .level .grains; target = o .target; heat = o .heat; up = 0; down = 0; maximised = false; ordered = o .target })
+    (o .off)
+
+-- "Otherwise fate 0 and a new course"
+unfoldable pub begun : UnitData → UnderWay → Numbered → State → UnderWay
+begun u now o s = underWay u (acting o) (setting u now (o .instruction) s (o .instruction .meaning .effect)) (s .off)
+
+-- ---- all that act, one after another
+
+-- their fates, and the day's courses, both in order
+pub record Followed : Type 0 where
+  pub marks : List Mark
+  pub courses : List UnderWay
+
+unfoldable pub goesOn : Numbered → Followed → Followed
+goesOn o f = record { marks = mark 7 o ∷ f .marks; courses = f .courses }
+
+unfoldable pub replaces : UnderWay → Numbered → Followed → Followed
+replaces now o f = record { marks = mark 0 o ∷ f .marks; courses = now ∷ f .courses }
+
+-- look gives the state so many seconds after a trajectory began with so many seconds off
+module _ (look : Trajectory → ℕ → ℕ → State) (u : UnitData) where
+  -- "Read with the level just before": the state at the second t
+  unfoldable pub stateAt : UnderWay → ℕ → State
+  stateAt now t = look (trajectoryOf u (now .course)) (now .off) (t - now .course .begin)
+
+  unfoldable pub follow : UnderWay → List Numbered → Followed
+  follow now [] = record { marks = []; courses = now ∷ [] }
+  follow now (o ∷ os) =
+      let s : State = stateAt now (acting o) in
+      elim (idle (o .instruction .meaning .effect) (o .instruction .level) (s .level) (now .maximised)) [
+        | true ↦ goesOn o (follow now os)
+        | false ↦ replaces now o (follow (begun u now o s) os)
+      ]

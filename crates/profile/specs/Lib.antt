@@ -1,0 +1,4 @@
+pub mod State
+pub mod Effects
+pub mod Profile
+pub mod Allowance

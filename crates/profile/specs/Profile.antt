@@ -1,0 +1,136 @@
+-- The day's courses, areas, quantities, pieces and closing state.
+-- Assumes nothing.
+use Prim.Native.Nat.{ℕ, zero, suc, _+_, _*_, _-_, _/_, min, max}
+use mathlib.Core.List.{List, [], _∷_, _++_, map}
+use mathlib.Core.Bool.{Bool, true, false}
+use lib.Dec.{ltb}
+use Rattle.level.specs.Lists.{sum, listFrom}
+use Rattle.records.specs.declared.UnitData.{UnitData}
+use Rattle.records.specs.declared.Opening.{Opening}
+use Rattle.records.specs.declared.Instruction.{Instruction}
+use Rattle.course.specs.declared.Course.{Course}
+use Rattle.course.specs.Course.{Trajectory, trajectoryOf, levelAt, rateOn}
+use Rattle.course.specs.Pieces.{Piece, piecesIn, twiceArea}
+use Rattle.validation.specs.declared.Numbered.{Numbered}
+use Rattle.validation.specs.Kept.{Mark, Validated, numbered, validated, fatesOf}
+use Rattle.profile.specs.declared.UnderWay.{UnderWay}
+use Rattle.profile.specs.declared.Closing.{Closing}
+use Rattle.profile.specs.State.{State, byRule, bySegments}
+use Rattle.profile.specs.Effects.{Followed, opened, follow, stateAt}
+
+-- "A course lasts from its acting second (the opening's from 0) to that of the next fate-0 instruction, else to the day's end"
+pub record Span : Type 0 where
+  pub begin : ℕ
+  pub end : ℕ
+  pub trajectory : Trajectory
+
+-- where the first of some courses begins, else the day's end
+unfoldable pub beginOf : ℕ → List Course → ℕ
+beginOf end [] = end
+beginOf end (c ∷ cs) = c .begin
+
+unfoldable pub spansOf : UnitData → ℕ → List Course → List Span
+spansOf u end [] = []
+spansOf u end (c ∷ cs) = record { begin = c .begin; end = beginOf end cs; trajectory = trajectoryOf u c } ∷ spansOf u end cs
+
+-- what g says of the course in force at the second t, so many seconds after it began
+unfoldable pub inForce : (Trajectory → ℕ → ℕ) → List Span → ℕ → ℕ
+inForce g [] t = 0
+inForce g (s ∷ ss) t = elim (ltb t (s .end)) [ true ↦ g (s .trajectory) (t - s .begin) | false ↦ inForce g ss t ]
+
+-- "the level at start (after any step) and end (before any)" of a second; the rate in force where it began
+unfoldable pub levelStarting : List Span → ℕ → ℕ
+levelStarting ss t = inForce levelAt ss t
+
+unfoldable pub levelEnding : List Span → ℕ → ℕ
+levelEnding ss t = inForce (λ c k. levelAt c (suc k)) ss t
+
+unfoldable pub rateStarting : List Span → ℕ → ℕ
+rateStarting ss t = inForce rateOn ss t
+
+-- "Twice the recorded area is the sum over seconds": over n seconds from the second a
+unfoldable pub recordedTwice : List Span → ℕ → ℕ → ℕ
+recordedTwice ss a n = sum (λ t. levelStarting ss t + levelEnding ss t) a n
+
+-- from 0 to the half-hour boundary b; in the half-hour from the boundary i on
+unfoldable pub recordedTo : List Span → ℕ → ℕ
+recordedTo ss b = recordedTwice ss 0 (1800 * b)
+
+unfoldable pub recordedIn : List Span → ℕ → ℕ
+recordedIn ss i = recordedTwice ss (1800 * i) 1800
+
+-- "The quantity in kW is the floor of (that + 108,000)/216,000"
+unfoldable pub rounded : ℕ → ℕ
+rounded twice = (twice + 108000) / 216000
+
+-- ---- the working twin, by pieces
+
+-- up to the second x
+unfoldable pub piecesTo : List Span → ℕ → ℕ
+piecesTo [] x = 0
+piecesTo (s ∷ ss) x = twiceArea (piecesIn (s .trajectory) 0 (min (s .end) x - s .begin)) + piecesTo ss x
+
+unfoldable pub twinTo : List Span → ℕ → ℕ
+twinTo ss b = piecesTo ss (1800 * b)
+
+unfoldable pub twinIn : List Span → ℕ → ℕ
+twinIn ss i = twinTo ss (suc i) - twinTo ss i
+
+-- ---- the day's pieces: "cut besides only by fate-0 instructions and the day's end"
+unfoldable pub dayPieces : List Span → List Piece
+dayPieces [] = []
+dayPieces (s ∷ ss) = piecesIn (s .trajectory) (s .begin) (s .end) ++ dayPieces ss
+
+-- ---- what close finds
+
+-- fates by number, courses, twice the recorded area from 0 to each half-hour boundary, quantities, closing state
+pub record Found : Type 0 where
+  pub fates : List ℕ
+  pub courses : List Course
+  pub sums : List ℕ
+  pub quantities : List ℕ
+  pub closing : Closing
+
+-- how states and areas are got: by the rule of one second, as the paper says, or by segments
+pub record Way : Type 0 where
+  pub look : Trajectory → ℕ → ℕ → State
+  pub upTo : List Span → ℕ → ℕ
+  pub within : List Span → ℕ → ℕ
+
+abbrev pub paper : Way
+paper = record { look = byRule; upTo = recordedTo; within = recordedIn }
+
+abbrev pub twin : Way
+twin = record { look = bySegments; upTo = twinTo; within = twinIn }
+
+abbrev pub courseOf : UnderWay → Course
+courseOf c = c .course
+
+abbrev pub closingBy : UnderWay → State → Closing
+closingBy c s = record { level = record { grains = s .level }; target = c .course .target; heat = c .course .heat; off = s .off }
+
+module _ (w : Way) where
+  -- the last course, at the day's end
+  unfoldable pub closingOf : UnitData → ℕ → List UnderWay → Closing
+  closingOf u end [] = record { level = record { grains = 0 }; target = 0; heat = 0; off = 0 }
+  closingOf u end (c ∷ []) = closingBy c (stateAt (w .look) u c end)
+  closingOf u end (c ∷ (d ∷ ds)) = closingOf u end (d ∷ ds)
+
+  -- of a day of n half-hours
+  unfoldable pub foundBy : ℕ → UnitData → List Numbered → Validated → Followed → Found
+  foundBy n u os v f =
+      let cs : List Course = map courseOf (f .courses) in
+      let ss : List Span = spansOf u (1800 * n) cs in
+      record {
+        fates = fatesOf os (f .marks ++ v .marks) os;
+        courses = cs;
+        sums = listFrom (w .upTo ss) 0 (suc n);
+        quantities = listFrom (λ i. rounded (w .within ss i)) 0 n;
+        closing = closingOf u (1800 * n) (f .courses);
+      }
+
+  unfoldable pub found : ℕ → UnitData → Opening → List Instruction → Found
+  found n u o is =
+      let os : List Numbered = numbered 1 is in
+      let v : Validated = validated (1800 * n) os in
+      foundBy n u os v (follow (w .look) u (opened u o) (v .acts))

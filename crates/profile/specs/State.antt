@@ -1,0 +1,53 @@
+-- The level just before and the seconds off, so many seconds after a course began: by the rule of one second, and by segments.
+-- Assumes nothing.
+use Prim.Native.Nat.{ℕ, zero, suc, _+_, _*_, _-_, min}
+use mathlib.Core.List.{List, [], _∷_}
+use mathlib.Core.Bool.{Bool, true, false, _&&_}
+use lib.Dec.{eqb}
+use Rattle.level.specs.Choice.{pick}
+use Rattle.segments.specs.Segments.{Segment, seconds, recorded}
+use Rattle.course.specs.Course.{Trajectory, Moment, heading, toward, second, segments}
+
+-- what an instruction is read with: the level (grains) just before, and the seconds off
+pub record State : Type 0 where
+  pub level : ℕ
+  pub off : ℕ
+
+-- ".. held at 10,000,000"
+unfoldable pub held : ℕ → ℕ
+held n = min n 10000000
+
+-- ---- by the rule of one second
+
+-- a moment of a course, and the seconds off
+pub record Watch : Type 0 where
+  pub moment : Moment
+  pub off : ℕ
+
+-- "Seconds off count from reaching 0": one more for a second that begins and ends at 0
+unfoldable pub watchNext : Watch → Moment → Watch
+watchNext w m = record { moment = m; off = pick (eqb (w .moment .level) 0 && eqb (m .level) 0) (held (suc (w .off))) 0 }
+
+-- k seconds after a course began with so many seconds off; above 0 there are none
+unfoldable pub watch : Trajectory → ℕ → ℕ → Watch
+watch c off zero = record { moment = record { level = c .start; left = 0 }; off = pick (eqb (c .start) 0) (held off) 0 }
+watch c off (suc k) = let w : Watch = watch c off k in watchNext w (second (heading c) (c .lists) (c .target) (w .moment))
+
+unfoldable pub byRule : Trajectory → ℕ → ℕ → State
+byRule c off k = let w : Watch = watch c off k in record { level = w .moment .level; off = w .off }
+
+-- ---- the working twin, by segments
+
+-- the second at which the last stop is reached
+unfoldable pub arrival : List Segment → ℕ
+arrival [] = 0
+arrival (l ∷ []) = seconds l
+arrival (l ∷ (m ∷ ls)) = seconds l + l .hold + arrival (m ∷ ls)
+
+unfoldable pub stateOn : Trajectory → List Segment → ℕ → ℕ → State
+stateOn c ls off k =
+    let v : ℕ = toward (heading c) (c .start) (recorded ls k) in
+    record { level = v; off = pick (eqb v 0) (held (pick (eqb (c .start) 0) (off + k) (k - arrival ls))) 0 }
+
+unfoldable pub bySegments : Trajectory → ℕ → ℕ → State
+bySegments c off k = stateOn c (segments c) off k
