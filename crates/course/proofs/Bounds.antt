@@ -13,7 +13,7 @@ use Rattle.segments.proofs.Bound.{bound-of-seconds}
 use Rattle.segments.proofs.Product.{product-ok, product-pos}
 use Rattle.course.specs.Course.{Heading, rising, falling, heading, Trajectory, toward, gap, levelAt, stops, distance, segments}
 use Rattle.course.specs.Exact.{ticksOf, exactAt}
-use Rattle.course.proofs.Whole.{Driven, short-start, level-segments, as-many, ways-whole, segments-valid}
+use Rattle.course.proofs.Whole.{Driven, short-start, level-segments, as-many, ways-whole, ways-within, segments-valid}
 
 recorded-top : (ls : List Segment) (k : ℕ) → recorded ls k ≤ wholeWay ls
 unfolding recorded wholeWay
@@ -52,7 +52,7 @@ pub fall : (c : Trajectory) → heading c ≡ falling → (p j : ℕ) → (recor
 unfolding distance gap
 fall c q p j =
     let t : c .target ≤ c .start = rw q at (short-start c) in
-    let le : wholeWay (segments c) ≤ c .start = omega (arith, ways-whole c) in
+    let le : wholeWay (segments c) ≤ c .start = omega (arith, ways-within c) in
     omega (arith, recorded-top (segments c) j, exact-top p (segments c) j, mul-le-mul-right p le)
 
 -- T5: p is any number of ticks to a second that the legs' rates divide
@@ -60,12 +60,12 @@ pub course-bound : (c : Trajectory) → Driven (c .lists) → (p : ℕ) → 0 < 
     gap (p * p * area (levelAt c) a n) (area (exactAt p c) (a * p) (n * p)) ≤ p * p * (2 * (length (stops c) * distance c))
 unfolding exactAt
 course-bound c d p pos ok a n =
-    rw (← as-many c, ← ways-whole c)
-    (bounds (heading c) (c .start) p _ (recorded (segments c)) (exact p (segments c)) (levelAt c) (exactAt p c) (level-segments c d) (λ j. refl) (λ q j. fall c q p j)
+    rw (← as-many c d, ← ways-whole c d)
+    (bounds (heading c) (c .start) p _ (recorded (segments c)) (exact p (segments c)) (levelAt c) (exactAt p c) (level-segments c) (λ j. refl) (λ q j. fall c q p j)
     a n (bound-of-seconds p pos (segments c) ok a n))
 
 -- the product of the rates is one such number
-pub ticks-ok : (c : Trajectory) → Driven (c .lists) → (0 < ticksOf c) × Ok (ticksOf c) (segments c)
+pub ticks-ok : (c : Trajectory) → (0 < ticksOf c) × Ok (ticksOf c) (segments c)
 unfolding ticksOf
-ticks-ok c d =
-    (product-pos (segments c) (segments-valid c d), product-ok (rateProduct (segments c)) (segments c) (dvd-refl (rateProduct (segments c))) (segments-valid c d))
+ticks-ok c =
+    (product-pos (segments c) (segments-valid c), product-ok (rateProduct (segments c)) (segments c) (dvd-refl (rateProduct (segments c))) (segments-valid c))

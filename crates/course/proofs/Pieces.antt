@@ -14,7 +14,7 @@ use Rattle.segments.proofs.Segments.{recorded-zero, seconds-low}
 use Rattle.course.specs.Course.{Heading, rising, falling, heading, Trajectory, toward, gap, levelAt, distance, segments}
 use Rattle.course.specs.Pieces.{Piece, piece, piecesOf, piecesIn, twiceArea}
 use Rattle.course.proofs.Near.{toward-add, toward-zero}
-use Rattle.course.proofs.Whole.{Driven, short-start, level-segments, ways-whole, segments-valid}
+use Rattle.course.proofs.Whole.{short-start, level-segments, ways-within, segments-valid}
 
 -- w is v moved by m, and nothing is cut off
 abbrev pub Along : Heading → ℕ → ℕ → ℕ → Type 0
@@ -235,17 +235,17 @@ traces-area h f a n (p ∷ ps) e =
     )
 
 -- ---- the pieces of a course
-module _ (c : Trajectory) (d : Driven (c .lists)) where
+module _ (c : Trajectory) where
   pub falls : (h : Heading) → heading c ≡ h → Room h (c .start) (wholeWay (segments c))
   unfolding distance gap
   falls rising q = tt
-  falls falling q = let t : c .target ≤ c .start = rw q at (short-start c) in omega (arith, ways-whole c)
+  falls falling q = let t : c .target ≤ c .start = rw q at (short-start c) in omega (arith, ways-within c)
 
   -- a course that begins at the second a: its pieces follow each other from a to n, none is empty, and each is the second-by-second level
   pub pieces-trace : (a n : ℕ) → a ≤ n → Traces (heading c) (λ k. levelAt c (k - a)) a n (piecesIn c a n)
   unfolding piecesIn
   pieces-trace a n p =
-      traces (heading c) (λ k. levelAt c (k - a)) n (segments c) a (c .start) (segments-valid c d) p (falls (heading c) refl) (λ q k x y. level-segments c d (k - a))
+      traces (heading c) (λ k. levelAt c (k - a)) n (segments c) a (c .start) (segments-valid c) p (falls (heading c) refl) (λ q k x y. level-segments c (k - a))
 
   -- twice the area of its pieces up to the second n is the sum over its seconds
   pub pieces-area : (n : ℕ) → twiceArea (piecesIn c 0 n) ≡ area (levelAt c) 0 n

@@ -1,4 +1,4 @@
--- The course as a whole: the second rule is the leg form, there are at most 13 stops, and a second moves by at most the rate in force.
+-- The course as a whole: the rule of one second is the segment form, there are at most 13 stops, and a second moves by at most the rate in force.
 -- Assumes nothing.
 use mathlib.Core.Path.{_≡_, refl, ap, _∙_}
 use mathlib.Core.List.{List, [], _∷_, map}
@@ -14,10 +14,10 @@ use Rattle.segments.specs.Segments.{Valid, recorded, wholeWay}
 use Rattle.level.specs.Choice.{pick}
 use Rattle.records.specs.declared.Trigger.{Trigger}
 use Rattle.course.specs.Lists.{Rates, Lists}
-use Rattle.course.specs.Course.{Heading, rising, falling, heading, Trajectory, Moment, counting, toward, gap, inUse, passed, breaksInUse, triggers, rateAt, candidates, nextStop, arrived, second, after, rateInForce, stopsFrom, segmentsOf, momentAt, levelAt, stops, distance, segments}
+use Rattle.course.specs.Course.{Heading, rising, falling, heading, Trajectory, Moment, counting, toward, gap, inUse, passed, breaksInUse, triggers, rateAt, candidates, nextStop, arrived, second, after, rateInForce, stopsFrom, segmentsOf, momentAt, levelAt, rateOn, stops, distance, segments}
 use Rattle.course.proofs.Near.{Past, Short, short-past, gap-some, gap-add, gap-toward, those-length, ahead}
 use Rattle.course.proofs.Ahead.{next-past, next-fewer}
-use Rattle.course.proofs.Rule.{at, segments-more, segments-none, rule}
+use Rattle.course.proofs.Rule.{at, segments-more, segments-stuck, segments-none, rule}
 
 -- each rate that the breaks can number is there, and is at least 1
 abbrev pub Runs : Rates → Type 0
@@ -55,7 +55,7 @@ gap-self : (v : ℕ) → gap v v ≡ 0
 unfolding gap
 gap-self v = omega arith
 
--- T4: a second moves the level by at most the rate in force where it began, which is 0 in a hold and at rest
+-- a second moves the level by at most the rate in force where it began, which is 0 in a hold and at rest
 pub second-moves : (h : Heading) (l : Lists) (t : ℕ) (m : Moment) → gap (m .level) (second h l t m .level) ≤ rateInForce h l t m
 unfolding second rateInForce arrived
 second-moves h l t m = go (ltb 0 (m .left)) (eqb (m .level) t)
@@ -71,12 +71,6 @@ second-moves h l t m = go (ltb 0 (m .left)) (eqb (m .level) t)
     go true b = omega (arith, gap-self (m .level))
     go false true = omega (arith, gap-self (m .level))
     go false false = moved
-
--- T3
-pub segments-length : (h : Heading) (l : Lists) (t v : ℕ) (ss : List ℕ) → length (segmentsOf h l t v ss) ≡ length ss
-unfolding segmentsOf
-segments-length h l t v [] = refl
-segments-length h l t v (s ∷ ss) = ap suc (segments-length h l t s ss)
 
 stops-length : (h : Heading) (l : Lists) (t n v : ℕ) → length (stopsFrom h l t n v) ≤ n
 unfolding stopsFrom
@@ -124,32 +118,60 @@ candidates-length falling l t s =
     ))
 
 module _ (h : Heading) (l : Lists) (t : ℕ) where
-  pub ways : (n v : ℕ) → Short h t v → ahead h v (candidates h l t) ≤ n → wholeWay (segmentsOf h l t v (stopsFrom h l t n v)) ≡ gap v t
+  -- the ways add up to at most the way to the target
+  pub ways-most : (n v : ℕ) → Short h t v → ahead h v (candidates h l t) ≤ n → wholeWay (segmentsOf h l t v (stopsFrom h l t n v)) ≤ gap v t
   unfolding wholeWay
-  ways zero v p q = elim (ℕ-discrete v t) [
-    | yes e ↦ rw (e, segments-none h l t 0, gap-self)
+  ways-most zero v p q = elim (ℕ-discrete v t) [
+    | yes e ↦ rw (e, segments-none h l t 0) (omega arith)
     | no e ↦ absurd (omega (arith, next-fewer h l t v (short-past h t v p e)))
   ]
-  ways (suc n) v p q = elim (ℕ-discrete v t) [
-    | yes e ↦ rw (e, segments-none h l t (suc n), gap-self)
+  ways-most (suc n) v p q = elim (ℕ-discrete v t) [
+    | yes e ↦ rw (e, segments-none h l t (suc n)) (omega arith)
     | no e ↦
         let z : Past h v t = short-past h t v p e in
         let w : ℕ = nextStop h l t v in
         let x = next-past h l t v z in
-        rw (segments-more h l t n v z) (omega (arith, ways n w (x .1) (omega (arith, next-fewer h l t v z)), gap-add v w h t (x .0) (x .1)))
+        elim (ℕ-discrete (rateAt h l v) 0) [
+          | yes r ↦ rw (segments-stuck h l t (suc n) v z r) (omega arith)
+          | no r ↦ rw (segments-more h l t n v z (omega arith)) (omega (arith, ways-most n w (x .1) (omega (arith, next-fewer h l t v z)), gap-add v w h t (x .0) (x .1)))
+        ]
   ]
 
+  pub valid : (n v : ℕ) → Short h t v → Valid (segmentsOf h l t v (stopsFrom h l t n v))
+  unfolding segmentsOf stopsFrom
+  valid zero v p = tt
+  valid (suc n) v p = elim (ℕ-discrete v t) [
+    | yes e ↦ rw (eq-eqb v t e) tt
+    | no e ↦
+        let z : Past h v t = short-past h t v p e in
+        let x = next-past h l t v z in
+        elim (ℕ-discrete (rateAt h l v) 0) [
+          | yes r ↦ rw (segments-stuck h l t (suc n) v z r) tt
+          | no r ↦ rw (segments-more h l t n v z (omega arith)) (record { some-way = gap-some v (nextStop h l t v) h (x .0); some-rate = omega arith }, valid n (nextStop h l t v) (x .1))
+        ]
+  ]
+
+  -- where each rate is at least 1: all the way, and as many segments as stops
   module _ (some : (v : ℕ) → 1 ≤ rateAt h l v) where
-    pub valid : (n v : ℕ) → Short h t v → Valid (segmentsOf h l t v (stopsFrom h l t n v))
-    unfolding segmentsOf stopsFrom
-    valid zero v p = tt
-    valid (suc n) v p = elim (ℕ-discrete v t) [
-      | yes e ↦ rw (eq-eqb v t e) tt
+    pub ways : (n v : ℕ) → Short h t v → ahead h v (candidates h l t) ≤ n → wholeWay (segmentsOf h l t v (stopsFrom h l t n v)) ≡ gap v t
+    unfolding wholeWay
+    ways zero v p q = elim (ℕ-discrete v t) [
+      | yes e ↦ rw (e, segments-none h l t 0, gap-self)
+      | no e ↦ absurd (omega (arith, next-fewer h l t v (short-past h t v p e)))
+    ]
+    ways (suc n) v p q = elim (ℕ-discrete v t) [
+      | yes e ↦ rw (e, segments-none h l t (suc n), gap-self)
       | no e ↦
           let z : Past h v t = short-past h t v p e in
+          let w : ℕ = nextStop h l t v in
           let x = next-past h l t v z in
-          rw (ne-eqb v t e) (record { some-way = gap-some v (nextStop h l t v) h (x .0); some-rate = some v }, valid n (nextStop h l t v) (x .1))
+          rw (segments-more h l t n v z (some v)) (omega (arith, ways n w (x .1) (omega (arith, next-fewer h l t v z)), gap-add v w h t (x .0) (x .1)))
     ]
+
+    pub segments-length : (v : ℕ) (ss : List ℕ) → length (segmentsOf h l t v ss) ≡ length ss
+    unfolding segmentsOf
+    segments-length v [] = refl
+    segments-length v (s ∷ ss) = simp (ne-eqb (rateAt h l v) 0 (λ z. omega (arith, some v))) (ap suc (segments-length s ss))
 
 -- a course is short of its target as its heading says
 pub short-start : (c : Trajectory) → Short (heading c) (c .target) (c .start)
@@ -172,38 +194,41 @@ module _ (c : Trajectory) where
   unfolding ahead
   enough = those-length _ (candidates (heading c) (c .lists) (c .target))
 
-  -- T2
-  pub level-segments : Driven (c .lists) → (k : ℕ) → levelAt c k ≡ toward (heading c) (c .start) (recorded (segments c) k)
+  -- the second-by-second level is the start moved by the recorded progress of the segments
+  pub level-segments : (k : ℕ) → levelAt c k ≡ toward (heading c) (c .start) (recorded (segments c) k)
   unfolding levelAt momentAt segments stops
-  level-segments d k =
-      rw sub-zero at (rule (heading c) (c .lists) (c .target) (rate-some (heading c) (c .lists) d) k _ (c .start) 0 (short-start c) enough)
+  level-segments k = rw sub-zero at (rule (heading c) (c .lists) (c .target) k _ (c .start) 0 (short-start c) enough)
 
-  pub level-up : Driven (c .lists) → c .start < c .target → (k : ℕ) → levelAt c k ≡ c .start + recorded (segments c) k
+  pub level-up : c .start < c .target → (k : ℕ) → levelAt c k ≡ c .start + recorded (segments c) k
   unfolding toward
-  level-up d p k = level-segments d k ∙ ap (λ (h : Heading). toward h (c .start) (recorded (segments c) k)) (up-heading c p)
+  level-up p k = level-segments k ∙ ap (λ (h : Heading). toward h (c .start) (recorded (segments c) k)) (up-heading c p)
 
-  pub level-down : Driven (c .lists) → c .target ≤ c .start → (k : ℕ) → levelAt c k ≡ c .start - recorded (segments c) k
+  pub level-down : c .target ≤ c .start → (k : ℕ) → levelAt c k ≡ c .start - recorded (segments c) k
   unfolding toward
-  level-down d p k = level-segments d k ∙ ap (λ (h : Heading). toward h (c .start) (recorded (segments c) k)) (down-heading c p)
+  level-down p k = level-segments k ∙ ap (λ (h : Heading). toward h (c .start) (recorded (segments c) k)) (down-heading c p)
 
-  -- T3
-  pub as-many : length (segments c) ≡ length (stops c)
-  unfolding segments
-  as-many = segments-length (heading c) (c .lists) (c .target) (c .start) (stops c)
-
-  pub thirteen : Shaped (c .lists) → length (stops c) ≤ 13
-  unfolding stops
-  thirteen s = le-trans (stops-length (heading c) (c .lists) (c .target) _ (c .start)) (candidates-length (heading c) (c .lists) (c .target) s)
-
-  pub ways-whole : wholeWay (segments c) ≡ distance c
+  pub ways-within : wholeWay (segments c) ≤ distance c
   unfolding segments stops distance
-  ways-whole = ways (heading c) (c .lists) (c .target) _ (c .start) (short-start c) enough
+  ways-within = ways-most (heading c) (c .lists) (c .target) _ (c .start) (short-start c) enough
 
-  pub segments-valid : Driven (c .lists) → Valid (segments c)
+  pub segments-valid : Valid (segments c)
   unfolding segments stops
-  segments-valid d = valid (heading c) (c .lists) (c .target) (rate-some (heading c) (c .lists) d) _ (c .start) (short-start c)
+  segments-valid = valid (heading c) (c .lists) (c .target) _ (c .start) (short-start c)
 
-  -- T4
-  pub level-moves : (k : ℕ) → gap (levelAt c k) (levelAt c (suc k)) ≤ rateInForce (heading c) (c .lists) (c .target) (momentAt c k)
-  unfolding levelAt momentAt after
+  -- as many segments as stops, at most 13; their ways add up to the distance
+  pub as-many : Driven (c .lists) → length (segments c) ≡ length (stops c)
+  unfolding segments
+  as-many d = segments-length (heading c) (c .lists) (c .target) (rate-some (heading c) (c .lists) d) (c .start) (stops c)
+
+  pub ways-whole : Driven (c .lists) → wholeWay (segments c) ≡ distance c
+  unfolding segments stops distance
+  ways-whole d = ways (heading c) (c .lists) (c .target) (rate-some (heading c) (c .lists) d) _ (c .start) (short-start c) enough
+
+  pub at-most-thirteen-stops : Shaped (c .lists) → length (stops c) ≤ 13
+  unfolding stops
+  at-most-thirteen-stops s = le-trans (stops-length (heading c) (c .lists) (c .target) _ (c .start)) (candidates-length (heading c) (c .lists) (c .target) s)
+
+  -- no second moves the level further than the rate in force where it began
+  pub level-moves : (k : ℕ) → gap (levelAt c k) (levelAt c (suc k)) ≤ rateOn c k
+  unfolding levelAt rateOn momentAt after
   level-moves k = second-moves (heading c) (c .lists) (c .target) (momentAt c k)

@@ -136,10 +136,10 @@ module _ (h : Heading) (l : Lists) (t : ℕ) where
   stopsFrom zero v = []
   stopsFrom (suc n) v = pick (eqb v t) [] (nextStop v ∷ stopsFrom n (nextStop v))
 
-  -- the way, rate and hold to each of some stops, from v
+  -- the way, rate and hold to each of some stops, from v. A rate of 0, which no let-in unit has, moves nothing: there is no further segment
   unfoldable pub segmentsOf : ℕ → List ℕ → List Segment
   segmentsOf v [] = []
-  segmentsOf v (w ∷ ws) = record { way = gap v w; rate = rateAt h l v; hold = holdAt w } ∷ segmentsOf w ws
+  segmentsOf v (w ∷ ws) = pick (eqb (rateAt h l v) 0) [] (record { way = gap v w; rate = rateAt h l v; hold = holdAt w } ∷ segmentsOf w ws)
 
 -- "so no hold is due there": a course begins with no hold left
 unfoldable pub momentAt : Trajectory → ℕ → Moment

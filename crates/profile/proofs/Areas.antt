@@ -8,31 +8,27 @@ use native.Mathlib.Decide.{decLe}
 use native.Mathlib.Omega.{arith}
 use lib.Dec.{ltb}
 use borrow.Author.Tests.{lt-ltb, le-ltb}
-use Rattle.level.specs.Lists.{sum, All}
+use Rattle.level.specs.Lists.{sum}
 use Rattle.segments.specs.Segments.{area}
 use Rattle.course.specs.Course.{Trajectory, levelAt}
 use Rattle.course.specs.Pieces.{piecesIn, twiceArea}
-use Rattle.course.proofs.Whole.{Driven}
 use Rattle.course.proofs.Pieces.{pieces-area, pieces-window}
 use Rattle.profile.specs.Profile.{Span, inForce, levelStarting, levelEnding, recordedTwice, recordedTo, recordedIn, piecesTo, twinTo, twinIn}
 use Rattle.profile.proofs.Tiles.{Chain}
 
-abbrev pub Drives : List Span → Type 0
-Drives ss = All (λ (s : Span). Driven (s .trajectory .lists)) ss
-
-none : (c : Trajectory) → Driven (c .lists) → (n : ℕ) → n ≡ 0 → twiceArea (piecesIn c 0 n) ≡ 0
+none : (c : Trajectory) → (n : ℕ) → n ≡ 0 → twiceArea (piecesIn c 0 n) ≡ 0
 unfolding area sum
-none c d n e = ap (λ (k : ℕ). twiceArea (piecesIn c 0 k)) e ∙ pieces-area c d 0
+none c n e = ap (λ (k : ℕ). twiceArea (piecesIn c 0 k)) e ∙ pieces-area c 0
 
-one-more : (c : Trajectory) → Driven (c .lists) → (j : ℕ) → twiceArea (piecesIn c 0 (suc j)) ≡ twiceArea (piecesIn c 0 j) + (levelAt c j + levelAt c (suc j))
+one-more : (c : Trajectory) → (j : ℕ) → twiceArea (piecesIn c 0 (suc j)) ≡ twiceArea (piecesIn c 0 j) + (levelAt c j + levelAt c (suc j))
 unfolding area sum
-one-more c d j = ap (λ (k : ℕ). twiceArea (piecesIn c 0 k)) {x = suc j} {y = j + 1} (omega arith) ∙ pieces-window c d j 1 ∙ omega arith
+one-more c j = ap (λ (k : ℕ). twiceArea (piecesIn c 0 k)) {x = suc j} {y = j + 1} (omega arith) ∙ pieces-window c j 1 ∙ omega arith
 
-not-yet : (from to x : ℕ) (ss : List Span) → Chain from ss to → Drives ss → x ≤ from → piecesTo ss x ≡ 0
+not-yet : (from to x : ℕ) (ss : List Span) → Chain from ss to → x ≤ from → piecesTo ss x ≡ 0
 unfolding piecesTo
-not-yet from to x [] c d h = refl
-not-yet from to x (s ∷ ss) c d h =
-    omega (arith, none (s .trajectory) (d .0) (min (s .end) x - s .begin) (omega (arith, c .0)), not-yet (s .end) to x ss (c .2) (d .1) (omega (arith, c .1)))
+not-yet from to x [] c h = refl
+not-yet from to x (s ∷ ss) c h =
+    omega (arith, none (s .trajectory) (min (s .end) x - s .begin) (omega (arith, c .0)), not-yet (s .end) to x ss (c .2) (omega (arith, c .1)))
 
 module _ (s : Span) (ss : List Span) (g : Trajectory → ℕ → ℕ) (x : ℕ) where
   in-here : x < s .end → inForce g (s ∷ ss) x ≡ g (s .trajectory) (x - s .begin)
@@ -43,10 +39,10 @@ module _ (s : Span) (ss : List Span) (g : Trajectory → ℕ → ℕ) (x : ℕ) 
   unfolding inForce
   in-rest h = rw (le-ltb x (s .end) h, inForce) refl
 
-next : (from to x : ℕ) (ss : List Span) → Chain from ss to → Drives ss → from ≤ x → x < to → piecesTo ss (suc x) ≡ piecesTo ss x + (levelStarting ss x + levelEnding ss x)
+next : (from to x : ℕ) (ss : List Span) → Chain from ss to → from ≤ x → x < to → piecesTo ss (suc x) ≡ piecesTo ss x + (levelStarting ss x + levelEnding ss x)
 unfolding piecesTo levelStarting levelEnding
-next from to x [] c d h k = absurd (omega (arith, c))
-next from to x (s ∷ ss) c d h k = elim (decLe (suc x) (s .end)) [
+next from to x [] c h k = absurd (omega (arith, c))
+next from to x (s ∷ ss) c h k = elim (decLe (suc x) (s .end)) [
   | yes p ↦
       let j : ℕ = x - s .begin in
       let e : twiceArea (piecesIn (s .trajectory) 0 (min (s .end) (suc x) - s .begin)) ≡ twiceArea (piecesIn (s .trajectory) 0 (suc j)) = ap (λ (n : ℕ). twiceArea (piecesIn (s .trajectory) 0 n)) (omega (arith, c .0)) in
@@ -56,33 +52,33 @@ next from to x (s ∷ ss) c d h k = elim (decLe (suc x) (s .end)) [
         arith,
         e,
         f,
-        one-more (s .trajectory) (d .0) j,
-        not-yet (s .end) to (suc x) ss (c .2) (d .1) p,
-        not-yet (s .end) to x ss (c .2) (d .1) (omega arith),
+        one-more (s .trajectory) j,
+        not-yet (s .end) to (suc x) ss (c .2) p,
+        not-yet (s .end) to x ss (c .2) (omega arith),
       ))
   | no p ↦
       let e : twiceArea (piecesIn (s .trajectory) 0 (min (s .end) (suc x) - s .begin)) ≡ twiceArea (piecesIn (s .trajectory) 0 (min (s .end) x - s .begin)) = ap (λ (n : ℕ). twiceArea (piecesIn (s .trajectory) 0 n)) (omega arith) in
       rw (in-rest s ss levelAt x (omega arith), in-rest s ss (λ c k. levelAt c (suc k)) x (omega arith))
-      (omega (arith, e, next (s .end) to x ss (c .2) (d .1) (omega arith) k))
+      (omega (arith, e, next (s .end) to x ss (c .2) (omega arith) k))
 ]
 
-module _ (from to : ℕ) (ss : List Span) (c : Chain from ss to) (d : Drives ss) where
+module _ (from to : ℕ) (ss : List Span) (c : Chain from ss to) where
   over : (a n : ℕ) → from ≤ a → a + n ≤ to → piecesTo ss (a + n) ≡ piecesTo ss a + sum (λ t. levelStarting ss t + levelEnding ss t) a n
   unfolding sum
   over a zero h k = ap (piecesTo ss) {x = a + 0} {y = a} (omega arith) ∙ omega arith
   over a (suc n) h k =
       ap (piecesTo ss) {x = a + suc n} {y = suc a + n} (omega arith)
-      ∙ omega (arith, over (suc a) n (omega arith) (omega arith), next from to a ss c d h (omega arith))
+      ∙ omega (arith, over (suc a) n (omega arith) (omega arith), next from to a ss c h (omega arith))
 
 -- from 0 to each half-hour boundary, and in each half-hour
-module _ (n : ℕ) (ss : List Span) (c : Chain 0 ss (1800 * n)) (d : Drives ss) where
+module _ (n : ℕ) (ss : List Span) (c : Chain 0 ss (1800 * n)) where
   pub area-to : (b : ℕ) → b ≤ n → recordedTo ss b ≡ twinTo ss b
   unfolding recordedTo recordedTwice twinTo
   area-to b h =
-      omega (arith, over 0 (1800 * n) ss c d 0 (1800 * b) (omega arith) (omega arith), not-yet 0 (1800 * n) 0 ss c d (omega arith), ap (piecesTo ss) {x = 0 + 1800 * b} {y = 1800 * b} (omega arith))
+      omega (arith, over 0 (1800 * n) ss c 0 (1800 * b) (omega arith) (omega arith), not-yet 0 (1800 * n) 0 ss c (omega arith), ap (piecesTo ss) {x = 0 + 1800 * b} {y = 1800 * b} (omega arith))
 
   pub area-in : (i : ℕ) → i < n → recordedIn ss i ≡ twinIn ss i
   unfolding recordedIn recordedTwice twinIn twinTo
   area-in i h =
       let e : piecesTo ss (1800 * suc i) ≡ piecesTo ss (1800 * i + 1800) = ap (piecesTo ss) (omega arith) in
-      omega (arith, e, over 0 (1800 * n) ss c d (1800 * i) 1800 (omega arith) (omega arith))
+      omega (arith, e, over 0 (1800 * n) ss c (1800 * i) 1800 (omega arith) (omega arith))

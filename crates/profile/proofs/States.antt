@@ -14,7 +14,7 @@ use Rattle.segments.specs.Segments.{Segment, seconds, recorded, wholeWay, Valid
 use Rattle.segments.proofs.Segments.{seconds-low, seconds-high, recorded-mono}
 use Rattle.level.specs.Choice.{pick}
 use Rattle.course.specs.Course.{Trajectory, Moment, heading, toward, gap, second, after, momentAt, levelAt, segments, distance}
-use Rattle.course.proofs.Whole.{Driven, level-segments, level-up, level-down, ways-whole, segments-valid}
+use Rattle.course.proofs.Whole.{level-segments, level-up, level-down, ways-within, segments-valid}
 use Rattle.profile.specs.State.{held, Watch, watchNext, watch, State, byRule, arrival, stateOn, bySegments}
 
 recorded-top : (ls : List Segment) (k : ℕ) → recorded ls k ≤ wholeWay ls
@@ -95,50 +95,49 @@ module _ (c : Trajectory) (off : ℕ) where
   twin-fall : (v k : ℕ) → v ≡ 0 → c .start ≢ 0 → twin v k ≡ held (k - arrival (segments c))
   twin-fall v k e s = simp (eq-eqb v 0 e, ne-eqb (c .start) 0 s)
 
-  module _ (d : Driven (c .lists)) where
-    stays : (k : ℕ) → c .start ≡ 0 → levelAt c (suc k) ≡ 0 → levelAt c k ≡ 0
-    stays k s e = elim (decLe (suc (c .start)) (c .target)) [
-      | yes p ↦ omega (arith, level-up c d p k, level-up c d p (suc k), recorded-mono (segments c) k (suc k) (omega arith))
-      | no p ↦ omega (arith, level-down c d (omega arith) k)
-    ]
+  stays : (k : ℕ) → c .start ≡ 0 → levelAt c (suc k) ≡ 0 → levelAt c k ≡ 0
+  stays k s e = elim (decLe (suc (c .start)) (c .target)) [
+    | yes p ↦ omega (arith, level-up c p k, level-up c p (suc k), recorded-mono (segments c) k (suc k) (omega arith))
+    | no p ↦ omega (arith, level-down c (omega arith) k)
+  ]
 
-    come : (k : ℕ) → c .start ≢ 0 → levelAt c k ≡ 0 → arrival (segments c) ≤ k
-    unfolding distance gap
-    come k s e = elim (decLe (suc (c .start)) (c .target)) [
-      | yes p ↦ absurd (omega (arith, level-up c d p k))
-      | no p ↦ reached (segments c) (segments-valid c d) k (omega (arith, level-down c d (omega arith) k, ways-whole c))
-    ]
+  come : (k : ℕ) → c .start ≢ 0 → levelAt c k ≡ 0 → arrival (segments c) ≤ k
+  unfolding distance gap
+  come k s e = elim (decLe (suc (c .start)) (c .target)) [
+    | yes p ↦ absurd (omega (arith, level-up c p k))
+    | no p ↦ reached (segments c) (segments-valid c) k (omega (arith, level-down c (omega arith) k, ways-within c, recorded-top (segments c) k))
+  ]
 
-    already : (k : ℕ) → c .start ≢ 0 → levelAt c (suc k) ≡ 0 → arrival (segments c) ≤ k → levelAt c k ≡ 0
-    already k s e h = elim (decLe (suc (c .start)) (c .target)) [
-      | yes p ↦ absurd (omega (arith, level-up c d p (suc k)))
-      | no p ↦ omega (arith, level-down c d (omega arith) k, level-down c d (omega arith) (suc k), recorded-top (segments c) (suc k), back (segments c) (segments-valid c d) k h)
-    ]
+  already : (k : ℕ) → c .start ≢ 0 → levelAt c (suc k) ≡ 0 → arrival (segments c) ≤ k → levelAt c k ≡ 0
+  already k s e h = elim (decLe (suc (c .start)) (c .target)) [
+    | yes p ↦ absurd (omega (arith, level-up c p (suc k)))
+    | no p ↦ omega (arith, level-down c (omega arith) k, level-down c (omega arith) (suc k), recorded-top (segments c) (suc k), back (segments c) (segments-valid c) k h)
+  ]
 
-    off-is : (k : ℕ) → watch c off k .off ≡ twin (levelAt c k) k
-    unfolding watch levelAt momentAt after held
-    off-is zero = elim (ℕ-discrete (c .start) 0) [
-      | yes s ↦ simp (eq-eqb (c .start) 0 s) (omega arith)
-      | no s ↦ simp (ne-eqb (c .start) 0 s)
-    ]
-    off-is (suc k) = elim (ℕ-discrete (levelAt c (suc k)) 0) [
-      | no f ↦ off-none k f ∙ sym (twin-none (levelAt c (suc k)) (suc k) f)
-      | yes e ↦ elim (ℕ-discrete (c .start) 0) [
-        | yes s ↦
-            let z : levelAt c k ≡ 0 = stays k s e in
-            off-more k z e ∙ ap (λ (x : ℕ). held (suc x)) (off-is k ∙ twin-start (levelAt c k) k z s) ∙ omega arith ∙ sym (twin-start (levelAt c (suc k)) (suc k) e s)
-        | no s ↦ elim (decLe (arrival (segments c)) k) [
-          | yes y ↦
-              let z : levelAt c k ≡ 0 = already k s e y in
-              off-more k z e ∙ ap (λ (x : ℕ). held (suc x)) (off-is k ∙ twin-fall (levelAt c k) k z s) ∙ omega arith ∙ sym (twin-fall (levelAt c (suc k)) (suc k) e s)
-          | no y ↦ off-new k (λ z. y (come k s z)) ∙ omega (arith, come (suc k) s e) ∙ sym (twin-fall (levelAt c (suc k)) (suc k) e s)
-        ]
+  off-is : (k : ℕ) → watch c off k .off ≡ twin (levelAt c k) k
+  unfolding watch levelAt momentAt after held
+  off-is zero = elim (ℕ-discrete (c .start) 0) [
+    | yes s ↦ simp (eq-eqb (c .start) 0 s) (omega arith)
+    | no s ↦ simp (ne-eqb (c .start) 0 s)
+  ]
+  off-is (suc k) = elim (ℕ-discrete (levelAt c (suc k)) 0) [
+    | no f ↦ off-none k f ∙ sym (twin-none (levelAt c (suc k)) (suc k) f)
+    | yes e ↦ elim (ℕ-discrete (c .start) 0) [
+      | yes s ↦
+          let z : levelAt c k ≡ 0 = stays k s e in
+          off-more k z e ∙ ap (λ (x : ℕ). held (suc x)) (off-is k ∙ twin-start (levelAt c k) k z s) ∙ omega arith ∙ sym (twin-start (levelAt c (suc k)) (suc k) e s)
+      | no s ↦ elim (decLe (arrival (segments c)) k) [
+        | yes y ↦
+            let z : levelAt c k ≡ 0 = already k s e y in
+            off-more k z e ∙ ap (λ (x : ℕ). held (suc x)) (off-is k ∙ twin-fall (levelAt c k) k z s) ∙ omega arith ∙ sym (twin-fall (levelAt c (suc k)) (suc k) e s)
+        | no y ↦ off-new k (λ z. y (come k s z)) ∙ omega (arith, come (suc k) s e) ∙ sym (twin-fall (levelAt c (suc k)) (suc k) e s)
       ]
     ]
+  ]
 
-    -- the level just before and the seconds off: by the paper's rule and by segments
-    pub state-same : (k : ℕ) → byRule c off k ≡ bySegments c off k
-    unfolding byRule bySegments stateOn levelAt
-    state-same k =
-        (λ i. record { level = (ap (λ (m : Moment). m .level) (watch-moment k)) i; off = (off-is k) i })
-        ∙ ap (λ (v : ℕ). record { level = v; off = twin v k }) (level-segments c d k)
+  -- the level just before and the seconds off: by the paper's rule and by segments
+  pub state-same : (k : ℕ) → byRule c off k ≡ bySegments c off k
+  unfolding byRule bySegments stateOn levelAt
+  state-same k =
+      (λ i. record { level = (ap (λ (m : Moment). m .level) (watch-moment k)) i; off = (off-is k) i })
+      ∙ ap (λ (v : ℕ). record { level = v; off = twin v k }) (level-segments c k)

@@ -19,23 +19,17 @@ use Rattle.profile.specs.Effects.{Followed, opened, begun, idle, goesOn,
 use Rattle.profile.specs.Profile.{Span, spansOf, rounded, recordedTo, recordedIn, twinTo, twinIn, closingBy, closingOf, courseOf, Found, foundBy, found, paper, twin}
 use Rattle.profile.proofs.Tiles.{Chain, day-tiles}
 use Rattle.profile.proofs.States.{state-same}
-use Rattle.profile.proofs.Rates.{Fit, course-driven}
-use Rattle.profile.proofs.Areas.{Drives, area-to, area-in}
-
-pub spans-drive : (u : UnitData) → Fit u → (end : ℕ) (cs : List Course) → Drives (spansOf u end cs)
-unfolding spansOf
-spans-drive u f end [] = tt
-spans-drive u f end (c ∷ cs) = (course-driven u f c, spans-drive u f end cs)
+use Rattle.profile.proofs.Areas.{area-to, area-in}
 
 list-same : (f g : ℕ → ℕ) (a n : ℕ) → ((i : ℕ) → i < a + n → f i ≡ g i) → listFrom f a n ≡ listFrom g a n
 unfolding listFrom
 list-same f g a zero h = refl
 list-same f g a (suc n) h = λ i. (h a (omega arith)) i ∷ (list-same f g (suc a) n (λ j p. h j (omega arith))) i
 
-module _ (u : UnitData) (fit : Fit u) where
+module _ (u : UnitData) where
   at-same : (now : UnderWay) (t : ℕ) → stateAt byRule u now t ≡ stateAt bySegments u now t
   unfolding stateAt
-  at-same now t = state-same (trajectoryOf u (now .course)) (now .off) (course-driven u fit (now .course)) (t - now .course .begin)
+  at-same now t = state-same (trajectoryOf u (now .course)) (now .off) (t - now .course .begin)
 
   -- one instruction, read with s
   abbrev onState : (UnderWay → List Numbered → Followed) → UnderWay → Numbered → List Numbered → State → Followed
@@ -75,12 +69,11 @@ module _ (u : UnitData) (fit : Fit u) where
       let cs : List Course = map courseOf (g .courses) in
       let ss : List Span = spansOf u (1800 * n) cs in
       let t : Chain 0 ss (1800 * n) = day-tiles bySegments (1800 * n) u o os in
-      let d : Drives ss = spans-drive u fit (1800 * n) cs in
       ap (foundBy paper n u os v) (follow-same (opened u o) (v .acts))
       ∙ (λ i. record {
         fates = fatesOf os (g .marks ++ v .marks) os;
         courses = cs;
-        sums = (list-same (recordedTo ss) (twinTo ss) 0 (suc n) (λ j p. area-to n ss t d j (omega arith))) i;
-        quantities = (list-same (λ j. rounded (recordedIn ss j)) (λ j. rounded (twinIn ss j)) 0 n (λ j p. ap rounded (area-in n ss t d j (omega arith)))) i;
+        sums = (list-same (recordedTo ss) (twinTo ss) 0 (suc n) (λ j p. area-to n ss t j (omega arith))) i;
+        quantities = (list-same (λ j. rounded (recordedIn ss j)) (λ j. rounded (twinIn ss j)) 0 n (λ j p. ap rounded (area-in n ss t j (omega arith)))) i;
         closing = (closing-same (1800 * n) (g .courses)) i;
       })
