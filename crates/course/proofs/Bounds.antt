@@ -7,7 +7,8 @@ use native.Mathlib.Nat.{le-refl, mul-le-mul-right, dvd-refl}
 use native.Mathlib.Omega.{arith}
 use lib.ListN.{length}
 use Rattle.level.specs.Lists.{sum}
-use Rattle.segments.specs.Segments.{Segment, Ok, seconds, recorded, exact, area, rateProduct, wholeWay}
+use Rattle.segments.specs.declared.Segment.{Segment}
+use Rattle.segments.specs.Segments.{Ok, seconds, recorded, exact, area, rateProduct, wholeWay}
 use Rattle.segments.proofs.Segments.{exact-top}
 use Rattle.segments.proofs.Bound.{bound-of-seconds}
 use Rattle.segments.proofs.Product.{product-ok, product-pos}

@@ -8,7 +8,8 @@ use native.Mathlib.Decide.{decLe}
 use native.Mathlib.Omega.{arith}
 use lib.ListN.{length}
 use Rattle.level.specs.Lists.{sum}
-use Rattle.segments.specs.Segments.{Segment, SegmentOk, Ok, ticks, exact, wholeWay, area}
+use Rattle.segments.specs.declared.Segment.{Segment}
+use Rattle.segments.specs.Segments.{SegmentOk, Ok, ticks, exact, wholeWay, area}
 use Rattle.segments.proofs.Sums.{sum-eq, area-split, area-line}
 use Rattle.segments.proofs.Segments.{ticks-rate, exact-zero, exact-top}
 use Rattle.course.specs.Course.{Heading, rising, falling, heading, Trajectory, toward, gap, levelAt, stops, distance, segments}

@@ -8,11 +8,13 @@ use native.Mathlib.Decide.{decLe}
 use native.Mathlib.Omega.{arith}
 use borrow.Author.Tests.{lt-ltb, le-ltb}
 use Rattle.level.specs.Lists.{sum}
-use Rattle.segments.specs.Segments.{Segment, SegmentValid, Valid, seconds, recorded, area, wholeWay}
+use Rattle.segments.specs.declared.Segment.{Segment}
+use Rattle.segments.specs.Segments.{SegmentValid, Valid, seconds, recorded, area, wholeWay}
 use Rattle.segments.proofs.Sums.{sum-eq, area-split, area-line}
 use Rattle.segments.proofs.Segments.{recorded-zero, seconds-low}
 use Rattle.course.specs.Course.{Heading, rising, falling, heading, Trajectory, toward, gap, levelAt, distance, segments}
-use Rattle.course.specs.Pieces.{Piece, piece, piecesOf, piecesIn, twiceArea}
+use Rattle.course.specs.declared.Piece.{Piece}
+use Rattle.course.specs.Pieces.{piece, piecesOf, piecesIn, twiceArea}
 use Rattle.course.proofs.Near.{toward-add, toward-zero}
 use Rattle.course.proofs.Whole.{short-start, level-segments, ways-within, segments-valid}
 

@@ -7,7 +7,8 @@ use native.Mathlib.Nat.{le-trans, sub-zero, suc-sub-suc, zero-sub, div-eq-sub-di
 use native.Mathlib.Decide.{decLe, ℕ-discrete}
 use native.Mathlib.Omega.{arith}
 use borrow.Author.Tests.{lt-ltb, eq-eqb, ne-eqb}
-use Rattle.segments.specs.Segments.{Segment, seconds, recorded}
+use Rattle.segments.specs.declared.Segment.{Segment}
+use Rattle.segments.specs.Segments.{seconds, recorded}
 use Rattle.segments.proofs.Segments.{recorded-zero}
 use Rattle.course.specs.Lists.{Lists}
 use Rattle.course.specs.Course.{Heading, rising, falling, Moment, toward, gap, rateAt, candidates, nextStop, holdAt, arrived, second, after, stopsFrom, segmentsOf}
@@ -182,10 +183,10 @@ module _ (h : Heading) (l : Lists) (t : ℕ) where
           | yes y ↦ elim (ℕ-discrete (rateAt h l v) 0) [
             | yes no-rate ↦ stays (suc k) (suc n) v (suc k) z no-rate
             | no rate ↦
-              let x = next-past h l t v z in
-              let on = gap-left v w h (rateAt h l v) (x .0) y in
-              runs k n v (omega arith) z y
-              (rw sub-zero at (rule k (suc n) u 0 (past-short h u t (past-on h u w t (on .0) (x .1))) (le-trans (ahead-le h v u (candidates h l t) (on .1)) q)))
+                let x = next-past h l t v z in
+                let on = gap-left v w h (rateAt h l v) (x .0) y in
+                runs k n v (omega arith) z y
+                (rw sub-zero at (rule k (suc n) u 0 (past-short h u t (past-on h u w t (on .0) (x .1))) (le-trans (ahead-le h v u (candidates h l t) (on .1)) q)))
           ]
           | no y ↦ reaches k n v z (omega arith) (rule k n w (holdAt h l t w) (next-past h l t v z .1) (omega (arith, next-fewer h l t v z)))
         ]

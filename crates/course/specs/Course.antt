@@ -8,7 +8,7 @@ use lib.ListN.{length, getD}
 use Rattle.level.specs.Choice.{pick}
 use Rattle.level.specs.Lists.{those}
 use Rattle.level.specs.Level.{grains}
-use Rattle.segments.specs.Segments.{Segment}
+use Rattle.segments.specs.declared.Segment.{Segment}
 use Rattle.records.specs.declared.Trigger.{Trigger}
 use Rattle.records.specs.declared.UnitData.{UnitData}
 use Rattle.course.specs.declared.Course.{Course}

@@ -2,7 +2,8 @@
 -- Assumes nothing.
 use Prim.Native.Nat.{ℕ, zero, suc, _+_, _*_, _-_, min, max}
 use mathlib.Core.List.{List, [], _∷_}
-use Rattle.segments.specs.Segments.{Segment, ticks, exact, rateProduct}
+use Rattle.segments.specs.declared.Segment.{Segment}
+use Rattle.segments.specs.Segments.{ticks, exact, rateProduct}
 use Rattle.course.specs.Course.{Trajectory, heading, toward, segments}
 
 -- a fraction, kept as two whole numbers

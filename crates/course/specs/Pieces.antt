@@ -5,15 +5,10 @@ use mathlib.Core.List.{List, [], _∷_, _++_}
 use mathlib.Core.Bool.{Bool, true, false}
 use lib.Dec.{ltb}
 use Rattle.level.specs.Choice.{pick}
-use Rattle.segments.specs.Segments.{Segment, seconds}
+use Rattle.segments.specs.declared.Segment.{Segment}
+use Rattle.segments.specs.Segments.{seconds}
+use Rattle.course.specs.declared.Piece.{Piece}
 use Rattle.course.specs.Course.{Trajectory, Heading, heading, toward, segments}
-
--- a straight piece: two seconds, and the levels there
-pub record Piece : Type 0 where
-  pub from : ℕ
-  pub to : ℕ
-  pub enter : ℕ
-  pub leave : ℕ
 
 -- "none of length 0"
 unfoldable pub piece : ℕ → ℕ → ℕ → ℕ → List Piece

@@ -11,3 +11,11 @@ pub struct Course {
     pub up: u32,
     pub down: u32,
 }
+
+// A straight piece of a course: from one second to another, and the levels there (grains).
+pub struct Piece {
+    pub from: u32,
+    pub to: u32,
+    pub enter: u64,
+    pub leave: u64,
+}

@@ -10,7 +10,8 @@ use native.Mathlib.Decide.{decLe, ℕ-discrete}
 use native.Mathlib.Omega.{arith}
 use lib.Dec.{eqb}
 use borrow.Author.Tests.{eq-eqb, ne-eqb}
-use Rattle.segments.specs.Segments.{Segment, seconds, recorded, wholeWay, Valid}
+use Rattle.segments.specs.declared.Segment.{Segment}
+use Rattle.segments.specs.Segments.{seconds, recorded, wholeWay, Valid}
 use Rattle.segments.proofs.Segments.{seconds-low, seconds-high, recorded-mono}
 use Rattle.level.specs.Choice.{pick}
 use Rattle.course.specs.Course.{Trajectory, Moment, heading, toward, gap, second, after, momentAt, levelAt, segments, distance}

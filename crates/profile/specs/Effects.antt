@@ -61,25 +61,67 @@ module _ (u : UnitData) (now : UnderWay) (i : Instruction) (s : State) where
   -- MXON turns maximised on; any other fate-0 instruction turns it off. Column and heat stay until the next start."
   unfoldable pub setting : Effect → Setting
   setting Trip = record {
-    from = 0; target = 0; heat = now .course .heat; up = i .up; down = i .down; maximised = false; ordered = now .ordered;
+    from = 0;
+    target = 0;
+    heat = now .course .heat;
+    up = i .up;
+    down = i .down;
+    maximised = false;
+    ordered = now .ordered;
   }
   setting Mwof = record {
-    from = s .level; target = mwofTarget; heat = pick (eqb (s .level) 0) 3 (now .course .heat); up = i .up; down = i .down; maximised = false; ordered = mwofTarget;
+    from = s .level;
+    target = mwofTarget;
+    heat = pick (eqb (s .level) 0) 3 (now .course .heat);
+    up = i .up;
+    down = i .down;
+    maximised = false;
+    ordered = mwofTarget;
   }
   setting Mxon = record {
-    from = s .level; target = u .maximum; heat = now .course .heat; up = getD (u .up .rates) 4 0; down = i .down; maximised = true; ordered = now .ordered;
+    from = s .level;
+    target = u .maximum;
+    heat = now .course .heat;
+    up = getD (u .up .rates) 4 0;
+    down = i .down;
+    maximised = true;
+    ordered = now .ordered;
   }
   setting Sync = record {
-    from = s .level; target = syncTarget; heat = heatBy u (s .off); up = i .up; down = i .down; maximised = false; ordered = syncTarget;
+    from = s .level;
+    target = syncTarget;
+    heat = heatBy u (s .off);
+    up = i .up;
+    down = i .down;
+    maximised = false;
+    ordered = syncTarget;
   }
   setting Mxof = record {
-    from = s .level; target = now .ordered; heat = now .course .heat; up = i .up; down = getD (u .down .rates) 0 0; maximised = false; ordered = now .ordered;
+    from = s .level;
+    target = now .ordered;
+    heat = now .course .heat;
+    up = i .up;
+    down = getD (u .down .rates) 0 0;
+    maximised = false;
+    ordered = now .ordered;
   }
   setting Desy = record {
-    from = s .level; target = 0; heat = now .course .heat; up = i .up; down = i .down; maximised = false; ordered = now .ordered;
+    from = s .level;
+    target = 0;
+    heat = now .course .heat;
+    up = i .up;
+    down = i .down;
+    maximised = false;
+    ordered = now .ordered;
   }
   setting Fail = record {
-    from = s .level; target = 0; heat = now .course .heat; up = i .up; down = i .down; maximised = false; ordered = now .ordered;
+    from = s .level;
+    target = 0;
+    heat = now .course .heat;
+    up = i .up;
+    down = i .down;
+    maximised = false;
+    ordered = now .ordered;
   }
 
 -- "At level 0 with a target above 0 the level goes at once to the smaller of block load and target .. That is the course's start"

@@ -10,7 +10,8 @@ use Rattle.records.specs.declared.Opening.{Opening}
 use Rattle.records.specs.declared.Instruction.{Instruction}
 use Rattle.course.specs.declared.Course.{Course}
 use Rattle.course.specs.Course.{Trajectory, trajectoryOf, levelAt, rateOn}
-use Rattle.course.specs.Pieces.{Piece, piecesIn, twiceArea}
+use Rattle.course.specs.declared.Piece.{Piece}
+use Rattle.course.specs.Pieces.{piecesIn, twiceArea}
 use Rattle.validation.specs.declared.Numbered.{Numbered}
 use Rattle.validation.specs.Kept.{Mark, Validated, numbered, validated, fatesOf}
 use Rattle.profile.specs.declared.UnderWay.{UnderWay}

@@ -5,7 +5,8 @@ use mathlib.Core.List.{List, [], _∷_}
 use mathlib.Core.Bool.{Bool, true, false, _&&_}
 use lib.Dec.{eqb}
 use Rattle.level.specs.Choice.{pick}
-use Rattle.segments.specs.Segments.{Segment, seconds, recorded}
+use Rattle.segments.specs.declared.Segment.{Segment}
+use Rattle.segments.specs.Segments.{seconds, recorded}
 use Rattle.course.specs.Course.{Trajectory, Moment, heading, toward, second, segments}
 
 -- what an instruction is read with: the level (grains) just before, and the seconds off

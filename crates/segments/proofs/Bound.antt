@@ -9,7 +9,8 @@ use native.Mathlib.Decide.{decLe}
 use native.Mathlib.Omega.{arith}
 use lib.ListN.{length}
 use Rattle.level.specs.Lists.{sum}
-use Rattle.segments.specs.Segments.{Segment, Ok, recorded, exact, between, recordedTick, wholeWay, area}
+use Rattle.segments.specs.declared.Segment.{Segment}
+use Rattle.segments.specs.Segments.{Ok, recorded, exact, between, recordedTick, wholeWay, area}
 use Rattle.segments.proofs.Sums.{sum-le, sum-lag, area-sums, area-split, area-line}
 use Rattle.segments.proofs.Segments.{recorded-mono, exact-top}
 use Rattle.segments.proofs.Sandwich.{between-at, recorded-below-exact, recorded-above-delayed}

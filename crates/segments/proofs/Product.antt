@@ -6,7 +6,8 @@ use Prim.Native.Nat.{ℕ, _+_, _*_, _≤_, _<_, _∣_}
 use native.Mathlib.Nat.{mul-pos, dvd-refl, dvd-trans, dvd-mul-left, dvd-mul-right}
 use native.Mathlib.Omega.{arith}
 use lib.ListN.{length}
-use Rattle.segments.specs.Segments.{Segment, Ok, Valid, recorded, exact, area, rateProduct, wholeWay}
+use Rattle.segments.specs.declared.Segment.{Segment}
+use Rattle.segments.specs.Segments.{Ok, Valid, recorded, exact, area, rateProduct, wholeWay}
 use Rattle.segments.proofs.Bound.{bound-of-seconds}
 
 -- every rate divides a multiple of their product

@@ -7,7 +7,8 @@ use native.Mathlib.Nat.{le-of-lt, add-zero, mul-le-mul-left, mul-le-mul-right, m
 use native.Mathlib.Decide.{decLe}
 use native.Mathlib.Omega.{arith}
 use lib.ListN.{length}
-use Rattle.segments.specs.Segments.{Segment, Ok, seconds, ticks, recorded, exact, between, recordedTick}
+use Rattle.segments.specs.declared.Segment.{Segment}
+use Rattle.segments.specs.Segments.{Ok, seconds, ticks, recorded, exact, between, recordedTick}
 use Rattle.segments.proofs.Segments.{ticks-low, ticks-high, recorded-zero, recorded-mono, exact-mono}
 
 mul-min : (c a b : ℕ) → c * min a b ≡ min (c * a) (c * b)

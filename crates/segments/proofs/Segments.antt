@@ -5,7 +5,8 @@ use mathlib.Core.List.{List, [], _∷_}
 use Prim.Native.Nat.{ℕ, _+_, _*_, _-_, _≤_, _<_}
 use native.Mathlib.Nat.{le-refl, mul-le-mul-right, le-of-mul-le-mul-right, div-add-mod', mod-lt, mul-div-cancel', zero-sub}
 use native.Mathlib.Omega.{arith}
-use Rattle.segments.specs.Segments.{Segment, SegmentOk, seconds, ticks, recorded, exact, wholeWay}
+use Rattle.segments.specs.declared.Segment.{Segment}
+use Rattle.segments.specs.Segments.{SegmentOk, seconds, ticks, recorded, exact, wholeWay}
 
 -- the seconds of a way: the way over the rate, rounded up
 pub seconds-low : (l : Segment) → 1 ≤ l .rate → l .way ≤ seconds l * l .rate

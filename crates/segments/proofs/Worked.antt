@@ -6,7 +6,8 @@ use Prim.Native.Nat.{_+_, _*_, _≤_}
 use native.Mathlib.Nat.{dvd-refl}
 use native.Mathlib.Omega.{arith}
 use Rattle.level.specs.Lists.{sum}
-use Rattle.segments.specs.Segments.{Segment, Ok, Valid, seconds, ticks, recorded, exact, between, recordedTick, wholeWay, area, rateProduct}
+use Rattle.segments.specs.declared.Segment.{Segment}
+use Rattle.segments.specs.Segments.{Ok, Valid, seconds, ticks, recorded, exact, between, recordedTick, wholeWay, area, rateProduct}
 use Rattle.segments.proofs.Bound.{bound-of-seconds}
 use Rattle.segments.proofs.Product.{product-ok}
 

@@ -4,11 +4,7 @@
 use Prim.Native.Nat.{ℕ, zero, suc, _+_, _*_, _-_, _/_, _%_, min, _≤_, _∣_}
 use mathlib.Core.List.{List, [], _∷_}
 use Rattle.level.specs.Lists.{sum}
-
-pub record Segment : Type 0 where
-  pub way : ℕ
-  pub rate : ℕ
-  pub hold : ℕ
+use Rattle.segments.specs.declared.Segment.{Segment}
 
 -- the whole seconds that a segment's way takes: the rest of the last second is lost
 unfoldable pub seconds : Segment → ℕ
