@@ -1,0 +1,120 @@
+-- Taking a record: the refusals in the paper's order, and what an acceptance and a refusal return.
+-- Assumes nothing.
+use Prim.Native.Nat.{ℕ, zero, suc, _+_, _*_, _-_}
+use mathlib.Core.List.{List, [], _∷_}
+use mathlib.Core.Bool.{Bool, true, false, _&&_, _||_, not}
+use lib.Dec.{leb, ltb, eqb}
+use lib.ListN.{length, getD, take, drop}
+use Rattle.level.specs.Choice.{pick}
+use Rattle.level.specs.Level.{grains}
+use Rattle.level.specs.Lists.{some}
+use Rattle.records.specs.declared.UnitData.{UnitData}
+use Rattle.records.specs.declared.Opening.{Opening}
+use Rattle.records.specs.declared.Answer.{Answer}
+use Rattle.records.specs.declared.Answer.the-variants.{Accepted, Refused}
+use Rattle.records.specs.declared.Refusal.the-variants.{UnknownKind, TooFewBytes, SecondOne, BeforeUnit, OpeningTooHigh, TooManyInstructions, AfterClose, NotReady, QuantityTooHigh}
+use Rattle.records.specs.Answers.{accepted, refusing, firstRefusal}
+use Rattle.records.specs.Records.{sizeOf, numbers, unitOf, openingOf, instructionOf}
+use Rattle.records.specs.Fields.{unitAnswer, openingAnswer, instructionAnswer}
+use Rattle.profile.specs.Profile.{Found, paper}
+use Rattle.day.specs.declared.Day.{Day}
+use Rattle.day.specs.declared.Stepped.{Stepped}
+use Rattle.day.specs.Day.{daySeconds, withUnit, withOpening, withInstruction, closedWith, foundIn}
+
+-- "A record is one byte of kind, then a body whose length the kind fixes"
+unfoldable pub kindOf : List ℕ → ℕ
+kindOf s = getD s 0 0
+
+unfoldable pub bodyOf : List ℕ → List ℕ
+bodyOf s = take (sizeOf (kindOf s) - 1) (drop 1 s)
+
+-- ---- the conditions of the refusals, of a day d and bytes s
+
+-- "2 too few bytes for the kind, or none"
+unfoldable pub noBytes : List ℕ → Bool
+noBytes s = eqb (length s) 0
+
+-- "1 kind not 1 to 4"
+unfoldable pub unknownKind : List ℕ → Bool
+unknownKind s = not (leb 1 (kindOf s) && leb (kindOf s) 4)
+
+unfoldable pub tooFew : List ℕ → Bool
+tooFew s = ltb (length s) (sizeOf (kindOf s))
+
+-- "20 second unit or opening"
+unfoldable pub secondOne : Day → ℕ → Bool
+secondOne d k = (eqb k 1 && d .hasUnit) || (eqb k 2 && d .hasOpening)
+
+-- "21 opening or instruction before a unit"
+unfoldable pub beforeUnit : Day → ℕ → Bool
+beforeUnit d k = (eqb k 2 || eqb k 3) && not (d .hasUnit)
+
+-- "23 forty-first instruction"
+unfoldable pub tooMany : Day → ℕ → Bool
+tooMany d k = eqb k 3 && leb 40 (d .count)
+
+-- "25 close without an opening"
+unfoldable pub notReady : Day → ℕ → Bool
+notReady d k = eqb k 4 && not (d .hasOpening)
+
+-- 3 to 9: the fields, as the kind has them
+unfoldable pub fieldAnswer : ℕ → List ℕ → Answer
+fieldAnswer k b =
+    pick (eqb k 1) (unitAnswer (numbers b 62))
+    (pick (eqb k 2) (openingAnswer b)
+    (pick (eqb k 3) (instructionAnswer daySeconds b)
+    Accepted))
+
+-- "22 opening level or target above the short-term maximum, or seconds off with a level above 0"
+unfoldable pub tooHigh : UnitData → Opening → Bool
+tooHigh u o = ltb (grains (u .maximum)) (o .level .grains) || (ltb (u .maximum) (o .target) || (ltb 0 (o .level .grains) && ltb 0 (o .off)))
+
+-- "27 at close, a quantity above the short-term maximum"
+unfoldable pub quantityTooHigh : UnitData → Found → Bool
+quantityTooHigh u f = some (λ q. ltb (u .maximum) q) (f .quantities)
+
+-- find gives what close finds of a day
+module _ (find : Day → Found) where
+  -- "Order: 2 if empty, 1, 2, 24, 20, 21, 23, 25, fields as numbered, 22, 27"
+  unfoldable pub answerBy : Day → List ℕ → Answer
+  answerBy d s =
+      let k : ℕ = kindOf s in
+      firstRefusal
+      (refusing (noBytes s) TooFewBytes
+      ∷ refusing (unknownKind s) UnknownKind
+      ∷ refusing (tooFew s) TooFewBytes
+      ∷ refusing (d .closed) AfterClose
+      ∷ refusing (secondOne d k) SecondOne
+      ∷ refusing (beforeUnit d k) BeforeUnit
+      ∷ refusing (tooMany d k) TooManyInstructions
+      ∷ refusing (notReady d k) NotReady
+      ∷ fieldAnswer k (bodyOf s)
+      ∷ refusing (eqb k 2 && tooHigh (d .unit) (openingOf (bodyOf s))) OpeningTooHigh
+      ∷ refusing (eqb k 4 && quantityTooHigh (d .unit) (find d)) QuantityTooHigh
+      ∷ [])
+
+  -- the day with the record of the kind k and the body b
+  unfoldable pub dayWith : Day → ℕ → List ℕ → Day
+  dayWith d k b =
+      pick (eqb k 1) (withUnit d (unitOf (numbers b 62)))
+      (pick (eqb k 2) (withOpening d (openingOf b))
+      (pick (eqb k 3) (withInstruction d (instructionOf b))
+      (closedWith d (find d))))
+
+  -- "A refusal returns its number, the same day, the whole input slice"
+  unfoldable pub stepBy : Day → List ℕ → Stepped
+  stepBy d s =
+      pick (accepted (answerBy d s))
+      (record { answer = Accepted; day = dayWith d (kindOf s) (bodyOf s); used = sizeOf (kindOf s) })
+      (record { answer = answerBy d s; day = d; used = 0 })
+
+-- as the paper says it
+abbrev pub answerOf : Day → List ℕ → Answer
+answerOf d s = answerBy (foundIn paper) d s
+
+abbrev pub stepOf : Day → List ℕ → Stepped
+stepOf d s = stepBy (foundIn paper) d s
+
+-- "hands back the remaining part of the caller's slice"
+unfoldable pub restOf : Day → List ℕ → List ℕ
+restOf d s = drop (stepOf d s .used) s
