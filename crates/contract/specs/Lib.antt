@@ -2,3 +2,4 @@ pub mod Calls
 pub mod LetIn
 pub mod Demand3
 pub mod Program
+pub mod Cases
