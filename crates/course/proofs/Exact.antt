@@ -122,7 +122,7 @@ module _ (p : ℕ) (f : ℕ → ℕ) (lo hi : ℕ) (up : lo ≤ hi) where
         let d : ℕ = u + ticks p l + l .hold * p in
         omega (arith, cut-both u t, cut-both t d, cuts-both ls d, ap (λ x. x * (2 * c)) (time u t (omega arith)), ap (λ x. x * (2 * c)) (time t d (omega arith)))
 
-cuts-none : (p : ℕ) (f : ℕ → ℕ) (lo hi : ℕ) → hi ≤ lo → (ls : List Segment) (u : ℕ) → cuts p f u ls lo hi ≡ 0
+pub cuts-none : (p : ℕ) (f : ℕ → ℕ) (lo hi : ℕ) → hi ≤ lo → (ls : List Segment) (u : ℕ) → cuts p f u ls lo hi ≡ 0
 unfolding cuts cut
 cuts-none p f lo hi h [] u = let e : hi - max u lo ≡ 0 = omega arith in rw (e, zero-mul)
 cuts-none p f lo hi h (l ∷ ls) u =

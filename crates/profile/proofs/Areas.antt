@@ -31,11 +31,11 @@ not-yet from to x (s ∷ ss) c h =
     omega (arith, none (s .trajectory) (min (s .end) x - s .begin) (omega (arith, c .0)), not-yet (s .end) to x ss (c .2) (omega (arith, c .1)))
 
 module _ (s : Span) (ss : List Span) (g : Trajectory → ℕ → ℕ) (x : ℕ) where
-  in-here : x < s .end → inForce g (s ∷ ss) x ≡ g (s .trajectory) (x - s .begin)
+  pub in-here : x < s .end → inForce g (s ∷ ss) x ≡ g (s .trajectory) (x - s .begin)
   unfolding inForce
   in-here h = rw (lt-ltb x (s .end) h, inForce) refl
 
-  in-rest : s .end ≤ x → inForce g (s ∷ ss) x ≡ inForce g ss x
+  pub in-rest : s .end ≤ x → inForce g (s ∷ ss) x ≡ inForce g ss x
   unfolding inForce
   in-rest h = rw (le-ltb x (s .end) h, inForce) refl
 
@@ -63,7 +63,7 @@ next from to x (s ∷ ss) c h k = elim (decLe (suc x) (s .end)) [
 ]
 
 module _ (from to : ℕ) (ss : List Span) (c : Chain from ss to) where
-  over : (a n : ℕ) → from ≤ a → a + n ≤ to → piecesTo ss (a + n) ≡ piecesTo ss a + sum (λ t. levelStarting ss t + levelEnding ss t) a n
+  pub over : (a n : ℕ) → from ≤ a → a + n ≤ to → piecesTo ss (a + n) ≡ piecesTo ss a + sum (λ t. levelStarting ss t + levelEnding ss t) a n
   unfolding sum
   over a zero h k = ap (piecesTo ss) {x = a + 0} {y = a} (omega arith) ∙ omega arith
   over a (suc n) h k =

@@ -3,3 +3,5 @@ pub mod States
 pub mod Rates
 pub mod Areas
 pub mod Whole
+pub mod Exact
+pub mod Near
