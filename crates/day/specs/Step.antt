@@ -67,7 +67,7 @@ fieldAnswer k b =
 
 -- "22 opening level or target above the short-term maximum, or seconds off with a level above 0"
 unfoldable pub tooHigh : UnitData → Opening → Bool
-tooHigh u o = ltb (grains (u .maximum)) (o .level .grains) || (ltb (u .maximum) (o .target) || (ltb 0 (o .level .grains) && ltb 0 (o .off)))
+tooHigh u o = ltb (grains (u .maximum)) (o .level) || (ltb (u .maximum) (o .target) || (ltb 0 (o .level) && ltb 0 (o .off)))
 
 -- "27 at close, a quantity above the short-term maximum"
 unfoldable pub quantityTooHigh : UnitData → Found → Bool

@@ -147,7 +147,7 @@ underWay u begin g off = record { course = courseFrom u begin g; maximised = g .
 unfoldable pub opened : UnitData → Opening → UnderWay
 opened u o =
     underWay u 0
-    (record { from = o .level .grains; target = o .target; heat = o .heat; up = 0; down = 0; maximised = false; ordered = o .target })
+    (record { from = o .level; target = o .target; heat = o .heat; up = 0; down = 0; maximised = false; ordered = o .target })
     (o .off)
 
 -- "Otherwise fate 0 and a new course"

@@ -87,7 +87,7 @@ unitAnswer ns = firstRefusal (refusing (not (fitFrom unitRanges ns 0)) UnitField
 
 -- 5: "level in grains (0 to 120,000,000), target kW (0 to 2,000,000), heat (1 hot, 2 warm, 3 cold), seconds off (0 to 10,000,000)"
 unfoldable pub openingFits : Opening → Bool
-openingFits o = leb (o .level .grains) 120000000 && (leb (o .target) 2000000 && ((leb 1 (o .heat) && leb (o .heat) 3) && leb (o .off) 10000000))
+openingFits o = leb (o .level) 120000000 && (leb (o .target) 2000000 && ((leb 1 (o .heat) && leb (o .heat) 3) && leb (o .off) 10000000))
 
 unfoldable pub openingAnswer : List ℕ → Answer
 openingAnswer b = refusing (not (openingFits (openingOf b))) OpeningField

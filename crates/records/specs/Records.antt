@@ -66,7 +66,7 @@ module _ (ns : List ℕ) where
 -- ---- kind 2: "level in grains, target kW, heat, seconds off"
 unfoldable pub openingOf : List ℕ → Opening
 openingOf b = record {
-  level = record { grains = numberAt b 0 };
+  level = numberAt b 0;
   target = numberAt b 4;
   heat = numberAt b 8;
   off = numberAt b 12;

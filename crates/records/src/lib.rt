@@ -41,9 +41,9 @@ pub struct UnitData {
     pub deload: Deload,
 }
 
-// The opening: level at 06:00, target in kW, heat (1 hot, 2 warm, 3 cold), seconds off.
+// The opening: level at 06:00 in grains, target in kW, heat (1 hot, 2 warm, 3 cold), seconds off.
 pub struct Opening {
-    pub level: level::Level,
+    pub level: u32,
     pub target: u32,
     pub heat: u32,
     pub off: u32,
