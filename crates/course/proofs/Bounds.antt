@@ -9,17 +9,12 @@ use lib.ListN.{length}
 use Rattle.level.specs.Lists.{sum}
 use Rattle.segments.specs.declared.Segment.{Segment}
 use Rattle.segments.specs.Segments.{Ok, seconds, recorded, exact, area, rateProduct, wholeWay}
-use Rattle.segments.proofs.Segments.{exact-top}
+use Rattle.segments.proofs.Segments.{exact-top, recorded-top}
 use Rattle.segments.proofs.Bound.{bound-of-seconds}
 use Rattle.segments.proofs.Product.{product-ok, product-pos}
 use Rattle.course.specs.Course.{Heading, rising, falling, heading, Trajectory, toward, gap, levelAt, stops, distance, segments}
 use Rattle.course.specs.Exact.{ticksOf, exactAt}
 use Rattle.course.proofs.Whole.{Driven, short-start, level-segments, as-many, ways-whole, ways-within, segments-valid}
-
-recorded-top : (ls : List Segment) (k : ℕ) → recorded ls k ≤ wholeWay ls
-unfolding recorded wholeWay
-recorded-top [] k = le-refl 0
-recorded-top (l ∷ ls) k = omega (arith, recorded-top ls (k - (seconds l + l .hold)))
 
 area-up : (f g : ℕ → ℕ) (s : ℕ) → ((j : ℕ) → g j ≡ s + f j) → (a n : ℕ) → area g a n ≡ 2 * (s * n) + area f a n
 unfolding area sum

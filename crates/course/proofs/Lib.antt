@@ -6,5 +6,6 @@ pub mod Stops
 pub mod Pieces
 pub mod Bounds
 pub mod Exact
+pub mod Between
 pub mod Worked
 pub mod Oracle

@@ -5,3 +5,4 @@ pub mod Areas
 pub mod Whole
 pub mod Exact
 pub mod Near
+pub mod Most

@@ -149,3 +149,27 @@ moves from to (s ∷ ss) c t lo hi = elim (decLe (suc t) (s .end)) [
   | no p ↦ rw (in-rest s ss levelAt t (omega arith), in-rest s ss (λ c k. levelAt c (suc k)) t (omega arith), in-rest s ss rateOn t (omega arith))
       (moves (s .end) to ss (c .2) t (omega arith) hi)
 ]
+
+-- each span is in force for as long as it lasts
+abbrev Held : List Span → Span → Type 0
+Held ss s = (g : Trajectory → ℕ → ℕ) (t : ℕ) → s .begin ≤ t → t < s .end → inForce g ss t ≡ g (s .trajectory) (t - s .begin)
+
+all-map : {A : Type 0} (P Q : A → Type 0) → ((x : A) → P x → Q x) → (xs : List A) → All P xs → All Q xs
+all-map P Q f [] a = tt
+all-map P Q f (x ∷ xs) a = (f x (a .0), all-map P Q f xs (a .1))
+
+held : (from to : ℕ) (ss : List Span) → Chain from ss to → All (λ (s : Span). (from ≤ s .begin) × Held ss s) ss
+held from to [] c = tt
+held from to (s ∷ ss) c = (
+  (omega (arith, c .0), λ g t lo hi. in-here s ss g t hi),
+  all-map (λ (r : Span). (s .end ≤ r .begin) × Held ss r) (λ (r : Span). (from ≤ r .begin) × Held (s ∷ ss) r)
+    (λ r h. (omega (arith, h .0, c .1), λ g t lo hi. in-rest s ss g t (omega (arith, h .0)) ∙ h .1 g t lo hi)) ss (held (s .end) to ss (c .2)),
+)
+
+-- the exact course starts at the level recorded there
+pub starts-recorded : (from to : ℕ) (ss : List Span) → Chain from ss to →
+    All (λ (s : Span). s .begin < s .end → s .trajectory .start ≡ levelStarting ss (s .begin)) ss
+unfolding levelStarting levelAt momentAt after
+starts-recorded from to ss c =
+    all-map (λ (s : Span). (from ≤ s .begin) × Held ss s) (λ (s : Span). s .begin < s .end → s .trajectory .start ≡ levelStarting ss (s .begin))
+    (λ s h lt. sym (h .1 levelAt (s .begin) (omega arith) lt ∙ ap (levelAt (s .trajectory)) {x = s .begin - s .begin} {y = 0} (omega arith))) ss (held from to ss c)

@@ -12,16 +12,11 @@ use lib.Dec.{eqb}
 use borrow.Author.Tests.{eq-eqb, ne-eqb}
 use Rattle.segments.specs.declared.Segment.{Segment}
 use Rattle.segments.specs.Segments.{seconds, recorded, wholeWay, Valid}
-use Rattle.segments.proofs.Segments.{seconds-low, seconds-high, recorded-mono}
+use Rattle.segments.proofs.Segments.{seconds-low, seconds-high, recorded-mono, recorded-top}
 use Rattle.level.specs.Choice.{pick}
 use Rattle.course.specs.Course.{Trajectory, Moment, heading, toward, gap, second, after, momentAt, levelAt, segments, distance}
 use Rattle.course.proofs.Whole.{level-segments, level-up, level-down, ways-within, segments-valid}
 use Rattle.profile.specs.State.{held, Watch, watchNext, watch, State, byRule, arrival, stateOn, bySegments}
-
-recorded-top : (ls : List Segment) (k : ℕ) → recorded ls k ≤ wholeWay ls
-unfolding recorded wholeWay
-recorded-top [] k = omega arith
-recorded-top (l ∷ ls) k = omega (arith, recorded-top ls (k - (seconds l + l .hold)))
 
 seconds-some : (l : Segment) → 1 ≤ l .way → 1 ≤ l .rate → 1 ≤ seconds l
 seconds-some l w r = elim (decLe 1 (seconds l)) [
@@ -142,3 +137,8 @@ module _ (c : Trajectory) (off : ℕ) where
   state-same k =
       (λ i. record { level = (ap (λ (m : Moment). m .level) (watch-moment k)) i; off = (off-is k) i })
       ∙ ap (λ (v : ℕ). record { level = v; off = twin v k }) (level-segments c k)
+
+  -- the level just before is the second-by-second level
+  pub rule-level : (k : ℕ) → byRule c off k .level ≡ levelAt c k
+  unfolding byRule levelAt
+  rule-level k = ap (λ (m : Moment). m .level) (watch-moment k)

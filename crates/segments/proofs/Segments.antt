@@ -56,3 +56,8 @@ pub exact-top : (p : ℕ) (ls : List Segment) (j : ℕ) → exact p ls j ≤ who
 unfolding exact wholeWay
 exact-top p [] j = omega arith
 exact-top p (l ∷ ls) j = omega (arith, exact-top p ls (j - (ticks p l + l .hold * p)))
+
+pub recorded-top : (ls : List Segment) (k : ℕ) → recorded ls k ≤ wholeWay ls
+unfolding recorded wholeWay
+recorded-top [] k = le-refl 0
+recorded-top (l ∷ ls) k = omega (arith, recorded-top ls (k - (seconds l + l .hold)))

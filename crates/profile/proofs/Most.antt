@@ -1,0 +1,137 @@
+-- No level of a let-in day exceeds the short-term maximum, and so no quantity does.
+-- Assumes nothing.
+use mathlib.Core.Path.{_≡_, refl, ap, sym, _∙_}
+use mathlib.Core.List.{List, [], _∷_, map}
+use mathlib.Core.Bool.{Bool, true, false, _&&_}
+use Prim.Native.Nat.{ℕ, zero, suc, _+_, _*_, _-_, _/_, min, max, _≤_, _<_}
+use native.Mathlib.Decide.{decLe}
+use native.Mathlib.Omega.{arith}
+use lib.Dec.{ltb, eqb}
+use Rattle.level.specs.Choice.{pick}
+use Rattle.level.specs.Level.{grains}
+use Rattle.level.specs.Lists.{All, sum}
+use Rattle.records.specs.declared.Effect.{Effect}
+use Rattle.records.specs.declared.Effect.the-variants.{Trip, Mwof, Mxon, Sync, Mxof, Desy, Fail}
+use Rattle.records.specs.declared.UnitData.{UnitData}
+use Rattle.records.specs.declared.Opening.{Opening}
+use Rattle.records.specs.declared.Instruction.{Instruction}
+use Rattle.course.specs.declared.Course.{Course}
+use Rattle.course.specs.Lists.{columnFor}
+use Rattle.course.specs.Course.{Trajectory, trajectoryOf, levelAt}
+use Rattle.course.proofs.Between.{level-below}
+use Rattle.validation.specs.declared.Numbered.{Numbered}
+use Rattle.validation.specs.Kept.{acting}
+use Rattle.profile.specs.declared.UnderWay.{UnderWay}
+use Rattle.profile.specs.State.{State, byRule}
+use Rattle.profile.specs.Effects.{Setting, setting, mwofTarget, syncTarget, stepped, courseFrom, underWay, opened, begun, idle, Followed, goesOn, replaces, stateAt, follow}
+use Rattle.profile.specs.Profile.{Span, beginOf, spansOf, inForce, levelStarting, levelEnding, recordedTwice, recordedTo, recordedIn, rounded, courseOf}
+use Rattle.profile.proofs.States.{rule-level}
+use Rattle.profile.proofs.Areas.{in-here, in-rest}
+
+-- a course that starts and ends at or below m kW
+pub record Below (m : ℕ) (c : Course) : Type 0 where
+  pub start : c .start .grains ≤ grains m
+  pub target : c .target ≤ m
+
+-- the course under way, and what MXOF would go back to
+pub record WayBelow (m : ℕ) (w : UnderWay) : Type 0 where
+  pub course : Below m (w .course)
+  pub ordered : w .ordered ≤ m
+
+step-below : (b : Bool) (m block target v : ℕ) → v ≤ grains m → target ≤ m → pick b (min block (grains target)) v ≤ grains m
+unfolding grains
+step-below true m block target v p q = omega arith
+step-below false m block target v p q = p
+
+way-below : (u : UnitData) (begin : ℕ) (g : Setting) (off m : ℕ) → g .from ≤ grains m → g .target ≤ m → g .ordered ≤ m → WayBelow m (underWay u begin g off)
+unfolding underWay courseFrom stepped
+way-below u begin g off m p q r = record {
+  course = record { start = step-below (eqb (g .from) 0 && ltb 0 (grains (g .target))) m (grains (columnFor u (g .heat) .block)) (g .target) (g .from) p q; target = q };
+  ordered = r;
+}
+
+module _ (u : UnitData) (fits : u .capacity ≤ u .maximum) where
+  setting-below : (now : UnderWay) (i : Instruction) (s : State) (e : Effect) → now .ordered ≤ u .maximum → s .level ≤ grains (u .maximum) →
+      (setting u now i s e .from ≤ grains (u .maximum)) × (setting u now i s e .target ≤ u .maximum) × (setting u now i s e .ordered ≤ u .maximum)
+  unfolding setting mwofTarget syncTarget
+  setting-below now i s Trip o v = (omega arith, omega arith, o)
+  setting-below now i s Mwof o v = (v, omega arith, omega arith)
+  setting-below now i s Mxon o v = (v, omega arith, o)
+  setting-below now i s Sync o v = (v, omega arith, omega arith)
+  setting-below now i s Mxof o v = (v, o, o)
+  setting-below now i s Desy o v = (v, omega arith, o)
+  setting-below now i s Fail o v = (v, omega arith, o)
+
+  begun-below : (now : UnderWay) (o : Numbered) (s : State) → now .ordered ≤ u .maximum → s .level ≤ grains (u .maximum) → WayBelow (u .maximum) (begun u now o s)
+  unfolding begun
+  begun-below now o s p v =
+      let b = setting-below now (o .instruction) s (o .instruction .meaning .effect) p v in
+      way-below u (acting o) (setting u now (o .instruction) s (o .instruction .meaning .effect)) (s .off) (u .maximum) (b .0) (b .1) (b .2)
+
+  -- the level just before lies below where the course does
+  state-below : (now : UnderWay) (t : ℕ) → WayBelow (u .maximum) now → stateAt byRule u now t .level ≤ grains (u .maximum)
+  unfolding stateAt trajectoryOf grains
+  state-below now t b =
+      let c : Trajectory = trajectoryOf u (now .course) in
+      omega (arith, rule-level c (now .off) (t - now .course .begin), level-below c (grains (u .maximum)) (t - now .course .begin) (b .course .start) (omega (arith, b .course .target)))
+
+  pub courses-below : (now : UnderWay) (os : List Numbered) → WayBelow (u .maximum) now → All (Below (u .maximum)) (map courseOf (follow byRule u now os .courses))
+  unfolding follow goesOn replaces
+  courses-below now [] b = (b .course, tt)
+  courses-below now (o ∷ os) b =
+      let s : State = stateAt byRule u now (acting o) in
+      go (idle (o .instruction .meaning .effect) (o .instruction .level) (s .level) (now .maximised)) (courses-below now os b)
+      (courses-below (begun u now o s) os (begun-below now o s (b .ordered) (state-below now (acting o) b)))
+    where
+      go : (t : Bool) → All (Below (u .maximum)) (map courseOf (follow byRule u now os .courses)) →
+          All (Below (u .maximum)) (map courseOf (follow byRule u (begun u now o (stateAt byRule u now (acting o))) os .courses)) →
+          let f : Followed = elim t [ true ↦ goesOn o (follow byRule u now os) | false ↦ replaces now o (follow byRule u (begun u now o (stateAt byRule u now (acting o))) os) ] in
+          All (Below (u .maximum)) (map courseOf (f .courses))
+      go true x y = x
+      go false x y = (b .course, y)
+
+  -- an opening that meets no refusal 22
+  pub opened-below : (o : Opening) → o .level ≤ grains (u .maximum) → o .target ≤ u .maximum → WayBelow (u .maximum) (opened u o)
+  unfolding opened
+  opened-below o p q = way-below u 0 _ (o .off) (u .maximum) p q q
+
+-- ---- the levels of a day
+abbrev pub SpanBelow : ℕ → Span → Type 0
+SpanBelow m s = (s .trajectory .start ≤ m) × (s .trajectory .target ≤ m)
+
+pub spans-below : (u : UnitData) (end m : ℕ) (cs : List Course) → All (Below m) cs → All (SpanBelow (grains m)) (spansOf u end cs)
+unfolding spansOf trajectoryOf grains
+spans-below u end m [] b = tt
+spans-below u end m (c ∷ cs) b = ((b .0 .start, omega (arith, b .0 .target)), spans-below u end m cs (b .1))
+
+force-below : (f : ℕ → ℕ) (m : ℕ) (ss : List Span) → All (SpanBelow m) ss → (t : ℕ) → inForce (λ c k. levelAt c (f k)) ss t ≤ m
+unfolding inForce
+force-below f m [] b t = omega arith
+force-below f m (s ∷ ss) b t = elim (decLe (suc t) (s .end)) [
+  | yes p ↦ rw (in-here s ss (λ c k. levelAt c (f k)) t p) (level-below (s .trajectory) m (f (t - s .begin)) (b .0 .0) (b .0 .1))
+  | no p ↦ rw (in-rest s ss (λ c k. levelAt c (f k)) t (omega arith)) (force-below f m ss (b .1) t)
+]
+
+module _ (m : ℕ) (ss : List Span) (b : All (SpanBelow m) ss) where
+  pub starting-below : (t : ℕ) → levelStarting ss t ≤ m
+  unfolding levelStarting
+  starting-below t = force-below (λ k. k) m ss b t
+
+  pub ending-below : (t : ℕ) → levelEnding ss t ≤ m
+  unfolding levelEnding
+  ending-below t = force-below (λ k. suc k) m ss b t
+
+  -- twice the recorded area of n seconds is at most n times twice the largest level
+  pub recorded-below : (a n : ℕ) → recordedTwice ss a n ≤ n * (2 * m)
+  unfolding recordedTwice sum
+  recorded-below a zero = omega arith
+  recorded-below a (suc n) = omega (arith, starting-below a, ending-below a, recorded-below (suc a) n)
+
+-- a half-hour of at most that area rounds to at most that many kW
+pub rounded-below : (x m : ℕ) → x ≤ 1800 * (2 * grains m) → rounded x ≤ m
+unfolding rounded grains
+rounded-below x m h = omega arith
+
+pub quantity-below : (m : ℕ) (ss : List Span) → All (SpanBelow (grains m)) ss → (i : ℕ) → rounded (recordedIn ss i) ≤ m
+unfolding recordedIn
+quantity-below m ss b i = rounded-below (recordedTwice ss (1800 * i) 1800) m (recorded-below (grains m) ss b (1800 * i) 1800)
