@@ -1,2 +1,4 @@
 pub mod Starred
 pub mod Made
+pub mod Run
+pub mod Claim

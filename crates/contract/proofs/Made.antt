@@ -203,7 +203,7 @@ module _ (d : Day) (rs : List (List ℕ)) (s : List ℕ) (m : Made d rs) (not-cl
       }
 
 -- a record let in
-taken : (d : Day) (rs : List (List ℕ)) (s : List ℕ) → Made d rs → Passed (foundIn paper) d s → Made (dayWith (foundIn paper) d (kindOf s) (bodyOf s)) (rs ++ (front s ∷ []))
+pub taken : (d : Day) (rs : List (List ℕ)) (s : List ℕ) → Made d rs → Passed (foundIn paper) d s → Made (dayWith (foundIn paper) d (kindOf s) (bodyOf s)) (rs ++ (front s ∷ []))
 unfolding dayWith
 taken d rs s m p = elim (ℕ-discrete (kindOf s) 1) [
   | yes e ↦ simp (eq-eqb (kindOf s) 1 e) (a-unit d rs s m (p .not-closed) e (p .first-unit e) (p .unit-fields e))

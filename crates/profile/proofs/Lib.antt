@@ -6,3 +6,4 @@ pub mod Whole
 pub mod Exact
 pub mod Near
 pub mod Most
+pub mod Found

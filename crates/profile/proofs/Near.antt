@@ -154,7 +154,7 @@ moves from to (s ∷ ss) c t lo hi = elim (decLe (suc t) (s .end)) [
 abbrev Held : List Span → Span → Type 0
 Held ss s = (g : Trajectory → ℕ → ℕ) (t : ℕ) → s .begin ≤ t → t < s .end → inForce g ss t ≡ g (s .trajectory) (t - s .begin)
 
-all-map : {A : Type 0} (P Q : A → Type 0) → ((x : A) → P x → Q x) → (xs : List A) → All P xs → All Q xs
+pub all-map : {A : Type 0} (P Q : A → Type 0) → ((x : A) → P x → Q x) → (xs : List A) → All P xs → All Q xs
 all-map P Q f [] a = tt
 all-map P Q f (x ∷ xs) a = (f x (a .0), all-map P Q f xs (a .1))
 
