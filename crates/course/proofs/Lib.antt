@@ -7,5 +7,6 @@ pub mod Pieces
 pub mod Bounds
 pub mod Exact
 pub mod Between
+pub mod Count
 pub mod Worked
 pub mod Oracle

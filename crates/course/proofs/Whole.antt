@@ -14,7 +14,7 @@ use Rattle.segments.specs.Segments.{Valid, recorded, wholeWay}
 use Rattle.level.specs.Choice.{pick}
 use Rattle.records.specs.declared.Trigger.{Trigger}
 use Rattle.course.specs.Lists.{Rates, Lists}
-use Rattle.course.specs.Course.{Heading, rising, falling, heading, Trajectory, Moment, counting, toward, gap, inUse, passed, breaksInUse, triggers, rateAt, candidates, nextStop, arrived, second, after, rateInForce, stopsFrom, segmentsOf, momentAt, levelAt, rateOn, stops, distance, segments}
+use Rattle.course.specs.Course.{Heading, rising, falling, heading, Trajectory, Moment, counting, toward, gap, inUse, passed, breaksInUse, triggers, rateAt, candidates, nextStop, holdAt, arrived, second, after, rateInForce, stopsFrom, segmentsOf, momentAt, levelAt, rateOn, stops, distance, segments}
 use Rattle.course.proofs.Near.{Past, Short, short-past, gap-some, gap-add, gap-toward, those-length, ahead}
 use Rattle.course.proofs.Ahead.{next-past, next-fewer}
 use Rattle.course.proofs.Rule.{at, segments-more, segments-stuck, segments-none, rule}
@@ -89,7 +89,7 @@ pub record Shaped (l : Lists) : Type 0 where
   pub down : length (l .down .breaks) ≤ 4
   pub deload : length (l .deload .breaks) ≤ 1
 
-counting-length : (f : ℕ → Bool) (gs : List Trigger) → length (counting f gs) ≤ length gs
+pub counting-length : (f : ℕ → Bool) (gs : List Trigger) → length (counting f gs) ≤ length gs
 unfolding counting
 counting-length f gs = those-length _ gs
 
@@ -150,6 +150,17 @@ module _ (h : Heading) (l : Lists) (t : ℕ) where
           | no r ↦ rw (segments-more h l t n v z (omega arith)) (record { some-way = gap-some v (nextStop h l t v) h (x .0); some-rate = omega arith }, valid n (nextStop h l t v) (x .1))
         ]
   ]
+
+  -- never more segments than stops
+  pub segments-fewer : (v : ℕ) (ss : List ℕ) → length (segmentsOf h l t v ss) ≤ length ss
+  unfolding segmentsOf
+  segments-fewer v [] = le-refl 0
+  segments-fewer v (s ∷ ss) = go (eqb (rateAt h l v) 0) (segments-fewer s ss)
+    where
+      go : (b : Bool) → length (segmentsOf h l t s ss) ≤ length ss →
+          length (pick b [] (record { way = gap v s; rate = rateAt h l v; hold = holdAt h l t s } ∷ segmentsOf h l t s ss)) ≤ suc (length ss)
+      go true ih = omega arith
+      go false ih = omega arith
 
   -- where each rate is at least 1: all the way, and as many segments as stops
   module _ (some : (v : ℕ) → 1 ≤ rateAt h l v) where
