@@ -5,13 +5,12 @@ use mathlib.Core.List.{List, [], _∷_, _++_, append-assoc, append-nil}
 use mathlib.Core.Bool.{Bool, true, false}
 use native.Mathlib.Omega.{arith}
 use native.Mathlib.Numerals.{add-one}
-use native.Mathlib.Decide.{le-ind}
 use native.Mathlib.Nat.{pow-succ'}
 use lib.Dec.{ltb}
 use lib.ListN.{length, getD, set, take, drop, length-append, length-drop, length-take, drop-of-length-le}
-use lib.Seq.{drop-drop, drop-cons, take-at, drop-at, set-append-seam, take-all}
+use lib.Seq.{drop-drop, drop-cons, take-suc, take-at, drop-at, set-append-seam, take-all}
 use borrow.Author.Tests.{lt-ltb, le-ltb, ltb-true, ltb-false}
-use Rattle.lines.specs.Text.{digits, decimal, laid}
+use Rattle.lines.specs.Text.{digits, decimal, field, fields, line, fLine, sLine, qLine, eLine, xLine, laid}
 
 by-bool : {P : Type 0} (b : Bool) → (b ≡ true → P) → (b ≡ false → P) → P
 by-bool true t f = t refl
@@ -105,3 +104,67 @@ decimal-width zero v h = omega (arith, low-length v h)
 decimal-width (suc k) v h =
     by-bool (ltb v 10) (λ e. omega (arith, low-length v (ltb-true v 10 e)))
     (λ e. let g : 10 ≤ v = ltb-false v 10 e in omega (arith, high-length v g, decimal-width k (v / 10) (omega (arith, rw (pow-succ' 10 (suc k)) at h))))
+
+-- ---- lines
+-- a line up to its first i numbers
+abbrev pub begun : ℕ → List ℕ → ℕ → List ℕ
+begun letter vs i = letter ∷ fields (take i vs)
+
+fields-snoc : (vs : List ℕ) (v : ℕ) → fields (vs ++ (v ∷ [])) ≡ fields vs ++ field v
+unfolding fields
+fields-snoc [] v = append-nil (field v)
+fields-snoc (x ∷ vs) v = ap (λ (l : List ℕ). field x ++ l) (fields-snoc vs v) ∙ sym (append-assoc (field x) (fields vs) (field v))
+
+pub begun-more : (letter : ℕ) (vs : List ℕ) (i : ℕ) → i < length vs → begun letter vs i ++ field (getD vs i 0) ≡ begun letter vs (i + 1)
+begun-more letter vs i h =
+    ap (λ (l : List ℕ). letter ∷ l) (sym (ap (λ (k : ℕ). fields (take k vs)) (add-one i) ∙ (ap fields (take-suc vs i 0 h) ∙ fields-snoc (take i vs) (getD vs i 0))))
+
+pub begun-length : (letter : ℕ) (vs : List ℕ) (i : ℕ) → i < length vs → length (begun letter vs (i + 1)) ≡ length (begun letter vs i) + length (field (getD vs i 0))
+begun-length letter vs i h = ap length (sym (begun-more letter vs i h)) ∙ simp length-append
+
+pub begun-all : (letter : ℕ) (vs : List ℕ) (i : ℕ) → length vs ≤ i → begun letter vs i ≡ letter ∷ fields vs
+begun-all letter vs i h = ap (λ (l : List ℕ). letter ∷ fields l) (take-all i vs h)
+
+pub line-length : (letter : ℕ) (vs : List ℕ) → length (line letter vs) ≡ length (fields vs) + 2
+unfolding line
+line-length letter vs = simp length-append (omega arith)
+
+-- the first numbers are no longer than all of them
+fields-grow : (vs : List ℕ) (i : ℕ) → length (fields (take i vs)) ≤ length (fields vs)
+unfolding fields
+fields-grow [] zero = omega arith
+fields-grow [] (suc i) = omega arith
+fields-grow (v ∷ vs) zero = omega arith
+fields-grow (v ∷ vs) (suc i) = omega (arith, length-append (field v) (fields (take i vs)), length-append (field v) (fields vs), fields-grow vs i)
+
+-- the line feed has room after the first i numbers, and a number more where one is left
+pub room : (letter : ℕ) (vs : List ℕ) (i : ℕ) → length (begun letter vs i) + 1 ≤ length (line letter vs)
+room letter vs i = omega (arith, fields-grow vs i, line-length letter vs)
+
+pub room-more : (letter : ℕ) (vs : List ℕ) (i : ℕ) → i < length vs → length (begun letter vs i) + length (field (getD vs i 0)) + 1 ≤ length (line letter vs)
+room-more letter vs i h = omega (arith, begun-length letter vs i h, room letter vs (i + 1))
+
+-- ---- widths
+-- a number of 64 bits has at most 20 digits
+pub word-width : (v : ℕ) → v < 2 ^ 64 → length (decimal v) ≤ 20
+word-width v h = decimal-width 19 v (omega arith)
+
+pub f-length : (n fate : ℕ) → length (fLine n fate) ≡ length (decimal n) + length (decimal fate) + 4
+unfolding fLine line fields field
+f-length n fate = simp length-append (omega arith)
+
+pub s-length : (from to enter leave : ℕ) → length (sLine from to enter leave) ≡ length (decimal from) + length (decimal to) + length (decimal enter) + length (decimal leave) + 6
+unfolding sLine line fields field
+s-length from to enter leave = simp length-append (omega arith)
+
+pub q-length : (first last kw : ℕ) → length (qLine first last kw) ≡ length (decimal first) + length (decimal last) + length (decimal kw) + 5
+unfolding qLine line fields field
+q-length first last kw = simp length-append (omega arith)
+
+pub e-length : (level target heat off : ℕ) → length (eLine level target heat off) ≡ length (decimal level) + length (decimal target) + length (decimal heat) + length (decimal off) + 6
+unfolding eLine line fields field
+e-length level target heat off = simp length-append (omega arith)
+
+pub x-length : (n : ℕ) → length (xLine n) ≡ length (decimal n) + 3
+unfolding xLine line fields field
+x-length n = simp length-append (omega arith)
