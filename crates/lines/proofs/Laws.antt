@@ -1,4 +1,4 @@
--- Laws of `decimal` and of `laid`.
+-- Laws of `decimal`, of `laid`, of lines and of their widths.
 use Prim.Native.Nat.{ℕ, zero, suc, _+_, _-_, _/_, _%_, _^_, _<_, _≤_}
 use mathlib.Core.Path.{_≡_, refl, sym, ap, _∙_}
 use mathlib.Core.List.{List, [], _∷_, _++_, append-assoc, append-nil}
@@ -46,6 +46,13 @@ decimal-high v h =
 -- ---- laid
 pub laid-length : (xs o : List ℕ) → length xs ≤ length o → length (laid xs o) ≡ length o
 laid-length xs o h = simp (length-append, length-drop) (omega arith)
+
+-- the bytes laid, and those after them
+pub laid-front : (xs o : List ℕ) → take (length xs) (laid xs o) ≡ xs
+laid-front xs o = take-at xs (drop (length xs) o) (length xs) refl
+
+pub laid-rest : (xs o : List ℕ) → drop (length xs) (laid xs o) ≡ drop (length xs) o
+laid-rest xs o = drop-at xs (drop (length xs) o) (length xs) refl
 
 -- one byte more, after those laid
 pub laid-set : (xs o : List ℕ) (n a : ℕ) → n ≡ length xs → n < length o → set (laid xs o) n a ≡ laid (xs ++ (a ∷ [])) o
@@ -98,13 +105,6 @@ pub over : (o xs : List ℕ) (a : ℕ) → laid (a ∷ xs) (set o 0 a) ≡ laid 
 over [] xs a = refl
 over (x ∷ o) xs a = refl
 
--- a number below 10 to the k has at most k digits
-pub decimal-width : (k v : ℕ) → v < 10 ^ suc k → length (decimal v) ≤ suc k
-decimal-width zero v h = omega (arith, low-length v h)
-decimal-width (suc k) v h =
-    by-bool (ltb v 10) (λ e. omega (arith, low-length v (ltb-true v 10 e)))
-    (λ e. let g : 10 ≤ v = ltb-false v 10 e in omega (arith, high-length v g, decimal-width k (v / 10) (omega (arith, rw (pow-succ' 10 (suc k)) at h))))
-
 -- ---- lines
 -- a line up to its first i numbers
 abbrev pub begun : ℕ → List ℕ → ℕ → List ℕ
@@ -145,6 +145,13 @@ pub room-more : (letter : ℕ) (vs : List ℕ) (i : ℕ) → i < length vs → l
 room-more letter vs i h = omega (arith, begun-length letter vs i h, room letter vs (i + 1))
 
 -- ---- widths
+-- a number below 10 to the k has at most k digits
+pub decimal-width : (k v : ℕ) → v < 10 ^ suc k → length (decimal v) ≤ suc k
+decimal-width zero v h = omega (arith, low-length v h)
+decimal-width (suc k) v h =
+    by-bool (ltb v 10) (λ e. omega (arith, low-length v (ltb-true v 10 e)))
+    (λ e. let g : 10 ≤ v = ltb-false v 10 e in omega (arith, high-length v g, decimal-width k (v / 10) (omega (arith, rw (pow-succ' 10 (suc k)) at h))))
+
 -- a number of 64 bits has at most 20 digits
 pub word-width : (v : ℕ) → v < 2 ^ 64 → length (decimal v) ≤ 20
 word-width v h = decimal-width 19 v (omega arith)
