@@ -7,7 +7,7 @@ use native.Mathlib.Omega.{arith}
 use native.Mathlib.Numerals.{add-one}
 use native.Mathlib.Nat.{pow-succ'}
 use lib.Dec.{ltb}
-use lib.ListN.{length, getD, set, take, drop, length-append, length-drop, length-take, drop-of-length-le}
+use lib.ListN.{length, getD, set, take, drop, length-append, length-drop, length-take, length-set, drop-of-length-le}
 use lib.Seq.{drop-drop, drop-cons, take-suc, take-at, drop-at, set-append-seam, take-all}
 use borrow.Author.Tests.{lt-ltb, le-ltb, ltb-true, ltb-false}
 use Rattle.lines.specs.Text.{digits, decimal, field, fields, line, fLine, sLine, qLine, eLine, xLine, laid}
@@ -97,6 +97,11 @@ high-put v n o p h r en ep = rw (ep, decimal-high v h) (laid-set (decimal (v / 1
 pub part-length : (n : ℕ) (p : List ℕ) → length (take (length p - n) (drop n p)) ≡ length p - n
 part-length n p = simp (length-take, length-drop) (omega arith)
 
+-- past k bytes, the first of them stored just now, there is room for n more
+pub after-first : (o : List ℕ) (a k n : ℕ) → k + n ≤ length o → n ≤ length (take (length (set o 0 a) - k) (drop k (set o 0 a)))
+after-first o a k n h = omega (arith, part-length k (set o 0 a), length-set o 0 a)
+
+-- a line begins with its letter, stored first: it is laid over the store as over what was there before
 pub start : (o : List ℕ) (a : ℕ) → 0 < length o → set o 0 a ≡ laid (a ∷ []) (set o 0 a)
 start [] a h = absurd (omega arith)
 start (x ∷ o) a h = refl
@@ -145,7 +150,10 @@ pub room-more : (letter : ℕ) (vs : List ℕ) (i : ℕ) → i < length vs → l
 room-more letter vs i h = omega (arith, begun-length letter vs i h, room letter vs (i + 1))
 
 -- ---- widths
--- a number below 10 to the k has at most k digits
+pub decimal-some : (v : ℕ) → 1 ≤ length (decimal v)
+decimal-some v = by-bool (ltb v 10) (λ e. omega (arith, low-length v (ltb-true v 10 e))) (λ e. omega (arith, high-length v (ltb-false v 10 e)))
+
+-- a number below 10 to the k + 1 has at most k + 1 digits
 pub decimal-width : (k v : ℕ) → v < 10 ^ suc k → length (decimal v) ≤ suc k
 decimal-width zero v h = omega (arith, low-length v h)
 decimal-width (suc k) v h =
@@ -156,22 +164,39 @@ decimal-width (suc k) v h =
 pub word-width : (v : ℕ) → v < 2 ^ 64 → length (decimal v) ≤ 20
 word-width v h = decimal-width 19 v (omega arith)
 
+-- the width of a line of one to four numbers, and that of each kind of line
+pub line-one : (letter a : ℕ) → length (line letter (a ∷ [])) ≡ length (decimal a) + 3
+unfolding line fields field
+line-one letter a = simp length-append (omega arith)
+
+pub line-two : (letter a b : ℕ) → length (line letter (a ∷ b ∷ [])) ≡ length (decimal a) + length (decimal b) + 4
+unfolding line fields field
+line-two letter a b = simp length-append (omega arith)
+
+pub line-three : (letter a b c : ℕ) → length (line letter (a ∷ b ∷ c ∷ [])) ≡ length (decimal a) + length (decimal b) + length (decimal c) + 5
+unfolding line fields field
+line-three letter a b c = simp length-append (omega arith)
+
+pub line-four : (letter a b c d : ℕ) → length (line letter (a ∷ b ∷ c ∷ d ∷ [])) ≡ length (decimal a) + length (decimal b) + length (decimal c) + length (decimal d) + 6
+unfolding line fields field
+line-four letter a b c d = simp length-append (omega arith)
+
 pub f-length : (n fate : ℕ) → length (fLine n fate) ≡ length (decimal n) + length (decimal fate) + 4
-unfolding fLine line fields field
-f-length n fate = simp length-append (omega arith)
+unfolding fLine
+f-length n fate = line-two 70 n fate
 
 pub s-length : (from to enter leave : ℕ) → length (sLine from to enter leave) ≡ length (decimal from) + length (decimal to) + length (decimal enter) + length (decimal leave) + 6
-unfolding sLine line fields field
-s-length from to enter leave = simp length-append (omega arith)
+unfolding sLine
+s-length from to enter leave = line-four 83 from to enter leave
 
 pub q-length : (first last kw : ℕ) → length (qLine first last kw) ≡ length (decimal first) + length (decimal last) + length (decimal kw) + 5
-unfolding qLine line fields field
-q-length first last kw = simp length-append (omega arith)
+unfolding qLine
+q-length first last kw = line-three 81 first last kw
 
 pub e-length : (level target heat off : ℕ) → length (eLine level target heat off) ≡ length (decimal level) + length (decimal target) + length (decimal heat) + length (decimal off) + 6
-unfolding eLine line fields field
-e-length level target heat off = simp length-append (omega arith)
+unfolding eLine
+e-length level target heat off = line-four 69 level target heat off
 
 pub x-length : (n : ℕ) → length (xLine n) ≡ length (decimal n) + 3
-unfolding xLine line fields field
-x-length n = simp length-append (omega arith)
+unfolding xLine
+x-length n = line-one 88 n

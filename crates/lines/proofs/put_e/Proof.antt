@@ -1,5 +1,7 @@
+use native.Mathlib.Omega.{arith}
 use borrow.Author.Needs.{needs}
 use Rattle.lines.specs.Text.{eLine}
+use Rattle.lines.proofs.Laws.{line-four, e-length}
 use Rattle.lines.proofs.put_e.Statement.{statement}
 use Rattle.lines.proofs.put_e.Tie as tie
 use Rattle.lines.proofs.put_e.Reads as reads
@@ -12,8 +14,9 @@ slice-aggregate-put-line c = search needs
 
 -- src/lib.rt:82:5
 put-line-requires : tie.Need-put-line-requires
-unfolding eLine
-put-line-requires c κs = c .before .before .before .pre
+put-line-requires c κs =
+    let a = c .before .before .before .args in
+    rw line-four (omega (arith, e-length (a .level) (a .target) (a .heat) (a .off)))
 
 -- src/lib.rt:77:1
 same-length : tie.Need-same-length

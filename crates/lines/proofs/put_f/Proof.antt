@@ -1,5 +1,7 @@
+use native.Mathlib.Omega.{arith}
 use borrow.Author.Needs.{needs}
 use Rattle.lines.specs.Text.{fLine}
+use Rattle.lines.proofs.Laws.{line-two, f-length}
 use Rattle.lines.proofs.put_f.Statement.{statement}
 use Rattle.lines.proofs.put_f.Tie as tie
 use Rattle.lines.proofs.put_f.Reads as reads
@@ -12,8 +14,9 @@ slice-aggregate-put-line c = search needs
 
 -- src/lib.rt:55:5
 put-line-requires : tie.Need-put-line-requires
-unfolding fLine
-put-line-requires c κs = c .before .before .before .pre
+put-line-requires c κs =
+    let a = c .before .before .before .args in
+    rw line-two (omega (arith, f-length (a .n) (a .fate)))
 
 -- src/lib.rt:50:1
 same-length : tie.Need-same-length

@@ -1,9 +1,9 @@
 use Prim.Native.Nat.{ℕ, _≤_, _<_, _+_, _-_}
-use mathlib.Core.Path.{_≡_, refl, sym, ap, _∙_}
+use mathlib.Core.Path.{_≡_, refl, ap, _∙_}
 use mathlib.Core.List.{List, [], _∷_, _++_}
 use native.Mathlib.Omega.{arith}
 use borrow.Author.Needs.{needs}
-use lib.ListN.{length, getD, set, take, drop, length-set}
+use lib.ListN.{length, getD, set, length-set}
 use Rattle.lines.specs.Text.{field, fields, line, laid}
 use Rattle.lines.proofs.Laws.{begun, begun-more, begun-length, begun-all, line-length, room, room-more, start, over, laid-part, laid-length, laid-set, part-length}
 use Rattle.lines.proofs.put_line.Statement.{statement}

@@ -1,5 +1,7 @@
+use native.Mathlib.Omega.{arith}
 use borrow.Author.Needs.{needs}
 use Rattle.lines.specs.Text.{qLine}
+use Rattle.lines.proofs.Laws.{line-three, q-length}
 use Rattle.lines.proofs.put_q.Statement.{statement}
 use Rattle.lines.proofs.put_q.Tie as tie
 use Rattle.lines.proofs.put_q.Reads as reads
@@ -12,8 +14,9 @@ slice-aggregate-put-line c = search needs
 
 -- src/lib.rt:73:5
 put-line-requires : tie.Need-put-line-requires
-unfolding qLine
-put-line-requires c κs = c .before .before .before .pre
+put-line-requires c κs =
+    let a = c .before .before .before .args in
+    rw line-three (omega (arith, q-length (a .first) (a .last) (a .kw)))
 
 -- src/lib.rt:68:1
 same-length : tie.Need-same-length

@@ -1,5 +1,7 @@
+use native.Mathlib.Omega.{arith}
 use borrow.Author.Needs.{needs}
 use Rattle.lines.specs.Text.{sLine}
+use Rattle.lines.proofs.Laws.{line-four, s-length}
 use Rattle.lines.proofs.put_s.Statement.{statement}
 use Rattle.lines.proofs.put_s.Tie as tie
 use Rattle.lines.proofs.put_s.Reads as reads
@@ -12,8 +14,9 @@ slice-aggregate-put-line c = search needs
 
 -- src/lib.rt:64:5
 put-line-requires : tie.Need-put-line-requires
-unfolding sLine
-put-line-requires c κs = c .before .before .before .pre
+put-line-requires c κs =
+    let a = c .before .before .before .args in
+    rw line-four (omega (arith, s-length (a .from) (a .to) (a .enter) (a .leave)))
 
 -- src/lib.rt:59:1
 same-length : tie.Need-same-length

@@ -1,5 +1,7 @@
+use native.Mathlib.Omega.{arith}
 use borrow.Author.Needs.{needs}
 use Rattle.lines.specs.Text.{xLine}
+use Rattle.lines.proofs.Laws.{line-one, x-length}
 use Rattle.lines.proofs.put_x.Statement.{statement}
 use Rattle.lines.proofs.put_x.Tie as tie
 use Rattle.lines.proofs.put_x.Reads as reads
@@ -12,8 +14,9 @@ slice-aggregate-put-line c = search needs
 
 -- src/lib.rt:91:5
 put-line-requires : tie.Need-put-line-requires
-unfolding xLine
-put-line-requires c κs = c .before .before .before .pre
+put-line-requires c κs =
+    let a = c .before .before .before .args in
+    rw line-one (omega (arith, x-length (a .n)))
 
 -- src/lib.rt:86:1
 same-length : tie.Need-same-length
