@@ -1,17 +1,16 @@
--- Laws of `decimal` and of `laid`.
+-- Laws of `decimal`, of `laid`, of lines and of their widths.
 use Prim.Native.Nat.{ℕ, zero, suc, _+_, _-_, _/_, _%_, _^_, _<_, _≤_}
 use mathlib.Core.Path.{_≡_, refl, sym, ap, _∙_}
 use mathlib.Core.List.{List, [], _∷_, _++_, append-assoc, append-nil}
 use mathlib.Core.Bool.{Bool, true, false}
 use native.Mathlib.Omega.{arith}
 use native.Mathlib.Numerals.{add-one}
-use native.Mathlib.Decide.{le-ind}
 use native.Mathlib.Nat.{pow-succ'}
 use lib.Dec.{ltb}
-use lib.ListN.{length, getD, set, take, drop, length-append, length-drop, length-take, drop-of-length-le}
-use lib.Seq.{drop-drop, drop-cons, take-at, drop-at, set-append-seam, take-all}
+use lib.ListN.{length, getD, set, take, drop, length-append, length-drop, length-take, length-set, drop-of-length-le}
+use lib.Seq.{drop-drop, drop-cons, take-suc, take-at, drop-at, set-append-seam, take-all}
 use borrow.Author.Tests.{lt-ltb, le-ltb, ltb-true, ltb-false}
-use Rattle.lines.specs.Text.{digits, decimal, laid}
+use Rattle.lines.specs.Text.{digits, decimal, field, fields, line, fLine, sLine, qLine, eLine, xLine, laid}
 
 by-bool : {P : Type 0} (b : Bool) → (b ≡ true → P) → (b ≡ false → P) → P
 by-bool true t f = t refl
@@ -47,6 +46,13 @@ decimal-high v h =
 -- ---- laid
 pub laid-length : (xs o : List ℕ) → length xs ≤ length o → length (laid xs o) ≡ length o
 laid-length xs o h = simp (length-append, length-drop) (omega arith)
+
+-- the bytes laid, and those after them
+pub laid-front : (xs o : List ℕ) → take (length xs) (laid xs o) ≡ xs
+laid-front xs o = take-at xs (drop (length xs) o) (length xs) refl
+
+pub laid-rest : (xs o : List ℕ) → drop (length xs) (laid xs o) ≡ drop (length xs) o
+laid-rest xs o = drop-at xs (drop (length xs) o) (length xs) refl
 
 -- one byte more, after those laid
 pub laid-set : (xs o : List ℕ) (n a : ℕ) → n ≡ length xs → n < length o → set (laid xs o) n a ≡ laid (xs ++ (a ∷ [])) o
@@ -91,6 +97,11 @@ high-put v n o p h r en ep = rw (ep, decimal-high v h) (laid-set (decimal (v / 1
 pub part-length : (n : ℕ) (p : List ℕ) → length (take (length p - n) (drop n p)) ≡ length p - n
 part-length n p = simp (length-take, length-drop) (omega arith)
 
+-- past k bytes, the first of them stored just now, there is room for n more
+pub after-first : (o : List ℕ) (a k n : ℕ) → k + n ≤ length o → n ≤ length (take (length (set o 0 a) - k) (drop k (set o 0 a)))
+after-first o a k n h = omega (arith, part-length k (set o 0 a), length-set o 0 a)
+
+-- a line begins with its letter, stored first: it is laid over the store as over what was there before
 pub start : (o : List ℕ) (a : ℕ) → 0 < length o → set o 0 a ≡ laid (a ∷ []) (set o 0 a)
 start [] a h = absurd (omega arith)
 start (x ∷ o) a h = refl
@@ -99,9 +110,93 @@ pub over : (o xs : List ℕ) (a : ℕ) → laid (a ∷ xs) (set o 0 a) ≡ laid 
 over [] xs a = refl
 over (x ∷ o) xs a = refl
 
--- a number below 10 to the k has at most k digits
+-- ---- lines
+-- a line up to its first i numbers
+abbrev pub begun : ℕ → List ℕ → ℕ → List ℕ
+begun letter vs i = letter ∷ fields (take i vs)
+
+fields-snoc : (vs : List ℕ) (v : ℕ) → fields (vs ++ (v ∷ [])) ≡ fields vs ++ field v
+unfolding fields
+fields-snoc [] v = append-nil (field v)
+fields-snoc (x ∷ vs) v = ap (λ (l : List ℕ). field x ++ l) (fields-snoc vs v) ∙ sym (append-assoc (field x) (fields vs) (field v))
+
+pub begun-more : (letter : ℕ) (vs : List ℕ) (i : ℕ) → i < length vs → begun letter vs i ++ field (getD vs i 0) ≡ begun letter vs (i + 1)
+begun-more letter vs i h =
+    ap (λ (l : List ℕ). letter ∷ l) (sym (ap (λ (k : ℕ). fields (take k vs)) (add-one i) ∙ (ap fields (take-suc vs i 0 h) ∙ fields-snoc (take i vs) (getD vs i 0))))
+
+pub begun-length : (letter : ℕ) (vs : List ℕ) (i : ℕ) → i < length vs → length (begun letter vs (i + 1)) ≡ length (begun letter vs i) + length (field (getD vs i 0))
+begun-length letter vs i h = ap length (sym (begun-more letter vs i h)) ∙ simp length-append
+
+pub begun-all : (letter : ℕ) (vs : List ℕ) (i : ℕ) → length vs ≤ i → begun letter vs i ≡ letter ∷ fields vs
+begun-all letter vs i h = ap (λ (l : List ℕ). letter ∷ fields l) (take-all i vs h)
+
+pub line-length : (letter : ℕ) (vs : List ℕ) → length (line letter vs) ≡ length (fields vs) + 2
+unfolding line
+line-length letter vs = simp length-append (omega arith)
+
+-- the first numbers are no longer than all of them
+fields-grow : (vs : List ℕ) (i : ℕ) → length (fields (take i vs)) ≤ length (fields vs)
+unfolding fields
+fields-grow [] zero = omega arith
+fields-grow [] (suc i) = omega arith
+fields-grow (v ∷ vs) zero = omega arith
+fields-grow (v ∷ vs) (suc i) = omega (arith, length-append (field v) (fields (take i vs)), length-append (field v) (fields vs), fields-grow vs i)
+
+-- the line feed has room after the first i numbers, and a number more where one is left
+pub room : (letter : ℕ) (vs : List ℕ) (i : ℕ) → length (begun letter vs i) + 1 ≤ length (line letter vs)
+room letter vs i = omega (arith, fields-grow vs i, line-length letter vs)
+
+pub room-more : (letter : ℕ) (vs : List ℕ) (i : ℕ) → i < length vs → length (begun letter vs i) + length (field (getD vs i 0)) + 1 ≤ length (line letter vs)
+room-more letter vs i h = omega (arith, begun-length letter vs i h, room letter vs (i + 1))
+
+-- ---- widths
+pub decimal-some : (v : ℕ) → 1 ≤ length (decimal v)
+decimal-some v = by-bool (ltb v 10) (λ e. omega (arith, low-length v (ltb-true v 10 e))) (λ e. omega (arith, high-length v (ltb-false v 10 e)))
+
+-- a number below 10 to the k + 1 has at most k + 1 digits
 pub decimal-width : (k v : ℕ) → v < 10 ^ suc k → length (decimal v) ≤ suc k
 decimal-width zero v h = omega (arith, low-length v h)
 decimal-width (suc k) v h =
     by-bool (ltb v 10) (λ e. omega (arith, low-length v (ltb-true v 10 e)))
     (λ e. let g : 10 ≤ v = ltb-false v 10 e in omega (arith, high-length v g, decimal-width k (v / 10) (omega (arith, rw (pow-succ' 10 (suc k)) at h))))
+
+-- a number of 64 bits has at most 20 digits
+pub word-width : (v : ℕ) → v < 2 ^ 64 → length (decimal v) ≤ 20
+word-width v h = decimal-width 19 v (omega arith)
+
+-- the width of a line of one to four numbers, and that of each kind of line
+pub line-one : (letter a : ℕ) → length (line letter (a ∷ [])) ≡ length (decimal a) + 3
+unfolding line fields field
+line-one letter a = simp length-append (omega arith)
+
+pub line-two : (letter a b : ℕ) → length (line letter (a ∷ b ∷ [])) ≡ length (decimal a) + length (decimal b) + 4
+unfolding line fields field
+line-two letter a b = simp length-append (omega arith)
+
+pub line-three : (letter a b c : ℕ) → length (line letter (a ∷ b ∷ c ∷ [])) ≡ length (decimal a) + length (decimal b) + length (decimal c) + 5
+unfolding line fields field
+line-three letter a b c = simp length-append (omega arith)
+
+pub line-four : (letter a b c d : ℕ) → length (line letter (a ∷ b ∷ c ∷ d ∷ [])) ≡ length (decimal a) + length (decimal b) + length (decimal c) + length (decimal d) + 6
+unfolding line fields field
+line-four letter a b c d = simp length-append (omega arith)
+
+pub f-length : (n fate : ℕ) → length (fLine n fate) ≡ length (decimal n) + length (decimal fate) + 4
+unfolding fLine
+f-length n fate = line-two 70 n fate
+
+pub s-length : (from to enter leave : ℕ) → length (sLine from to enter leave) ≡ length (decimal from) + length (decimal to) + length (decimal enter) + length (decimal leave) + 6
+unfolding sLine
+s-length from to enter leave = line-four 83 from to enter leave
+
+pub q-length : (first last kw : ℕ) → length (qLine first last kw) ≡ length (decimal first) + length (decimal last) + length (decimal kw) + 5
+unfolding qLine
+q-length first last kw = line-three 81 first last kw
+
+pub e-length : (level target heat off : ℕ) → length (eLine level target heat off) ≡ length (decimal level) + length (decimal target) + length (decimal heat) + length (decimal off) + 6
+unfolding eLine
+e-length level target heat off = line-four 69 level target heat off
+
+pub x-length : (n : ℕ) → length (xLine n) ≡ length (decimal n) + 3
+unfolding xLine
+x-length n = line-one 88 n

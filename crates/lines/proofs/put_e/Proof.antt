@@ -1,0 +1,31 @@
+use native.Mathlib.Omega.{arith}
+use borrow.Author.Needs.{needs}
+use Rattle.lines.specs.Text.{eLine}
+use Rattle.lines.proofs.Laws.{line-four, e-length}
+use Rattle.lines.proofs.put_e.Statement.{statement}
+use Rattle.lines.proofs.put_e.Tie as tie
+use Rattle.lines.proofs.put_e.Reads as reads
+use Rattle.lines.proofs.put_e.Lts as lts
+use Rattle.lines.proofs.put_line.Reads as put-line-reads
+
+-- src/lib.rt:82:25
+slice-aggregate-put-line : tie.Need-slice-aggregate-put-line
+slice-aggregate-put-line c = search needs
+
+-- src/lib.rt:82:5
+put-line-requires : tie.Need-put-line-requires
+put-line-requires c κs =
+    let a = c .before .before .before .args in
+    rw line-four (omega (arith, e-length (a .level) (a .target) (a .heat) (a .off)))
+
+-- src/lib.rt:77:1
+same-length : tie.Need-same-length
+same-length c = search needs
+
+-- src/lib.rt:77:1
+returns : tie.Need-returns
+unfolding eLine
+returns c = c .before .before .put-line .ensures
+
+pub put-e-spec : {M : Type 1} → statement M
+put-e-spec = tie.close (tie.spec slice-aggregate-put-line put-line-requires same-length returns)

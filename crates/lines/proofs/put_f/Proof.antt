@@ -1,0 +1,31 @@
+use native.Mathlib.Omega.{arith}
+use borrow.Author.Needs.{needs}
+use Rattle.lines.specs.Text.{fLine}
+use Rattle.lines.proofs.Laws.{line-two, f-length}
+use Rattle.lines.proofs.put_f.Statement.{statement}
+use Rattle.lines.proofs.put_f.Tie as tie
+use Rattle.lines.proofs.put_f.Reads as reads
+use Rattle.lines.proofs.put_f.Lts as lts
+use Rattle.lines.proofs.put_line.Reads as put-line-reads
+
+-- src/lib.rt:55:25
+slice-aggregate-put-line : tie.Need-slice-aggregate-put-line
+slice-aggregate-put-line c = search needs
+
+-- src/lib.rt:55:5
+put-line-requires : tie.Need-put-line-requires
+put-line-requires c κs =
+    let a = c .before .before .before .args in
+    rw line-two (omega (arith, f-length (a .n) (a .fate)))
+
+-- src/lib.rt:50:1
+same-length : tie.Need-same-length
+same-length c = search needs
+
+-- src/lib.rt:50:1
+returns : tie.Need-returns
+unfolding fLine
+returns c = c .before .before .put-line .ensures
+
+pub put-f-spec : {M : Type 1} → statement M
+put-f-spec = tie.close (tie.spec slice-aggregate-put-line put-line-requires same-length returns)

@@ -1,0 +1,31 @@
+use native.Mathlib.Omega.{arith}
+use borrow.Author.Needs.{needs}
+use Rattle.lines.specs.Text.{qLine}
+use Rattle.lines.proofs.Laws.{line-three, q-length}
+use Rattle.lines.proofs.put_q.Statement.{statement}
+use Rattle.lines.proofs.put_q.Tie as tie
+use Rattle.lines.proofs.put_q.Reads as reads
+use Rattle.lines.proofs.put_q.Lts as lts
+use Rattle.lines.proofs.put_line.Reads as put-line-reads
+
+-- src/lib.rt:73:25
+slice-aggregate-put-line : tie.Need-slice-aggregate-put-line
+slice-aggregate-put-line c = search needs
+
+-- src/lib.rt:73:5
+put-line-requires : tie.Need-put-line-requires
+put-line-requires c κs =
+    let a = c .before .before .before .args in
+    rw line-three (omega (arith, q-length (a .first) (a .last) (a .kw)))
+
+-- src/lib.rt:68:1
+same-length : tie.Need-same-length
+same-length c = search needs
+
+-- src/lib.rt:68:1
+returns : tie.Need-returns
+unfolding qLine
+returns c = c .before .before .put-line .ensures
+
+pub put-q-spec : {M : Type 1} → statement M
+put-q-spec = tie.close (tie.spec slice-aggregate-put-line put-line-requires same-length returns)
