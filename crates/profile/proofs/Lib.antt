@@ -7,3 +7,4 @@ pub mod Exact
 pub mod Near
 pub mod Most
 pub mod Found
+pub mod Room
