@@ -16,7 +16,7 @@ use Rattle.lines.proofs.Laws.{low-length, high-length, digits-low, digits-high}
 use Rattle.listing.specs.Listing.{fLines, sLines, runLines, qLines, listing}
 use Rattle.listing.specs.Reader.{longer, parted, linesOf, wordsOf, isByte, allDigits, isDecimal, valueFrom, value, enclosing, inLines, printedAt, firstOf, printedKw}
 
-by-bool : {P : Type 0} (b : Bool) → (b ≡ true → P) → (b ≡ false → P) → P
+pub by-bool : {P : Type 0} (b : Bool) → (b ≡ true → P) → (b ≡ false → P) → P
 by-bool true t f = t refl
 by-bool false t f = f refl
 
