@@ -30,11 +30,11 @@ use Rattle.contract.proofs.Run.{made-after, wrote-are}
 
 -- ---- a closed day that the records rs made
 module _ (d : Day) (rs : List (List ℕ)) (m : Made d rs) (c : d .closed ≡ true) where
-  unit-is : d .unit ≡ unitIn rs
+  pub unit-is : d .unit ≡ unitIn rs
   unfolding unitIn
   unit-is = m .unit (m .opening-unit (m .opened c)) .0
 
-  opening-is : d .opening ≡ openingIn rs
+  pub opening-is : d .opening ≡ openingIn rs
   unfolding openingIn
   opening-is = m .opening (m .opened c) .0
 

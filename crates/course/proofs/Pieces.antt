@@ -262,3 +262,23 @@ module _ (c : Trajectory) where
   pieces-window a n =
       pieces-area (a + n) ∙ area-split (levelAt c) 0 a n ∙ ap (λ x. area (levelAt c) 0 a + area (levelAt c) x n) {x = 0 + a} {y = a} (omega arith)
       ∙ ap (λ x. x + area (levelAt c) a n) (sym (pieces-area a))
+
+-- a piece cut at two seconds x and y within it is straight too, and twice its area is its time by the sum of the levels there
+module _ (f : ℕ → ℕ) (p : Piece) (x y : ℕ) (a : p .from ≤ x) (b : x ≤ y) (c : y ≤ p .to) where
+  moved-on : (k : ℕ) → p .from + (x - p .from + k) ≡ x + k
+  moved-on k = omega arith
+
+  cut-line : (h : Heading) → Line h f p → Line h f (record { from = x; to = y; enter = f x; leave = f y })
+  cut-line rising l = record {
+    rate = l .rate;
+    along = λ i q. omega (arith, l .along (x - p .from) (omega arith), l .along (x - p .from + i) (omega arith), ap f (moved-on i), ap f {x = p .from + (x - p .from)} {y = x} (omega arith));
+    ends = refl;
+  }
+  cut-line falling l = record {
+    rate = l .rate;
+    along = λ i q. omega (arith, l .along (x - p .from) (omega arith), l .along (x - p .from + i) (omega arith), ap f (moved-on i), ap f {x = p .from + (x - p .from)} {y = x} (omega arith));
+    ends = refl;
+  }
+
+  pub piece-cut : (h : Heading) → Line h f p → area f x (y - x) ≡ (y - x) * (f x + f y)
+  piece-cut h l = area-of h f (record { from = x; to = y; enter = f x; leave = f y }) (cut-line h l) b

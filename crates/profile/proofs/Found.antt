@@ -3,6 +3,7 @@
 use mathlib.Core.Path.{_≡_, refl, ap, sym, _∙_}
 use mathlib.Core.List.{List, [], _∷_, map}
 use Prim.Native.Nat.{ℕ, zero, suc, _+_, _*_, _-_, _≤_, _<_}
+use native.Mathlib.Nat.{le-refl}
 use native.Mathlib.Omega.{arith}
 use lib.ListN.{length, getD}
 use Rattle.level.specs.Level.{grains}
@@ -73,7 +74,7 @@ module _ (n : ℕ) (u : UnitData) (o : Opening) (is : List Instruction) where
   module _ (fits : u .capacity ≤ u .maximum) (level : o .level ≤ grains (u .maximum)) (target : o .target ≤ u .maximum) where
     pub found-below : All (Below (u .maximum)) (found paper n u o is .courses)
     unfolding found foundBy
-    found-below = courses-below u fits (opened u o) (validated (1800 * n) (numbered 1 is) .acts) (opened-below u fits o level target)
+    found-below = courses-below u (u .maximum) fits (le-refl (u .maximum)) (opened u o) (validated (1800 * n) (numbered 1 is) .acts) (opened-below u (u .maximum) fits (le-refl (u .maximum)) o level target)
 
     pub levels-below : All (SpanBelow (grains (u .maximum))) spans
     levels-below = spans-below u (1800 * n) (u .maximum) (found paper n u o is .courses) found-below

@@ -3,7 +3,8 @@
 use mathlib.Core.Path.{_≡_, refl, ap, sym, _∙_}
 use mathlib.Core.List.{List, [], _∷_, map}
 use mathlib.Core.Bool.{Bool, true, false, _&&_}
-use Prim.Native.Nat.{ℕ, zero, suc, _+_, _*_, _-_, _/_, min, max, _≤_, _<_}
+use Prim.Native.Nat.{ℕ, zero, suc, _+_, _*_, _-_, _/_, _^_, min, max, _≤_, _<_}
+use native.Mathlib.Nat.{mul-le-mul-right}
 use native.Mathlib.Decide.{decLe}
 use native.Mathlib.Omega.{arith}
 use lib.Dec.{ltb, eqb}
@@ -50,32 +51,33 @@ way-below u begin g off m p q r = record {
   ordered = r;
 }
 
-module _ (u : UnitData) (fits : u .capacity ≤ u .maximum) where
-  setting-below : (now : UnderWay) (i : Instruction) (s : State) (e : Effect) → now .ordered ≤ u .maximum → s .level ≤ grains (u .maximum) →
-      (setting u now i s e .from ≤ grains (u .maximum)) × (setting u now i s e .target ≤ u .maximum) × (setting u now i s e .ordered ≤ u .maximum)
+-- m kW is at least the capacity and the short-term maximum
+module _ (u : UnitData) (m : ℕ) (capacity : u .capacity ≤ m) (maximum : u .maximum ≤ m) where
+  setting-below : (now : UnderWay) (i : Instruction) (s : State) (e : Effect) → now .ordered ≤ m → s .level ≤ grains m →
+      (setting u now i s e .from ≤ grains m) × (setting u now i s e .target ≤ m) × (setting u now i s e .ordered ≤ m)
   unfolding setting mwofTarget syncTarget
   setting-below now i s Trip o v = (omega arith, omega arith, o)
   setting-below now i s Mwof o v = (v, omega arith, omega arith)
-  setting-below now i s Mxon o v = (v, omega arith, o)
+  setting-below now i s Mxon o v = (v, maximum, o)
   setting-below now i s Sync o v = (v, omega arith, omega arith)
   setting-below now i s Mxof o v = (v, o, o)
   setting-below now i s Desy o v = (v, omega arith, o)
   setting-below now i s Fail o v = (v, omega arith, o)
 
-  begun-below : (now : UnderWay) (o : Numbered) (s : State) → now .ordered ≤ u .maximum → s .level ≤ grains (u .maximum) → WayBelow (u .maximum) (begun u now o s)
+  begun-below : (now : UnderWay) (o : Numbered) (s : State) → now .ordered ≤ m → s .level ≤ grains m → WayBelow m (begun u now o s)
   unfolding begun
   begun-below now o s p v =
       let b = setting-below now (o .instruction) s (o .instruction .meaning .effect) p v in
-      way-below u (acting o) (setting u now (o .instruction) s (o .instruction .meaning .effect)) (s .off) (u .maximum) (b .0) (b .1) (b .2)
+      way-below u (acting o) (setting u now (o .instruction) s (o .instruction .meaning .effect)) (s .off) m (b .0) (b .1) (b .2)
 
   -- the level just before lies below where the course does
-  state-below : (now : UnderWay) (t : ℕ) → WayBelow (u .maximum) now → stateAt byRule u now t .level ≤ grains (u .maximum)
+  state-below : (now : UnderWay) (t : ℕ) → WayBelow m now → stateAt byRule u now t .level ≤ grains m
   unfolding stateAt trajectoryOf grains
   state-below now t b =
       let c : Trajectory = trajectoryOf u (now .course) in
-      omega (arith, rule-level c (now .off) (t - now .course .begin), level-below c (grains (u .maximum)) (t - now .course .begin) (b .course .start) (omega (arith, b .course .target)))
+      omega (arith, rule-level c (now .off) (t - now .course .begin), level-below c (grains m) (t - now .course .begin) (b .course .start) (omega (arith, b .course .target)))
 
-  pub courses-below : (now : UnderWay) (os : List Numbered) → WayBelow (u .maximum) now → All (Below (u .maximum)) (map courseOf (follow byRule u now os .courses))
+  pub courses-below : (now : UnderWay) (os : List Numbered) → WayBelow m now → All (Below m) (map courseOf (follow byRule u now os .courses))
   unfolding follow goesOn replaces
   courses-below now [] b = (b .course, tt)
   courses-below now (o ∷ os) b =
@@ -83,17 +85,17 @@ module _ (u : UnitData) (fits : u .capacity ≤ u .maximum) where
       go (idle (o .instruction .meaning .effect) (o .instruction .level) (s .level) (now .maximised)) (courses-below now os b)
       (courses-below (begun u now o s) os (begun-below now o s (b .ordered) (state-below now (acting o) b)))
     where
-      go : (t : Bool) → All (Below (u .maximum)) (map courseOf (follow byRule u now os .courses)) →
-          All (Below (u .maximum)) (map courseOf (follow byRule u (begun u now o (stateAt byRule u now (acting o))) os .courses)) →
+      go : (t : Bool) → All (Below m) (map courseOf (follow byRule u now os .courses)) →
+          All (Below m) (map courseOf (follow byRule u (begun u now o (stateAt byRule u now (acting o))) os .courses)) →
           let f : Followed = elim t [ true ↦ goesOn o (follow byRule u now os) | false ↦ replaces now o (follow byRule u (begun u now o (stateAt byRule u now (acting o))) os) ] in
-          All (Below (u .maximum)) (map courseOf (f .courses))
+          All (Below m) (map courseOf (f .courses))
       go true x y = x
       go false x y = (b .course, y)
 
   -- an opening that meets no refusal 22
-  pub opened-below : (o : Opening) → o .level ≤ grains (u .maximum) → o .target ≤ u .maximum → WayBelow (u .maximum) (opened u o)
+  pub opened-below : (o : Opening) → o .level ≤ grains m → o .target ≤ m → WayBelow m (opened u o)
   unfolding opened
-  opened-below o p q = way-below u 0 _ (o .off) (u .maximum) p q q
+  opened-below o p q = way-below u 0 _ (o .off) m p q q
 
 -- ---- the levels of a day
 abbrev pub SpanBelow : ℕ → Span → Type 0
@@ -135,3 +137,13 @@ rounded-below x m h = omega arith
 pub quantity-below : (m : ℕ) (ss : List Span) → All (SpanBelow (grains m)) ss → (i : ℕ) → rounded (recordedIn ss i) ≤ m
 unfolding recordedIn
 quantity-below m ss b i = rounded-below (recordedTwice ss (1800 * i) 1800) m (recorded-below (grains m) ss b (1800 * i) 1800)
+
+-- twice the recorded area of any day whose figures fit 32 bits, from 0 to any boundary of its n half-hours
+pub sum-below : (m : ℕ) (ss : List Span) → All (SpanBelow (grains m)) ss → (b : ℕ) → recordedTo ss b ≤ 1800 * b * (2 * grains m)
+unfolding recordedTo
+sum-below m ss w b = recorded-below (grains m) ss w 0 (1800 * b)
+
+-- 48 half-hours of levels below 2 ^ 32 kW: below 2 ^ 56 grain-seconds, so that a sum fits 64 bits
+pub sum-fits : (ss : List Span) → All (SpanBelow (grains (2 ^ 32))) ss → (b : ℕ) → b ≤ 48 → recordedTo ss b < 2 ^ 56
+unfolding grains
+sum-fits ss w b h = omega (arith, sum-below (2 ^ 32) ss w b, mul-le-mul-right {m = 1800 * b} {n = 86400} (2 * (60 * 2 ^ 32)) (omega arith))

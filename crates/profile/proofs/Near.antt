@@ -163,7 +163,7 @@ held from to [] c = tt
 held from to (s ∷ ss) c = (
   (omega (arith, c .0), λ g t lo hi. in-here s ss g t hi),
   all-map (λ (r : Span). (s .end ≤ r .begin) × Held ss r) (λ (r : Span). (from ≤ r .begin) × Held (s ∷ ss) r)
-    (λ r h. (omega (arith, h .0, c .1), λ g t lo hi. in-rest s ss g t (omega (arith, h .0)) ∙ h .1 g t lo hi)) ss (held (s .end) to ss (c .2)),
+      (λ r h. (omega (arith, h .0, c .1), λ g t lo hi. in-rest s ss g t (omega (arith, h .0)) ∙ h .1 g t lo hi)) ss (held (s .end) to ss (c .2)),
 )
 
 -- the exact course starts at the level recorded there

@@ -264,4 +264,4 @@ module _ (n : ℕ) (u : UnitData) (o : Opening) (is : List Instruction) where
   found-closing fits level target heat =
       let acts : List Numbered = validated (1800 * n) (numbered 1 is) .acts in
       closing-below u (1800 * n) (u .maximum) (follow byRule u (opened u o) acts .courses)
-      (courses-below u fits (opened u o) acts (opened-below u fits o level target)) (follow-warm byRule u (opened u o) acts (opened-heat u o heat))
+      (courses-below u (u .maximum) fits (le-refl (u .maximum)) (opened u o) acts (opened-below u (u .maximum) fits (le-refl (u .maximum)) o level target)) (follow-warm byRule u (opened u o) acts (opened-heat u o heat))

@@ -21,7 +21,7 @@ use Rattle.profile.proofs.Tiles.{Chain, day-tiles}
 use Rattle.profile.proofs.States.{state-same}
 use Rattle.profile.proofs.Areas.{area-to, area-in}
 
-list-same : (f g : ℕ → ℕ) (a n : ℕ) → ((i : ℕ) → i < a + n → f i ≡ g i) → listFrom f a n ≡ listFrom g a n
+pub list-same : (f g : ℕ → ℕ) (a n : ℕ) → ((i : ℕ) → i < a + n → f i ≡ g i) → listFrom f a n ≡ listFrom g a n
 unfolding listFrom
 list-same f g a zero h = refl
 list-same f g a (suc n) h = λ i. (h a (omega arith)) i ∷ (list-same f g (suc a) n (λ j p. h j (omega arith))) i
