@@ -126,11 +126,9 @@ hold-stops h v ws o (g ∷ gs) =
 
 no-hold : (h : Heading) (l : Lists) (t w : ℕ) → ltb 0 (holding w (triggers h l)) ≡ false → holdAt h l t w ≡ 0
 unfolding holdAt
-no-hold h l t w e = go (eqb w t)
-  where
-    go : (b : Bool) → pick b 0 (holding w (triggers h l)) ≡ 0
-    go true = refl
-    go false = omega (arith, ltb-false 0 (holding w (triggers h l)) e)
+no-hold h l t w e =
+    let z : holding w (triggers h l) ≡ 0 = omega (arith, ltb-false 0 (holding w (triggers h l)) e) in
+    elim (ℕ-discrete w t) [ yes q ↦ rw (eq-eqb w t q) (omega (arith, z)) | no q ↦ rw (ne-eqb w t q) (omega (arith, z)) ]
 
 -- the holds of a course's segments
 module _ (h : Heading) (l : Lists) (t : ℕ) where

@@ -1,3 +1,5 @@
+pub mod Cases
+pub mod Oracle
 pub mod Near
 pub mod Ahead
 pub mod Rule
@@ -8,5 +10,3 @@ pub mod Bounds
 pub mod Exact
 pub mod Between
 pub mod Count
-pub mod Worked
-pub mod Oracle

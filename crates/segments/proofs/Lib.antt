@@ -1,6 +1,6 @@
+pub mod Cases
 pub mod Sums
 pub mod Segments
 pub mod Sandwich
 pub mod Bound
 pub mod Product
-pub mod Worked

@@ -17,6 +17,10 @@ use Rattle.records.specs.Codes.{same}
 use Rattle.validation.specs.declared.Numbered.{Numbered}
 use Rattle.validation.specs.Kept.{effectOf, effectiveOf, numbered, Mark, mark, superseded, group, highest, firstOne, orElse, present, carrying, merged, usedOf, nextTime, usedFrom, used, repeats, syncWithinHour, fromSync, beforeSync, Checked, failed, checkOne, check, acting, overtaken, lateFate, actors, lateMarks, turned, Validated, keptOf, validated, fateAmong, fatesOf}
 
+by-bool : {P : Type 0} (b : Bool) → (b ≡ true → P) → (b ≡ false → P) → P
+by-bool true t f = t refl
+by-bool false t f = f refl
+
 pub numbered-length : (n : ℕ) (is : List Instruction) → length (numbered n is) ≡ length is
 unfolding numbered
 numbered-length n [] = refl
@@ -77,18 +81,10 @@ before-fewer (k ∷ ks) = go (same (effectOf k) Sync) (before-fewer ks)
 
 check-one : (s : Checked) (o : Numbered) → length (checkOne s o .kept) ≤ suc (length (s .kept))
 unfolding checkOne failed
-check-one s o = go (same (effectOf o) Fail) (syncWithinHour (effectiveOf o) (s .kept)) (repeats o (s .kept))
-  where
-    go : (a b c : Bool) →
-        let x : Checked = record { kept = beforeSync (s .kept); marks = mark 5 o ∷ (map (mark 4) (fromSync (s .kept)) ++ s .marks) } in
-        let y : Checked = record { kept = s .kept; marks = mark 5 o ∷ s .marks } in
-        let z : Checked = record { kept = s .kept; marks = mark 3 o ∷ s .marks } in
-        let w : Checked = record { kept = o ∷ s .kept; marks = s .marks } in
-        length (pick a (pick b x y) (pick c z w) .kept) ≤ suc (length (s .kept))
-    go true true c = omega (arith, before-fewer (s .kept))
-    go true false c = omega arith
-    go false b true = omega arith
-    go false b false = omega arith
+check-one s o =
+    by-bool (same (effectOf o) Fail)
+    (λ e. by-bool (syncWithinHour (effectiveOf o) (s .kept)) (λ f. rw (e, f) (omega (arith, before-fewer (s .kept)))) (λ f. rw (e, f) (omega arith)))
+    (λ e. by-bool (repeats o (s .kept)) (λ f. rw (e, f) (omega arith)) (λ f. rw (e, f) (omega arith)))
 
 check-all : (s : Checked) (os : List Numbered) → length (check s os .kept) ≤ length (s .kept) + length os
 unfolding check
@@ -135,18 +131,12 @@ fours (k ∷ ks) = (omega arith, fours ks)
 
 one-digits : (s : Checked) (o : Numbered) → Digits (s .marks) → Digits (checkOne s o .marks)
 unfolding checkOne failed
-one-digits s o d = go (same (effectOf o) Fail) (syncWithinHour (effectiveOf o) (s .kept)) (repeats o (s .kept))
-  where
-    go : (a b c : Bool) →
-        let x : Checked = record { kept = beforeSync (s .kept); marks = mark 5 o ∷ (map (mark 4) (fromSync (s .kept)) ++ s .marks) } in
-        let y : Checked = record { kept = s .kept; marks = mark 5 o ∷ s .marks } in
-        let z : Checked = record { kept = s .kept; marks = mark 3 o ∷ s .marks } in
-        let w : Checked = record { kept = o ∷ s .kept; marks = s .marks } in
-        Digits (pick a (pick b x y) (pick c z w) .marks)
-    go true true c = (omega arith, digits-append (map (mark 4) (fromSync (s .kept))) (s .marks) (fours (fromSync (s .kept))) d)
-    go true false c = (omega arith, d)
-    go false b true = (omega arith, d)
-    go false b false = d
+one-digits s o d =
+    by-bool (same (effectOf o) Fail)
+    (λ e. by-bool (syncWithinHour (effectiveOf o) (s .kept))
+    (λ f. rw (e, f) (omega arith, digits-append (map (mark 4) (fromSync (s .kept))) (s .marks) (fours (fromSync (s .kept))) d))
+    (λ f. rw (e, f) (omega arith, d)))
+    (λ e. by-bool (repeats o (s .kept)) (λ f. rw (e, f) (omega arith, d)) (λ f. rw (e, f) d))
 
 all-digits : (s : Checked) (os : List Numbered) → Digits (s .marks) → Digits (check s os .marks)
 unfolding check
