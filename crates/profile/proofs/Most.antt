@@ -23,8 +23,10 @@ use Rattle.course.proofs.Between.{level-below}
 use Rattle.validation.specs.declared.Numbered.{Numbered}
 use Rattle.validation.specs.Kept.{acting}
 use Rattle.profile.specs.declared.UnderWay.{UnderWay}
-use Rattle.profile.specs.State.{State, byRule}
-use Rattle.profile.specs.Effects.{Setting, setting, mwofTarget, syncTarget, stepped, courseFrom, underWay, opened, begun, idle, Followed, goesOn, replaces, stateAt, follow}
+use Rattle.profile.specs.declared.State.{State}
+use Rattle.profile.specs.State.{byRule}
+use Rattle.profile.specs.declared.Setting.{Setting}
+use Rattle.profile.specs.Effects.{setting, mwofTarget, syncTarget, stepped, courseFrom, underWay, opened, begun, idle, Followed, goesOn, replaces, stateAt, follow}
 use Rattle.profile.specs.Profile.{Span, beginOf, spansOf, inForce, levelStarting, levelEnding, recordedTwice, recordedTo, recordedIn, rounded, courseOf}
 use Rattle.profile.proofs.States.{rule-level}
 use Rattle.profile.proofs.Areas.{in-here, in-rest}

@@ -33,8 +33,10 @@ use Rattle.validation.specs.Kept.{Mark, mark, Validated, numbered, validated, f
 use Rattle.validation.proofs.Few.{numbered-length, acts-few, Digits, digits-append, marks-digits, fates-digits, fates-length}
 use Rattle.profile.specs.declared.UnderWay.{UnderWay}
 use Rattle.profile.specs.declared.Closing.{Closing}
-use Rattle.profile.specs.State.{State, held, watch, watchNext, byRule}
-use Rattle.profile.specs.Effects.{Setting, setting, heatBy, courseFrom, underWay, opened, begun, idle, Followed, goesOn, replaces, stateAt, follow}
+use Rattle.profile.specs.declared.State.{State}
+use Rattle.profile.specs.State.{held, watch, watchNext, byRule}
+use Rattle.profile.specs.declared.Setting.{Setting}
+use Rattle.profile.specs.Effects.{setting, heatBy, courseFrom, underWay, opened, begun, idle, Followed, goesOn, replaces, stateAt, follow}
 use Rattle.profile.specs.Profile.{Span, beginOf, spansOf, dayPieces, courseOf, closingBy, closingOf, Found, foundBy, found, paper}
 use Rattle.profile.proofs.Tiles.{Chain}
 use Rattle.profile.proofs.States.{rule-level}

@@ -16,7 +16,8 @@ use Rattle.segments.proofs.Segments.{seconds-low, seconds-high, recorded-mono, 
 use Rattle.level.specs.Choice.{pick}
 use Rattle.course.specs.Course.{Trajectory, Moment, heading, toward, gap, second, after, momentAt, levelAt, segments, distance}
 use Rattle.course.proofs.Whole.{level-segments, level-up, level-down, ways-within, segments-valid}
-use Rattle.profile.specs.State.{held, Watch, watchNext, watch, State, byRule, arrival, stateOn, bySegments}
+use Rattle.profile.specs.declared.State.{State}
+use Rattle.profile.specs.State.{held, Watch, watchNext, watch, byRule, arrival, stateOn, bySegments}
 
 seconds-some : (l : Segment) → 1 ≤ l .way → 1 ≤ l .rate → 1 ≤ seconds l
 seconds-some l w r = elim (decLe 1 (seconds l)) [

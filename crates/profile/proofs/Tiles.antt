@@ -14,7 +14,7 @@ use Rattle.validation.specs.declared.Numbered.{Numbered}
 use Rattle.validation.specs.Kept.{acting, validated}
 use Rattle.validation.proofs.Acting.{Rises, acting-rise}
 use Rattle.profile.specs.declared.UnderWay.{UnderWay}
-use Rattle.profile.specs.State.{State}
+use Rattle.profile.specs.declared.State.{State}
 use Rattle.profile.specs.Effects.{Followed, goesOn, replaces, idle, underWay, courseFrom, begun, opened, stateAt, follow}
 use Rattle.profile.specs.Profile.{Span, beginOf, spansOf, courseOf}
 

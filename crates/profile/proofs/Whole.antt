@@ -14,7 +14,8 @@ use Rattle.course.specs.Course.{trajectoryOf}
 use Rattle.validation.specs.declared.Numbered.{Numbered}
 use Rattle.validation.specs.Kept.{Validated, acting, numbered, validated, fatesOf}
 use Rattle.profile.specs.declared.UnderWay.{UnderWay}
-use Rattle.profile.specs.State.{State, byRule, bySegments}
+use Rattle.profile.specs.declared.State.{State}
+use Rattle.profile.specs.State.{byRule, bySegments}
 use Rattle.profile.specs.Effects.{Followed, opened, begun, idle, goesOn, replaces, stateAt, follow}
 use Rattle.profile.specs.Profile.{Span, spansOf, rounded, recordedTo, recordedIn, twinTo, twinIn, closingBy, closingOf, courseOf, Found, foundBy, found, paper, twin}
 use Rattle.profile.proofs.Tiles.{Chain, day-tiles}

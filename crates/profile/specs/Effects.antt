@@ -18,7 +18,8 @@ use Rattle.course.specs.Course.{Trajectory, trajectoryOf}
 use Rattle.validation.specs.declared.Numbered.{Numbered}
 use Rattle.validation.specs.Kept.{Mark, mark, acting}
 use Rattle.profile.specs.declared.UnderWay.{UnderWay}
-use Rattle.profile.specs.State.{State}
+use Rattle.profile.specs.declared.State.{State}
+use Rattle.profile.specs.declared.Setting.{Setting}
 
 -- "Fate 7, and the course under way goes on: at level 0, MWOF(0), DESY, TRIP, MXON; above 0, SYNC; MXON while maximised; MXOF when not".
 -- x is the instruction's level, v the level just before, m whether the unit is maximised. (FAIL never acts.)
@@ -34,17 +35,6 @@ idle Fail x v m = true
 -- "column by seconds off: hot up to the hot boundary, else warm up to the warm one, else cold"
 unfoldable pub heatBy : UnitData → ℕ → ℕ
 heatBy u off = pick (leb off (60 * u .hot)) 1 (pick (leb off (60 * u .warm)) 2 3)
-
--- what a fate-0 instruction sets: the level it starts from (grains), the target (kW), heat, the rates that replace all five of
--- their kind (0 for none), whether it maximises, and the target that MXOF goes back to
-pub record Setting : Type 0 where
-  pub from : ℕ
-  pub target : ℕ
-  pub heat : ℕ
-  pub up : ℕ
-  pub down : ℕ
-  pub maximised : Bool
-  pub ordered : ℕ
 
 -- on the unit u, with the course now under way, of the instruction i, read with s
 module _ (u : UnitData) (now : UnderWay) (i : Instruction) (s : State) where

@@ -16,7 +16,8 @@ use Rattle.validation.specs.declared.Numbered.{Numbered}
 use Rattle.validation.specs.Kept.{Mark, Validated, numbered, validated, fatesOf}
 use Rattle.profile.specs.declared.UnderWay.{UnderWay}
 use Rattle.profile.specs.declared.Closing.{Closing}
-use Rattle.profile.specs.State.{State, byRule, bySegments}
+use Rattle.profile.specs.declared.State.{State}
+use Rattle.profile.specs.State.{byRule, bySegments}
 use Rattle.profile.specs.Effects.{Followed, opened, follow, stateAt}
 
 -- "A course lasts from its acting second (the opening's from 0) to that of the next fate-0 instruction, else to the day's end"

@@ -7,12 +7,8 @@ use lib.Dec.{eqb}
 use Rattle.level.specs.Choice.{pick}
 use Rattle.segments.specs.declared.Segment.{Segment}
 use Rattle.segments.specs.Segments.{seconds, recorded}
+use Rattle.profile.specs.declared.State.{State}
 use Rattle.course.specs.Course.{Trajectory, Moment, heading, toward, second, segments}
-
--- what an instruction is read with: the level (grains) just before, and the seconds off
-pub record State : Type 0 where
-  pub level : ℕ
-  pub off : ℕ
 
 -- ".. held at 10,000,000"
 unfoldable pub held : ℕ → ℕ
