@@ -1,4 +1,10 @@
 // Records: what they hold, the answers that they get, and what a code means.
+ghost use mathlib.Core.Path.{_≡_};
+ghost use Prim.Native.Nat.{ℕ, _+_, _*_, _<_, _≤_, _^_};
+ghost use lib.ListN.{getD};
+ghost use Rattle.records.specs.Answers.{refusalNumber, numberOf};
+ghost use Rattle.records.specs.Codes.{meaningOf, codeNumber, same};
+ghost use Rattle.records.specs.Records.{sizeOf, numberAt, numbers};
 
 // A soak or dwell trigger: a level in kW, and the minutes that the unit holds there. 0 minutes: no hold.
 pub struct Trigger {
@@ -109,4 +115,159 @@ pub enum Refusal {
 pub enum Answer {
     Accepted,
     Refused(Refusal),
+}
+
+// The paper's number of a refusal.
+pub fn refusal_number(r: Refusal) -> u8
+    ensures { λ n. ⌜ n ≡ refusalNumber r ⌝ }
+{
+    match r {
+        Refusal::UnknownKind => 1,
+        Refusal::TooFewBytes => 2,
+        Refusal::UnitField => 3,
+        Refusal::UnitDisagrees => 4,
+        Refusal::OpeningField => 5,
+        Refusal::CodeField => 6,
+        Refusal::EffectiveTime => 7,
+        Refusal::IssueTime => 8,
+        Refusal::LevelOrRates => 9,
+        Refusal::SecondOne => 20,
+        Refusal::BeforeUnit => 21,
+        Refusal::OpeningTooHigh => 22,
+        Refusal::TooManyInstructions => 23,
+        Refusal::AfterClose => 24,
+        Refusal::NotReady => 25,
+        Refusal::SliceTooShort => 26,
+        Refusal::QuantityTooHigh => 27,
+    }
+}
+
+// The paper's number of an answer: 0 for an acceptance.
+pub fn answer_number(a: Answer) -> u8
+    ensures { λ n. ⌜ n ≡ numberOf a ⌝ }
+{
+    match a {
+        Answer::Accepted => 0,
+        Answer::Refused(r) => refusal_number(r),
+    }
+}
+
+// Lag, rank and effect of a code byte.
+pub fn decode(code: u8) -> Coded
+    ensures { λ r. ⌜ r ≡ meaningOf code ⌝ }
+{
+    match code {
+        1 => Coded::Means(Meaning {
+            lag: 0,
+            rank: 1,
+            effect: Effect::Trip,
+        }),
+        2 => Coded::Means(Meaning {
+            lag: 120,
+            rank: 2,
+            effect: Effect::Mwof,
+        }),
+        3 => Coded::Means(Meaning {
+            lag: 120,
+            rank: 3,
+            effect: Effect::Mxon,
+        }),
+        4 => Coded::Means(Meaning {
+            lag: 0,
+            rank: 4,
+            effect: Effect::Sync,
+        }),
+        5 => Coded::Means(Meaning {
+            lag: 120,
+            rank: 5,
+            effect: Effect::Mxof,
+        }),
+        6 => Coded::Means(Meaning {
+            lag: 120,
+            rank: 6,
+            effect: Effect::Desy,
+        }),
+        7 => Coded::Means(Meaning {
+            lag: 0,
+            rank: 7,
+            effect: Effect::Fail,
+        }),
+        _ => Coded::Unknown,
+    }
+}
+
+// The paper's number of a code.
+pub fn code_number(e: Effect) -> u8
+    ensures { λ n. ⌜ n ≡ codeNumber e ⌝ }
+{
+    match e {
+        Effect::Trip => 1,
+        Effect::Mwof => 2,
+        Effect::Mxon => 3,
+        Effect::Sync => 4,
+        Effect::Mxof => 5,
+        Effect::Desy => 6,
+        Effect::Fail => 7,
+    }
+}
+
+// Whether two are the same code.
+pub fn same_effect(a: Effect, b: Effect) -> bool
+    ensures { λ r. ⌜ r ≡ same a b ⌝ }
+{
+    code_number(a) == code_number(b)
+}
+
+// The bytes of a record of a kind, with the byte of kind.
+pub fn size_of(kind: u8) -> usize
+    ensures { λ n. ⌜ n ≡ sizeOf kind ⌝ }
+{
+    match kind {
+        1 => 249,
+        2 => 17,
+        3 => 22,
+        _ => 1,
+    }
+}
+
+// The byte at a place; 0 past the end.
+fn byte(s: &[u8], at: usize) -> u8
+    ensures { λ r. ⌜ r ≡ getD (now (s .entry)) at 0 ⌝ }
+{
+    if at < s.len() {
+        return s[at];
+    }
+    0
+}
+
+// A byte as a wider number.
+fn wide(x: u8) -> u32
+    ensures { λ r. ⌜ (r ≡ x) × (r < 256) ⌝ }
+{
+    x as u32
+}
+
+// The number whose four bytes begin at a place.
+pub fn number(body: &[u8], at: usize) -> u32
+    requires { ⌜ at < 2 ^ 32 ⌝ }
+    ensures { λ r. ⌜ r ≡ numberAt (now (body .entry)) at ⌝ }
+{
+    let a = wide(byte(body, at));
+    let b = wide(byte(body, at + 1));
+    let c = wide(byte(body, at + 2));
+    let d = wide(byte(body, at + 3));
+    a * 16777216 + b * 65536 + c * 256 + d
+}
+
+// The 62 numbers of a unit's body.
+pub fn unit_numbers(body: &[u8]) -> [u32; 62]
+    ensures { λ r. ⌜ r ≡ numbers (now (body .entry)) 62 ⌝ }
+{
+    let mut out = [0u32; 62];
+    let mut i: usize = 0;
+    while i < 62 {
+        out[i] = number(body, i * 4);
+        i += 1;
+    }
+    out
 }
