@@ -1,10 +1,11 @@
 // Records: what they hold, the answers that they get, and what a code means.
 ghost use mathlib.Core.Path.{_≡_};
 ghost use Prim.Native.Nat.{ℕ, _+_, _*_, _<_, _≤_, _^_};
+ghost use mathlib.Core.List.{[], _∷_};
 ghost use lib.ListN.{getD};
 ghost use Rattle.records.specs.Answers.{refusalNumber, numberOf};
-ghost use Rattle.records.specs.Codes.{meaningOf, codeNumber, same};
-ghost use Rattle.records.specs.Records.{sizeOf, numberAt, numbers};
+ghost use Rattle.records.specs.Codes.{meaningOf, meaningIn, codeNumber, same};
+ghost use Rattle.records.specs.Records.{sizeOf, numberAt, numbers, triggerOf, columnOf, unitOf, openingOf, issueOf, instructionOf};
 
 // A soak or dwell trigger: a level in kW, and the minutes that the unit holds there. 0 minutes: no hold.
 pub struct Trigger {
@@ -270,4 +271,134 @@ pub fn unit_numbers(body: &[u8]) -> [u32; 62]
         i += 1;
     }
     out
+}
+
+// The trigger whose level and minutes stand at these places.
+fn trigger_of(ns: [u32; 62], at: usize, minutes: usize) -> Trigger
+    requires { ⌜ (at < 62) × (minutes < 62) ⌝ }
+    ensures { λ r. ⌜ r ≡ triggerOf ns at minutes ⌝ }
+{
+    Trigger {
+        level: ns[at],
+        minutes: ns[minutes],
+    }
+}
+
+// The start-up column whose ten numbers begin at a place.
+fn column_of(ns: [u32; 62], at: usize) -> Column
+    requires { ⌜ at + 10 ≤ 62 ⌝ }
+    ensures { λ r. ⌜ r ≡ columnOf ns at ⌝ }
+{
+    let rates = [ns[at + 1], ns[at + 2], ns[at + 3]];
+    let breaks = [ns[at + 4], ns[at + 5]];
+    let first = trigger_of(ns, at + 6, at + 8);
+    let second = trigger_of(ns, at + 7, at + 9);
+    let soaks = [first, second];
+    Column {
+        block: ns[at],
+        rates,
+        breaks,
+        soaks,
+    }
+}
+
+// The ramp list whose nine numbers begin at a place.
+fn ramp_of(ns: [u32; 62], at: usize) -> Ramp
+    requires { ⌜ at + 9 ≤ 62 ⌝ }
+    ensures { λ r. ⌜ (r .rates ≡ getD ns at 0 ∷ getD ns (at + 1) 0 ∷ getD ns (at + 2) 0 ∷ getD ns (at + 3) 0 ∷ getD ns (at + 4) 0 ∷ []) × (r .breaks ≡ getD ns (at + 5) 0 ∷ getD ns (at + 6) 0 ∷ getD ns (at + 7) 0 ∷ getD ns (at + 8) 0 ∷ []) ⌝ }
+{
+    let rates = [ns[at], ns[at + 1], ns[at + 2], ns[at + 3], ns[at + 4]];
+    let breaks = [ns[at + 5], ns[at + 6], ns[at + 7], ns[at + 8]];
+    Ramp { rates, breaks }
+}
+
+// The unit of 62 numbers.
+pub fn unit_of(ns: [u32; 62]) -> UnitData
+    ensures { λ r. ⌜ r ≡ unitOf ns ⌝ }
+{
+    let hot = column_of(ns, 5);
+    let warm = column_of(ns, 15);
+    let cold = column_of(ns, 25);
+    let columns = [hot, warm, cold];
+    let up = ramp_of(ns, 35);
+    let first = trigger_of(ns, 44, 47);
+    let second = trigger_of(ns, 45, 48);
+    let third = trigger_of(ns, 46, 49);
+    let dwells = [first, second, third];
+    let down = ramp_of(ns, 50);
+    let rates = [ns[59], ns[60]];
+    let breaks = [ns[61]];
+    let deload = Deload { rates, breaks };
+    UnitData {
+        capacity: ns[0],
+        maximum: ns[1],
+        msg: ns[2],
+        hot: ns[3],
+        warm: ns[4],
+        columns,
+        up,
+        dwells,
+        down,
+        deload,
+    }
+}
+
+// The opening that a body holds.
+pub fn opening_of(body: &[u8]) -> Opening
+    ensures { λ r. ⌜ r ≡ openingOf (now (body .entry)) ⌝ }
+{
+    let grains = number(body, 0) as u64;
+    let level = level::Level { grains };
+    let target = number(body, 4);
+    let heat = number(body, 8);
+    let off = number(body, 12);
+    Opening {
+        level,
+        target,
+        heat,
+        off,
+    }
+}
+
+// A signed issue time as seconds above -604,800.
+fn issue_of(n: u32) -> u32
+    ensures { λ r. ⌜ r ≡ issueOf n ⌝ }
+{
+    let sum = n as u64 + 604800;
+    let seconds = sum % 4294967296;
+    seconds as u32
+}
+
+// What a code byte means; one outside 1 to 7 reads like the last.
+fn meaning_in(coded: Coded) -> Meaning
+    ensures { λ r. ⌜ r ≡ meaningIn coded ⌝ }
+{
+    match coded {
+        Coded::Means(m) => m,
+        Coded::Unknown => Meaning {
+            lag: 0,
+            rank: 7,
+            effect: Effect::Fail,
+        },
+    }
+}
+
+// The instruction that a body holds.
+pub fn instruction_of(body: &[u8]) -> Instruction
+    ensures { λ r. ⌜ r ≡ instructionOf (now (body .entry)) ⌝ }
+{
+    let effective = number(body, 0);
+    let issue = issue_of(number(body, 4));
+    let meaning = meaning_in(decode(byte(body, 8)));
+    let level = number(body, 9);
+    let up = number(body, 13);
+    let down = number(body, 17);
+    Instruction {
+        effective,
+        issue,
+        meaning,
+        level,
+        up,
+        down,
+    }
 }

@@ -1,0 +1,79 @@
+use Rattle.records.specs.Records.{issueOf, instructionOf}
+use Rattle.records.specs.Codes.{meaningOf, meaningIn}
+use mathlib.Core.Path.{ap, _∙_}
+use borrow.Author.Needs.{needs}
+use Rattle.records.proofs.instruction_of.Statement.{statement}
+use Rattle.records.proofs.instruction_of.Tie as tie
+use Rattle.records.proofs.instruction_of.Reads as reads
+use Rattle.records.proofs.instruction_of.Lts as lts
+use Rattle.records.proofs.byte.Reads as byte-reads
+use Rattle.records.proofs.decode.Reads as decode-reads
+use Rattle.records.proofs.issue_of.Reads as issue-of-reads
+use Rattle.records.proofs.meaning_in.Reads as meaning-in-reads
+use Rattle.records.proofs.number.Reads as number-reads
+
+-- src/lib.rt:390:9
+number-requires : tie.Need-number-requires
+number-requires c κs = search needs
+
+-- src/lib.rt:391:26
+number-requires-2 : tie.Need-number-requires-2
+number-requires-2 c κs = search needs
+
+-- src/lib.rt:391:9
+issue-of-requires : tie.Need-issue-of-requires
+issue-of-requires c κs = search needs
+
+-- src/lib.rt:392:37
+byte-requires : tie.Need-byte-requires
+byte-requires c κs = search needs
+
+-- src/lib.rt:392:30
+decode-requires : tie.Need-decode-requires
+decode-requires c κs = search needs
+
+-- src/lib.rt:392:9
+meaning-in-requires : tie.Need-meaning-in-requires
+meaning-in-requires c κs = search needs
+
+-- src/lib.rt:393:9
+number-requires-3 : tie.Need-number-requires-3
+number-requires-3 c κs = search needs
+
+-- src/lib.rt:394:9
+number-requires-4 : tie.Need-number-requires-4
+number-requires-4 c κs = search needs
+
+-- src/lib.rt:395:9
+number-requires-5 : tie.Need-number-requires-5
+number-requires-5 c κs = search needs
+
+-- src/lib.rt:387:1
+returns : tie.Need-returns
+unfolding instructionOf
+returns c =
+    let issue = c .before .before .before .before .before .before .issue-of .ensures ∙ ap issueOf (c .before .before .before .before .before .before .before .number2 .ensures) in
+    let meaning = c .before .before .before .meaning-in .ensures ∙ ap meaningIn (c .before .before .before .before .decode .ensures ∙ ap meaningOf (c .before .before .before .before .before .byte .ensures)) in
+    λ i. record {
+      effective = (c .before .before .before .before .before .before .before .before .number .ensures) i;
+      issue = issue i;
+      meaning = meaning i;
+      level = (c .before .before .number3 .ensures) i;
+      up = (c .before .number4 .ensures) i;
+      down = (c .number5 .ensures) i;
+    }
+
+pub instruction-of-spec : {M : Type 1} → statement M
+instruction-of-spec =
+    tie.close
+    (tie.spec
+    number-requires
+    number-requires-2
+    issue-of-requires
+    byte-requires
+    decode-requires
+    meaning-in-requires
+    number-requires-3
+    number-requires-4
+    number-requires-5
+    returns)

@@ -1,0 +1,23 @@
+use mathlib.Core.Path.{refl}
+use Rattle.records.specs.Records.{issueOf}
+use borrow.Author.Needs.{needs}
+use Rattle.records.proofs.issue_of.Statement.{statement}
+use Rattle.records.proofs.issue_of.Tie as tie
+use Rattle.records.proofs.issue_of.Reads as reads
+use Rattle.records.proofs.issue_of.Lts as lts
+
+-- src/lib.rt:367:15
+add-sum : tie.Need-add-sum
+add-sum c = search needs
+
+-- src/lib.rt:369:5
+cast-result : tie.Need-cast-result
+cast-result c = search needs
+
+-- src/lib.rt:364:1
+returns : tie.Need-returns
+unfolding issueOf
+returns c = refl
+
+pub issue-of-spec : {M : Type 1} → statement M
+issue-of-spec = tie.close (tie.spec add-sum cast-result returns)
