@@ -2,9 +2,12 @@
 ghost use mathlib.Core.Path.{_≡_};
 ghost use Prim.Native.Nat.{ℕ, _+_, _*_, _<_, _≤_, _^_};
 ghost use mathlib.Core.List.{[], _∷_};
+ghost use lib.Dec.{ltb};
 ghost use lib.ListN.{getD};
+ghost use Rattle.level.specs.Lists.{some};
 ghost use Rattle.records.specs.Answers.{refusalNumber, numberOf};
-ghost use Rattle.records.specs.Codes.{meaningOf, meaningIn, codeNumber, same};
+ghost use Rattle.records.specs.Codes.{meaningOf, meaningIn, isUnknown, codeNumber, same};
+ghost use Rattle.records.specs.Fields.{inRange, unitRanges, fitFrom, falls, disagrees, unitAnswer, openingFits, openingAnswer, figuresFit, instructionAnswer};
 ghost use Rattle.records.specs.Records.{sizeOf, numberAt, numbers, triggerOf, columnOf, unitOf, openingOf, issueOf, instructionOf};
 
 // A soak or dwell trigger: a level in kW, and the minutes that the unit holds there. 0 minutes: no hold.
@@ -401,4 +404,301 @@ pub fn instruction_of(body: &[u8]) -> Instruction
         up,
         down,
     }
+}
+
+// The lowest that each of a unit's 62 numbers may be.
+const LOWS: [u32; 62] = [
+    1,
+    1,
+    1,
+    0,
+    0,
+    0,
+    1,
+    1,
+    1,
+    0,
+    0,
+    0,
+    0,
+    0,
+    0,
+    0,
+    1,
+    1,
+    1,
+    0,
+    0,
+    0,
+    0,
+    0,
+    0,
+    0,
+    1,
+    1,
+    1,
+    0,
+    0,
+    0,
+    0,
+    0,
+    0,
+    1,
+    1,
+    1,
+    1,
+    1,
+    0,
+    0,
+    0,
+    0,
+    0,
+    0,
+    0,
+    0,
+    0,
+    0,
+    1,
+    1,
+    1,
+    1,
+    1,
+    0,
+    0,
+    0,
+    0,
+    1,
+    1,
+    0,
+];
+
+// The highest that each may be.
+const HIGHS: [u32; 62] = [
+    2000000,
+    2000000,
+    2000000,
+    100000,
+    100000,
+    2000000,
+    200000,
+    200000,
+    200000,
+    2000000,
+    2000000,
+    2000000,
+    2000000,
+    1440,
+    1440,
+    2000000,
+    200000,
+    200000,
+    200000,
+    2000000,
+    2000000,
+    2000000,
+    2000000,
+    1440,
+    1440,
+    2000000,
+    200000,
+    200000,
+    200000,
+    2000000,
+    2000000,
+    2000000,
+    2000000,
+    1440,
+    1440,
+    200000,
+    200000,
+    200000,
+    200000,
+    200000,
+    2000000,
+    2000000,
+    2000000,
+    2000000,
+    2000000,
+    2000000,
+    2000000,
+    1440,
+    1440,
+    1440,
+    200000,
+    200000,
+    200000,
+    200000,
+    200000,
+    2000000,
+    2000000,
+    2000000,
+    2000000,
+    200000,
+    200000,
+    2000000,
+];
+
+// All 62 numbers lie in their ranges.
+fn all_fit(ns: [u32; 62]) -> bool
+    ensures { λ r. ⌜ r ≡ fitFrom unitRanges ns 0 ⌝ }
+{
+    let mut i: usize = 0;
+    while i < 62 {
+        let v = ns[i];
+        let low = LOWS[i];
+        let high = HIGHS[i];
+        if v < low {
+            return false;
+        }
+        if high < v {
+            return false;
+        }
+        i += 1;
+    }
+    true
+}
+
+// A break lies below the one before it.
+fn breaks_fall(breaks: &[u32]) -> bool
+    ensures { λ r. ⌜ r ≡ falls (now (breaks .entry)) ⌝ }
+{
+    let mut before: u32 = 0;
+    let mut i: usize = 0;
+    while i < breaks.len() {
+        let here = breaks[i];
+        if here < before {
+            return true;
+        }
+        before = here;
+        i += 1;
+    }
+    false
+}
+
+// A column's breaks fall.
+fn columns_fall(columns: [Column; 3]) -> bool
+    ensures { λ r. ⌜ r ≡ some (λ c. falls (c .breaks)) columns ⌝ }
+{
+    let hot = columns[0];
+    let warm = columns[1];
+    let cold = columns[2];
+    let a = breaks_fall(&hot.breaks);
+    let b = breaks_fall(&warm.breaks);
+    let c = breaks_fall(&cold.breaks);
+    a | (b | c)
+}
+
+// A block load lies above a level.
+fn some_block_above(msg: u32, columns: [Column; 3]) -> bool
+    ensures { λ r. ⌜ r ≡ some (λ c. ltb msg (c .block)) columns ⌝ }
+{
+    let a = msg < columns[0].block;
+    let b = msg < columns[1].block;
+    let c = msg < columns[2].block;
+    a | (b | c)
+}
+
+// A unit's figures disagree.
+fn unit_disagrees(u: UnitData) -> bool
+    ensures { λ r. ⌜ r ≡ disagrees u ⌝ }
+{
+    let columns = u.columns;
+    let up = u.up;
+    let down = u.down;
+    let deload = u.deload;
+    let starting = columns_fall(columns);
+    let rising = breaks_fall(&up.breaks);
+    let falling = breaks_fall(&down.breaks);
+    let unloading = breaks_fall(&deload.breaks);
+    let breaks = starting | (rising | (falling | unloading));
+    let maximum = u.maximum < u.capacity;
+    let msg = u.capacity < u.msg;
+    let block = some_block_above(u.msg, columns);
+    let boundaries = u.warm < u.hot;
+    breaks | (maximum | (msg | (block | boundaries)))
+}
+
+// Refusals 3 and 4, of a unit's 62 numbers.
+pub fn unit_answer(ns: [u32; 62]) -> Answer
+    ensures { λ r. ⌜ r ≡ unitAnswer ns ⌝ }
+{
+    let fit = all_fit(ns);
+    if !fit {
+        return Answer::Refused(Refusal::UnitField);
+    }
+    let u = unit_of(ns);
+    let disagreeing = unit_disagrees(u);
+    if disagreeing {
+        return Answer::Refused(Refusal::UnitDisagrees);
+    }
+    Answer::Accepted
+}
+
+// An opening's fields lie in their ranges.
+fn opening_fits(o: Opening) -> bool
+    ensures { λ r. ⌜ r ≡ openingFits o ⌝ }
+{
+    let level = o.level.grains <= level::Level::LARGEST;
+    let target = o.target <= 2000000;
+    let heat = (1 <= o.heat) & (o.heat <= 3);
+    let off = o.off <= 10000000;
+    level & (target & (heat & off))
+}
+
+// Refusal 5, of an opening's body.
+pub fn opening_answer(body: &[u8]) -> Answer
+    ensures { λ r. ⌜ r ≡ openingAnswer (now (body .entry)) ⌝ }
+{
+    let o = opening_of(body);
+    let fits = opening_fits(o);
+    if fits {
+        return Answer::Accepted;
+    }
+    Answer::Refused(Refusal::OpeningField)
+}
+
+// An instruction's level and rates are what its code allows.
+fn figures_fit(i: Instruction) -> bool
+    ensures { λ r. ⌜ r ≡ figuresFit i ⌝ }
+{
+    let m = i.meaning;
+    let effect = m.effect;
+    let mwof = Effect::Mwof;
+    let carries = same_effect(effect, mwof);
+    if carries {
+        return (i.level <= 2000000) & ((i.up <= 200000) & (i.down <= 200000));
+    }
+    (i.level == 0) & ((i.up == 0) & (i.down == 0))
+}
+
+// A code byte has no meaning.
+fn is_unknown(coded: Coded) -> bool
+    ensures { λ r. ⌜ r ≡ isUnknown coded ⌝ }
+{
+    match coded {
+        Coded::Means(_) => false,
+        Coded::Unknown => true,
+    }
+}
+
+// Refusals 6 to 9, of an instruction's body, in a day of so many seconds.
+pub fn instruction_answer(end: u32, body: &[u8]) -> Answer
+    ensures { λ r. ⌜ r ≡ instructionAnswer end (now (body .entry)) ⌝ }
+{
+    let unknown = is_unknown(decode(byte(body, 8)));
+    if unknown {
+        return Answer::Refused(Refusal::CodeField);
+    }
+    let i = instruction_of(body);
+    if end <= i.effective {
+        return Answer::Refused(Refusal::EffectiveTime);
+    }
+    if 1209600 < i.issue {
+        return Answer::Refused(Refusal::IssueTime);
+    }
+    let fit = figures_fit(i);
+    if fit {
+        return Answer::Accepted;
+    }
+    Answer::Refused(Refusal::LevelOrRates)
 }

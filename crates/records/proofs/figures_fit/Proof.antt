@@ -1,0 +1,23 @@
+use mathlib.Core.Path.{_≡_, refl, sym, ap, _∙_}
+use Rattle.records.proofs.Laws.{figures-mwof, figures-other}
+use borrow.Author.Needs.{needs}
+use Rattle.records.proofs.figures_fit.Statement.{statement}
+use Rattle.records.proofs.figures_fit.Tie as tie
+use Rattle.records.proofs.figures_fit.Reads as reads
+use Rattle.records.proofs.figures_fit.Lts as lts
+use Rattle.records.proofs.same_effect.Reads as same-effect-reads
+
+-- src/lib.rt:667:9
+same-effect-requires : tie.Need-same-effect-requires
+same-effect-requires c κs = search needs
+
+-- src/lib.rt:669:9
+returns : tie.Need-returns
+returns c = figures-mwof (c .before .before .before .before .before .before .args .i) (cc)
+
+-- src/lib.rt:661:1
+returns-2 : tie.Need-returns-2
+returns-2 c = figures-other (c .before .before .before .before .before .before .args .i) (cc)
+
+pub figures-fit-spec : {M : Type 1} → statement M
+figures-fit-spec = tie.close (tie.spec same-effect-requires returns returns-2)

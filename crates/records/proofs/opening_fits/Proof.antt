@@ -1,0 +1,14 @@
+use mathlib.Core.Path.{_≡_, refl, sym, ap, _∙_}
+use Rattle.records.specs.Fields.{openingFits}
+use Rattle.records.proofs.opening_fits.Statement.{statement}
+use Rattle.records.proofs.opening_fits.Tie as tie
+use Rattle.records.proofs.opening_fits.Reads as reads
+use Rattle.records.proofs.opening_fits.Lts as lts
+
+-- src/lib.rt:638:1
+returns : tie.Need-returns
+unfolding openingFits
+returns c = refl
+
+pub opening-fits-spec : {M : Type 1} → statement M
+opening-fits-spec = tie.close (tie.spec returns)
