@@ -5,6 +5,7 @@ ghost use mathlib.Core.List.{[], _∷_};
 ghost use lib.Dec.{ltb};
 ghost use lib.ListN.{getD};
 ghost use Rattle.level.specs.Lists.{some};
+ghost use Rattle.records.specs.declared.Coded.the-variants.{Means};
 ghost use Rattle.records.specs.Answers.{refusalNumber, numberOf};
 ghost use Rattle.records.specs.Codes.{meaningOf, meaningIn, isUnknown, codeNumber, same};
 ghost use Rattle.records.specs.Fields.{inRange, unitRanges, fitFrom, falls, disagrees, unitAnswer, openingFits, openingAnswer, figuresFit, instructionAnswer};
@@ -156,46 +157,25 @@ pub fn answer_number(a: Answer) -> u8
     }
 }
 
+// A code with this lag, rank and effect.
+fn means(lag: u32, rank: u8, effect: Effect) -> Coded
+    ensures { λ r. ⌜ r ≡ Means (record { lag = lag; rank = rank; effect = effect }) ⌝ }
+{
+    Coded::Means(Meaning { lag, rank, effect })
+}
+
 // Lag, rank and effect of a code byte.
 pub fn decode(code: u8) -> Coded
     ensures { λ r. ⌜ r ≡ meaningOf code ⌝ }
 {
     match code {
-        1 => Coded::Means(Meaning {
-            lag: 0,
-            rank: 1,
-            effect: Effect::Trip,
-        }),
-        2 => Coded::Means(Meaning {
-            lag: 120,
-            rank: 2,
-            effect: Effect::Mwof,
-        }),
-        3 => Coded::Means(Meaning {
-            lag: 120,
-            rank: 3,
-            effect: Effect::Mxon,
-        }),
-        4 => Coded::Means(Meaning {
-            lag: 0,
-            rank: 4,
-            effect: Effect::Sync,
-        }),
-        5 => Coded::Means(Meaning {
-            lag: 120,
-            rank: 5,
-            effect: Effect::Mxof,
-        }),
-        6 => Coded::Means(Meaning {
-            lag: 120,
-            rank: 6,
-            effect: Effect::Desy,
-        }),
-        7 => Coded::Means(Meaning {
-            lag: 0,
-            rank: 7,
-            effect: Effect::Fail,
-        }),
+        1 => means(0, 1, Effect::Trip),
+        2 => means(120, 2, Effect::Mwof),
+        3 => means(120, 3, Effect::Mxon),
+        4 => means(0, 4, Effect::Sync),
+        5 => means(120, 5, Effect::Mxof),
+        6 => means(120, 6, Effect::Desy),
+        7 => means(0, 7, Effect::Fail),
         _ => Coded::Unknown,
     }
 }

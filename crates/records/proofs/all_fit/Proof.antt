@@ -16,64 +16,51 @@ Inv-loop ns i₀ i = (i ≤ 62) × (fitFrom (drop i unitRanges) ns i ≡ fitFrom
 abbrev μ-loop : tie.MeasureT-loop
 μ-loop ns i₀ i = 62 - i
 
--- src/lib.rt:546:5
 loop-holds : tie.Need-loop-holds Inv-loop μ-loop
 loop-holds c = (search needs, refl)
 
--- src/lib.rt:547:17
 mul-v : tie.Need-mul-v Inv-loop μ-loop
 mul-v c = omega arith
 
--- src/lib.rt:547:17
 array-read-v : tie.Need-array-read-v Inv-loop μ-loop
 array-read-v c = omega arith
 
--- src/lib.rt:548:19
 mul-low : tie.Need-mul-low Inv-loop μ-loop
 mul-low c = omega arith
 
--- src/lib.rt:548:19
 array-read-low : tie.Need-array-read-low Inv-loop μ-loop
 array-read-low c = omega arith
 
--- src/lib.rt:549:20
 mul-high : tie.Need-mul-high Inv-loop μ-loop
 mul-high c = omega arith
 
--- src/lib.rt:549:20
 array-read-high : tie.Need-array-read-high Inv-loop μ-loop
 array-read-high c = omega arith
 
--- src/lib.rt:551:13
 returns : tie.Need-returns Inv-loop μ-loop
 unfolding lowsOf highsOf unitRanges columnRanges rampRanges aLevel aMaximum aRate aHold aBoundary
 returns c =
     let l = c .before .before .loop in
     sym (fit-below unitRanges (c .before .before .before .args .t1) (l .i) (omega arith) (c .if1 .taken)) ∙ l .inv .1
 
--- src/lib.rt:554:13
 returns-2 : tie.Need-returns-2 Inv-loop μ-loop
 unfolding lowsOf highsOf unitRanges columnRanges rampRanges aLevel aMaximum aRate aHold aBoundary
 returns-2 c =
     let l = c .before .before .before .loop in
     sym (fit-above unitRanges (c .before .before .before .before .args .t1) (l .i) (omega arith) (c .before .if1 .left) (c .if2 .taken)) ∙ l .inv .1
 
--- src/lib.rt:556:9
 add-i : tie.Need-add-i Inv-loop μ-loop
 add-i c = omega arith
 
--- src/lib.rt:546:5
 loop-less : tie.Need-loop-less Inv-loop μ-loop
 loop-less c = omega arith
 
--- src/lib.rt:546:5
 loop-again : tie.Need-loop-again Inv-loop μ-loop
 unfolding lowsOf highsOf unitRanges columnRanges rampRanges aLevel aMaximum aRate aHold aBoundary
 loop-again c =
     let l = c .before .before .before .loop in
     (omega arith, sym (fit-next unitRanges (c .before .before .before .before .args .t1) (l .i) (omega arith) (c .before .if1 .left) (c .if2 .left)) ∙ l .inv .1)
 
--- src/lib.rt:542:1
 returns-3 : tie.Need-returns-3 Inv-loop μ-loop
 unfolding lowsOf highsOf unitRanges columnRanges rampRanges aLevel aMaximum aRate aHold aBoundary fitFrom
 returns-3 c =

@@ -16,40 +16,32 @@ Inv-loop breaks before₀ i₀ before i = (i ≤ length breaks) × (fallsBelow b
 abbrev μ-loop : tie.MeasureT-loop
 μ-loop breaks before₀ i₀ before i = length breaks - i
 
--- src/lib.rt:567:5
 loop-holds : tie.Need-loop-holds Inv-loop μ-loop
 unfolding falls
 loop-holds c = (search needs, refl)
 
--- src/lib.rt:568:20
 mul-here : tie.Need-mul-here Inv-loop μ-loop
 mul-here c = omega arith
 
--- src/lib.rt:568:20
 shared-slice-read-here : tie.Need-shared-slice-read-here Inv-loop μ-loop
 shared-slice-read-here c = omega arith
 
--- src/lib.rt:570:13
 returns : tie.Need-returns Inv-loop μ-loop
 returns c =
     let l = c .before .before .before .loop in
     sym (fall-here _ (l .before) (l .i) (omega arith) (c .if1 .taken)) ∙ l .inv .1
 
--- src/lib.rt:573:9
 add-i : tie.Need-add-i Inv-loop μ-loop
 add-i c = omega arith
 
--- src/lib.rt:567:5
 loop-less : tie.Need-loop-less Inv-loop μ-loop
 loop-less c = omega arith
 
--- src/lib.rt:567:5
 loop-again : tie.Need-loop-again Inv-loop μ-loop
 loop-again c =
     let l = c .before .before .before .loop in
     (omega arith, sym (fall-next _ (l .before) (l .i) (omega arith) (c .if1 .left)) ∙ l .inv .1)
 
--- src/lib.rt:562:1
 returns-2 : tie.Need-returns-2 Inv-loop μ-loop
 returns-2 c =
     let l = c .before .loop in

@@ -7,15 +7,12 @@ use Rattle.records.proofs.byte.Tie as tie
 use Rattle.records.proofs.byte.Reads as reads
 use Rattle.records.proofs.byte.Lts as lts
 
--- src/lib.rt:238:16
 shared-slice-read-result : tie.Need-shared-slice-read-result
 shared-slice-read-result c = search needs
 
--- src/lib.rt:238:9
 returns : tie.Need-returns
 returns c = search needs
 
--- src/lib.rt:234:1
 returns-2 : tie.Need-returns-2
 returns-2 c = sym (List·getD-eq-default (c .before .args .s .now) 0 (omega arith))
 

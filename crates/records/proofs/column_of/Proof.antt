@@ -6,99 +6,75 @@ use Rattle.records.proofs.column_of.Reads as reads
 use Rattle.records.proofs.column_of.Lts as lts
 use Rattle.records.proofs.trigger_of.Reads as trigger-of-reads
 
--- src/lib.rt:292:21
 add-t9 : tie.Need-add-t9
 add-t9 c = search needs
 
--- src/lib.rt:292:18
 mul-t10 : tie.Need-mul-t10
 mul-t10 c = search needs
 
--- src/lib.rt:292:18
 array-read-t13 : tie.Need-array-read-t13
 array-read-t13 c = search needs
 
--- src/lib.rt:292:33
 add-t14 : tie.Need-add-t14
 add-t14 c = search needs
 
--- src/lib.rt:292:30
 mul-t15 : tie.Need-mul-t15
 mul-t15 c = search needs
 
--- src/lib.rt:292:30
 array-read-t18 : tie.Need-array-read-t18
 array-read-t18 c = search needs
 
--- src/lib.rt:292:45
 add-t19 : tie.Need-add-t19
 add-t19 c = search needs
 
--- src/lib.rt:292:42
 mul-t20 : tie.Need-mul-t20
 mul-t20 c = search needs
 
--- src/lib.rt:292:42
 array-read-t23 : tie.Need-array-read-t23
 array-read-t23 c = search needs
 
--- src/lib.rt:293:22
 add-t9-2 : tie.Need-add-t9-2
 add-t9-2 c = search needs
 
--- src/lib.rt:293:19
 mul-t10-2 : tie.Need-mul-t10-2
 mul-t10-2 c = search needs
 
--- src/lib.rt:293:19
 array-read-t23-2 : tie.Need-array-read-t23-2
 array-read-t23-2 c = search needs
 
--- src/lib.rt:293:34
 add-t19-2 : tie.Need-add-t19-2
 add-t19-2 c = search needs
 
--- src/lib.rt:293:31
 mul-t20-2 : tie.Need-mul-t20-2
 mul-t20-2 c = search needs
 
--- src/lib.rt:293:31
 array-read-t18-2 : tie.Need-array-read-t18-2
 array-read-t18-2 c = search needs
 
--- src/lib.rt:294:32
 add-trigger-of : tie.Need-add-trigger-of
 add-trigger-of c = search needs
 
--- src/lib.rt:294:40
 add-trigger-of-2 : tie.Need-add-trigger-of-2
 add-trigger-of-2 c = search needs
 
--- src/lib.rt:294:9
 trigger-of-requires : tie.Need-trigger-of-requires
 trigger-of-requires c κs = search needs
 
--- src/lib.rt:295:33
 add-trigger-of-3 : tie.Need-add-trigger-of-3
 add-trigger-of-3 c = search needs
 
--- src/lib.rt:295:41
 add-trigger-of-4 : tie.Need-add-trigger-of-4
 add-trigger-of-4 c = search needs
 
--- src/lib.rt:295:9
 trigger-of-requires-2 : tie.Need-trigger-of-requires-2
 trigger-of-requires-2 c κs = search needs
 
--- src/lib.rt:298:16
 mul-t15-2 : tie.Need-mul-t15-2
 mul-t15-2 c = search needs
 
--- src/lib.rt:298:16
 array-read-t18-3 : tie.Need-array-read-t18-3
 array-read-t18-3 c = search needs
 
--- src/lib.rt:288:1
 returns : tie.Need-returns
 unfolding columnOf
 returns c = rw (c .trigger-of2 .ensures, c .before .trigger-of .ensures)

@@ -7,31 +7,24 @@ use Rattle.records.proofs.columns_fall.Reads as reads
 use Rattle.records.proofs.columns_fall.Lts as lts
 use Rattle.records.proofs.breaks_fall.Reads as breaks-fall-reads
 
--- src/lib.rt:582:15
 array-copy-out-hot : tie.Need-array-copy-out-hot
 array-copy-out-hot c = search needs
 
--- src/lib.rt:583:16
 array-copy-out-warm : tie.Need-array-copy-out-warm
 array-copy-out-warm c = search needs
 
--- src/lib.rt:584:16
 array-copy-out-cold : tie.Need-array-copy-out-cold
 array-copy-out-cold c = search needs
 
--- src/lib.rt:585:9
 breaks-fall-requires : tie.Need-breaks-fall-requires
 breaks-fall-requires c κs = search needs
 
--- src/lib.rt:586:9
 breaks-fall-requires-2 : tie.Need-breaks-fall-requires-2
 breaks-fall-requires-2 c κs = search needs
 
--- src/lib.rt:587:9
 breaks-fall-requires-3 : tie.Need-breaks-fall-requires-3
 breaks-fall-requires-3 c κs = search needs
 
--- src/lib.rt:579:1
 returns : tie.Need-returns
 returns c = rw (c .breaks-fall3 .ensures, c .before .before .before .before .breaks-fall2 .ensures, c .before .before .before .before .before .before .before .before .breaks-fall .ensures)
     (some-three _ (c .before .before .before .before .before .before .before .before .before .before .before .before .before .before .before .args .t1) _ (c .before .before .before .before .before .before .before .before .before .before .before .before .before .before .before .good .0 .1 .0 .1))

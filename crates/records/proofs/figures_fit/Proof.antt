@@ -7,15 +7,12 @@ use Rattle.records.proofs.figures_fit.Reads as reads
 use Rattle.records.proofs.figures_fit.Lts as lts
 use Rattle.records.proofs.same_effect.Reads as same-effect-reads
 
--- src/lib.rt:667:9
 same-effect-requires : tie.Need-same-effect-requires
 same-effect-requires c κs = search needs
 
--- src/lib.rt:669:9
 returns : tie.Need-returns
 returns c = figures-mwof (c .before .before .before .before .before .before .args .i) (cc)
 
--- src/lib.rt:661:1
 returns-2 : tie.Need-returns-2
 returns-2 c = figures-other (c .before .before .before .before .before .before .args .i) (cc)
 

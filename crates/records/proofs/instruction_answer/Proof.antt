@@ -12,43 +12,33 @@ use Rattle.records.proofs.figures_fit.Reads as figures-fit-reads
 use Rattle.records.proofs.instruction_of.Reads as instruction-of-reads
 use Rattle.records.proofs.is_unknown.Reads as is-unknown-reads
 
--- src/lib.rt:688:37
 byte-requires : tie.Need-byte-requires
 byte-requires c κs = search needs
 
--- src/lib.rt:688:30
 decode-requires : tie.Need-decode-requires
 decode-requires c κs = search needs
 
--- src/lib.rt:688:9
 is-unknown-requires : tie.Need-is-unknown-requires
 is-unknown-requires c κs = search needs
 
--- src/lib.rt:690:9
 returns : tie.Need-returns
 returns c = code-unknown _ _ (cc)
 
--- src/lib.rt:692:9
 instruction-of-requires : tie.Need-instruction-of-requires
 instruction-of-requires c κs = search needs
 
--- src/lib.rt:694:9
 returns-2 : tie.Need-returns-2
 returns-2 c = effective-late _ _ _ (c .before .before .instruction-of .ensures) (cc) (omega arith)
 
--- src/lib.rt:697:9
 returns-3 : tie.Need-returns-3
 returns-3 c = issue-out _ _ _ (c .before .before .before .before .instruction-of .ensures) (cc) (omega arith) (omega arith)
 
--- src/lib.rt:699:9
 figures-fit-requires : tie.Need-figures-fit-requires
 figures-fit-requires c κs = search needs
 
--- src/lib.rt:701:9
 returns-4 : tie.Need-returns-4
 returns-4 c = instruction-taken _ _ _ (c .before .before .before .before .before .before .instruction-of .ensures) (cc) (omega arith) (omega arith) (cc)
 
--- src/lib.rt:685:1
 returns-5 : tie.Need-returns-5
 returns-5 c = figures-out _ _ _ (c .before .before .before .before .before .before .instruction-of .ensures) (cc) (omega arith) (omega arith) (cc)
 

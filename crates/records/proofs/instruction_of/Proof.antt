@@ -12,43 +12,33 @@ use Rattle.records.proofs.issue_of.Reads as issue-of-reads
 use Rattle.records.proofs.meaning_in.Reads as meaning-in-reads
 use Rattle.records.proofs.number.Reads as number-reads
 
--- src/lib.rt:390:9
 number-requires : tie.Need-number-requires
 number-requires c κs = search needs
 
--- src/lib.rt:391:26
 number-requires-2 : tie.Need-number-requires-2
 number-requires-2 c κs = search needs
 
--- src/lib.rt:391:9
 issue-of-requires : tie.Need-issue-of-requires
 issue-of-requires c κs = search needs
 
--- src/lib.rt:392:37
 byte-requires : tie.Need-byte-requires
 byte-requires c κs = search needs
 
--- src/lib.rt:392:30
 decode-requires : tie.Need-decode-requires
 decode-requires c κs = search needs
 
--- src/lib.rt:392:9
 meaning-in-requires : tie.Need-meaning-in-requires
 meaning-in-requires c κs = search needs
 
--- src/lib.rt:393:9
 number-requires-3 : tie.Need-number-requires-3
 number-requires-3 c κs = search needs
 
--- src/lib.rt:394:9
 number-requires-4 : tie.Need-number-requires-4
 number-requires-4 c κs = search needs
 
--- src/lib.rt:395:9
 number-requires-5 : tie.Need-number-requires-5
 number-requires-5 c κs = search needs
 
--- src/lib.rt:387:1
 returns : tie.Need-returns
 unfolding instructionOf
 returns c =

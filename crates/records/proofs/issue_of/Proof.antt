@@ -6,15 +6,12 @@ use Rattle.records.proofs.issue_of.Tie as tie
 use Rattle.records.proofs.issue_of.Reads as reads
 use Rattle.records.proofs.issue_of.Lts as lts
 
--- src/lib.rt:367:15
 add-sum : tie.Need-add-sum
 add-sum c = search needs
 
--- src/lib.rt:369:5
 cast-result : tie.Need-cast-result
 cast-result c = search needs
 
--- src/lib.rt:364:1
 returns : tie.Need-returns
 unfolding issueOf
 returns c = refl

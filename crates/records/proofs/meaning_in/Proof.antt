@@ -4,19 +4,15 @@ use Rattle.records.proofs.meaning_in.Tie as tie
 use Rattle.records.proofs.meaning_in.Reads as reads
 use Rattle.records.proofs.meaning_in.Lts as lts
 
--- src/lib.rt:377:22
 enum-known-coded : tie.Need-enum-known-coded
 enum-known-coded c = search needs
 
--- src/lib.rt:381:21
 enum-told : tie.Need-enum-told
 enum-told c = search needs
 
--- src/lib.rt:373:1
 returns : tie.Need-returns
 returns c = search needs
 
--- src/lib.rt:373:1
 returns-2 : tie.Need-returns-2
 returns-2 c = rw (c .enum-told .given .1)
 

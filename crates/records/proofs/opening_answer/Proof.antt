@@ -8,19 +8,15 @@ use Rattle.records.proofs.opening_answer.Lts as lts
 use Rattle.records.proofs.opening_fits.Reads as opening-fits-reads
 use Rattle.records.proofs.opening_of.Reads as opening-of-reads
 
--- src/lib.rt:652:9
 opening-of-requires : tie.Need-opening-of-requires
 opening-of-requires c κs = search needs
 
--- src/lib.rt:653:9
 opening-fits-requires : tie.Need-opening-fits-requires
 opening-fits-requires c κs = search needs
 
--- src/lib.rt:655:9
 returns : tie.Need-returns
 returns c = opening-taken _ (cc)
 
--- src/lib.rt:649:1
 returns-2 : tie.Need-returns-2
 returns-2 c = opening-out _ (cc)
 

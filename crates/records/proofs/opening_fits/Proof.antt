@@ -5,7 +5,6 @@ use Rattle.records.proofs.opening_fits.Tie as tie
 use Rattle.records.proofs.opening_fits.Reads as reads
 use Rattle.records.proofs.opening_fits.Lts as lts
 
--- src/lib.rt:638:1
 returns : tie.Need-returns
 unfolding openingFits
 returns c = refl

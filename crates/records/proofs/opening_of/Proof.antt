@@ -6,27 +6,21 @@ use Rattle.records.proofs.opening_of.Reads as reads
 use Rattle.records.proofs.opening_of.Lts as lts
 use Rattle.records.proofs.number.Reads as number-reads
 
--- src/lib.rt:350:18
 number-requires : tie.Need-number-requires
 number-requires c κs = search needs
 
--- src/lib.rt:350:18
 cast-grains : tie.Need-cast-grains
 cast-grains c = search needs
 
--- src/lib.rt:352:9
 number-requires-2 : tie.Need-number-requires-2
 number-requires-2 c κs = search needs
 
--- src/lib.rt:353:9
 number-requires-3 : tie.Need-number-requires-3
 number-requires-3 c κs = search needs
 
--- src/lib.rt:354:9
 number-requires-4 : tie.Need-number-requires-4
 number-requires-4 c κs = search needs
 
--- src/lib.rt:347:1
 returns : tie.Need-returns
 unfolding openingOf
 returns c = rw (c .number4 .ensures, c .before .number3 .ensures, c .before .before .number2 .ensures, c .before .before .before .number .ensures)

@@ -5,15 +5,12 @@ use Rattle.records.proofs.same_effect.Reads as reads
 use Rattle.records.proofs.same_effect.Lts as lts
 use Rattle.records.proofs.code_number.Reads as code-number-reads
 
--- src/lib.rt:218:5
 code-number-requires : tie.Need-code-number-requires
 code-number-requires c κs = search needs
 
--- src/lib.rt:218:23
 code-number-requires-2 : tie.Need-code-number-requires-2
 code-number-requires-2 c κs = search needs
 
--- src/lib.rt:215:1
 returns : tie.Need-returns
 returns c = rw (c .code-number2 .ensures, c .before .code-number .ensures)
 

@@ -5,22 +5,18 @@ use Rattle.records.proofs.size_of.Tie as tie
 use Rattle.records.proofs.size_of.Reads as reads
 use Rattle.records.proofs.size_of.Lts as lts
 
--- src/lib.rt:222:1
 returns : tie.Need-returns
 unfolding sizeOf
 returns c = rw (c .match .keys1)
 
--- src/lib.rt:222:1
 returns-2 : tie.Need-returns-2
 unfolding sizeOf
 returns-2 c = rw (c .match .keys2)
 
--- src/lib.rt:222:1
 returns-3 : tie.Need-returns-3
 unfolding sizeOf
 returns-3 c = rw (c .match .keys3)
 
--- src/lib.rt:222:1
 returns-4 : tie.Need-returns-4
 unfolding sizeOf
 returns-4 c =

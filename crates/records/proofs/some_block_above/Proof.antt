@@ -6,19 +6,15 @@ use Rattle.records.proofs.some_block_above.Tie as tie
 use Rattle.records.proofs.some_block_above.Reads as reads
 use Rattle.records.proofs.some_block_above.Lts as lts
 
--- src/lib.rt:595:19
 element-copy-out-a : tie.Need-element-copy-out-a
 element-copy-out-a c = search needs
 
--- src/lib.rt:596:19
 element-copy-out-b : tie.Need-element-copy-out-b
 element-copy-out-b c = search needs
 
--- src/lib.rt:597:19
 element-copy-out-c : tie.Need-element-copy-out-c
 element-copy-out-c c = search needs
 
--- src/lib.rt:592:1
 returns : tie.Need-returns
 returns c = some-three _ (c .args .t2) _ (c .good .1 .0 .1 .0 .1)
 

@@ -6,23 +6,18 @@ use Rattle.records.proofs.trigger_of.Tie as tie
 use Rattle.records.proofs.trigger_of.Reads as reads
 use Rattle.records.proofs.trigger_of.Lts as lts
 
--- src/lib.rt:282:16
 mul-t5 : tie.Need-mul-t5
 mul-t5 c = search needs
 
--- src/lib.rt:282:16
 array-read-t8 : tie.Need-array-read-t8
 array-read-t8 c = search needs
 
--- src/lib.rt:283:18
 mul-t9 : tie.Need-mul-t9
 mul-t9 c = search needs
 
--- src/lib.rt:283:18
 array-read-t12 : tie.Need-array-read-t12
 array-read-t12 c = search needs
 
--- src/lib.rt:277:1
 returns : tie.Need-returns
 unfolding triggerOf
 returns c = refl

@@ -11,27 +11,21 @@ use Rattle.records.proofs.all_fit.Reads as all-fit-reads
 use Rattle.records.proofs.unit_disagrees.Reads as unit-disagrees-reads
 use Rattle.records.proofs.unit_of.Reads as unit-of-reads
 
--- src/lib.rt:625:9
 all-fit-requires : tie.Need-all-fit-requires
 all-fit-requires c κs = search needs
 
--- src/lib.rt:627:9
 returns : tie.Need-returns
 returns c = unit-out _ (sym (c .before .all-fit .ensures) ∙ not-true _ (c .if1 .taken))
 
--- src/lib.rt:629:9
 unit-of-requires : tie.Need-unit-of-requires
 unit-of-requires c κs = search needs
 
--- src/lib.rt:630:9
 unit-disagrees-requires : tie.Need-unit-disagrees-requires
 unit-disagrees-requires c κs = search needs
 
--- src/lib.rt:632:9
 returns-2 : tie.Need-returns-2
 returns-2 c = unit-disagreeing _ (sym (c .before .before .before .before .all-fit .ensures) ∙ not-false _ (c .before .before .before .if1 .left)) (ap disagrees (sym (c .before .before .unit-of .ensures)) ∙ sym (c .before .unit-disagrees .ensures) ∙ c .if2 .taken)
 
--- src/lib.rt:622:1
 returns-3 : tie.Need-returns-3
 returns-3 c = unit-taken _ (sym (c .before .before .before .before .all-fit .ensures) ∙ not-false _ (c .before .before .before .if1 .left)) (ap disagrees (sym (c .before .before .unit-of .ensures)) ∙ sym (c .before .unit-disagrees .ensures) ∙ c .if2 .left)
 

@@ -9,27 +9,21 @@ use Rattle.records.proofs.breaks_fall.Reads as breaks-fall-reads
 use Rattle.records.proofs.columns_fall.Reads as columns-fall-reads
 use Rattle.records.proofs.some_block_above.Reads as some-block-above-reads
 
--- src/lib.rt:609:9
 columns-fall-requires : tie.Need-columns-fall-requires
 columns-fall-requires c κs = search needs
 
--- src/lib.rt:610:9
 breaks-fall-requires : tie.Need-breaks-fall-requires
 breaks-fall-requires c κs = search needs
 
--- src/lib.rt:611:9
 breaks-fall-requires-2 : tie.Need-breaks-fall-requires-2
 breaks-fall-requires-2 c κs = search needs
 
--- src/lib.rt:612:9
 breaks-fall-requires-3 : tie.Need-breaks-fall-requires-3
 breaks-fall-requires-3 c κs = search needs
 
--- src/lib.rt:616:9
 some-block-above-requires : tie.Need-some-block-above-requires
 some-block-above-requires c κs = search needs
 
--- src/lib.rt:602:1
 returns : tie.Need-returns
 unfolding disagrees
 returns c = rw (c .before .some-block-above .ensures, c .before .before .before .before .breaks-fall3 .ensures, c .before .before .before .before .before .before .before .before .breaks-fall2 .ensures, c .before .before .before .before .before .before .before .before .before .before .before .before .breaks-fall .ensures, c .before .before .before .before .before .before .before .before .before .before .before .before .before .before .before .before .columns-fall .ensures)

@@ -10,71 +10,54 @@ use Rattle.records.proofs.column_of.Reads as column-of-reads
 use Rattle.records.proofs.ramp_of.Reads as ramp-of-reads
 use Rattle.records.proofs.trigger_of.Reads as trigger-of-reads
 
--- src/lib.rt:319:9
 column-of-requires : tie.Need-column-of-requires
 column-of-requires c κs = search needs
 
--- src/lib.rt:320:9
 column-of-requires-2 : tie.Need-column-of-requires-2
 column-of-requires-2 c κs = search needs
 
--- src/lib.rt:321:9
 column-of-requires-3 : tie.Need-column-of-requires-3
 column-of-requires-3 c κs = search needs
 
--- src/lib.rt:323:9
 ramp-of-requires : tie.Need-ramp-of-requires
 ramp-of-requires c κs = search needs
 
--- src/lib.rt:324:9
 trigger-of-requires : tie.Need-trigger-of-requires
 trigger-of-requires c κs = search needs
 
--- src/lib.rt:325:9
 trigger-of-requires-2 : tie.Need-trigger-of-requires-2
 trigger-of-requires-2 c κs = search needs
 
--- src/lib.rt:326:9
 trigger-of-requires-3 : tie.Need-trigger-of-requires-3
 trigger-of-requires-3 c κs = search needs
 
--- src/lib.rt:328:9
 ramp-of-requires-2 : tie.Need-ramp-of-requires-2
 ramp-of-requires-2 c κs = search needs
 
--- src/lib.rt:329:18
 array-read-t19 : tie.Need-array-read-t19
 array-read-t19 c = search needs
 
--- src/lib.rt:329:26
 array-read-t22 : tie.Need-array-read-t22
 array-read-t22 c = search needs
 
--- src/lib.rt:330:19
 array-read-t19-2 : tie.Need-array-read-t19-2
 array-read-t19-2 c = search needs
 
--- src/lib.rt:333:19
 array-read-t22-2 : tie.Need-array-read-t22-2
 array-read-t22-2 c = search needs
 
--- src/lib.rt:334:18
 array-read-t19-3 : tie.Need-array-read-t19-3
 array-read-t19-3 c = search needs
 
--- src/lib.rt:335:14
 array-read-t31 : tie.Need-array-read-t31
 array-read-t31 c = search needs
 
--- src/lib.rt:336:14
 array-read-t34 : tie.Need-array-read-t34
 array-read-t34 c = search needs
 
--- src/lib.rt:337:15
 array-read-t37 : tie.Need-array-read-t37
 array-read-t37 c = search needs
 
--- src/lib.rt:316:1
 returns : tie.Need-returns
 unfolding unitOf
 returns c =
