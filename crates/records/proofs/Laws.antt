@@ -1,20 +1,21 @@
 -- The cases of the checks of fields, each with its conditions as plain facts.
 -- Assumes nothing.
-use Prim.Native.Nat.{ℕ, zero, suc, _+_, _<_, _≤_}
+use Prim.Native.Nat.{ℕ, _+_, _<_, _≤_}
 use native.Mathlib.Omega.{arith}
 use native.Mathlib.Numerals.{add-one}
-use mathlib.Core.Path.{_≡_, refl, sym, ap, _∙_}
+use mathlib.Core.Path.{_≡_, refl, sym}
 use mathlib.Core.Bool.{Bool, true, false, _&&_, _||_, not}
 use mathlib.Core.List.{List, [], _∷_, map}
-use lib.Dec.{leb, ltb, eqb}
+use lib.Dec.{leb, eqb}
 use lib.ListN.{length, getD, drop, List·getD-map}
 use lib.Seq.{drop-cons, drop-length}
-use borrow.Author.Tests.{lt-ltb, le-ltb, le-leb, lt-leb}
+use borrow.Author.Tests.{lt-ltb, le-ltb, le-leb, lt-leb, not-true, not-false}
 use Rattle.level.specs.Lists.{some}
+use Rattle.records.specs.declared.UnitData.{UnitData}
 use Rattle.records.specs.declared.Opening.{Opening}
 use Rattle.records.specs.declared.Instruction.{Instruction}
 use Rattle.records.specs.declared.Effect.the-variants.{Mwof}
-use Rattle.records.specs.declared.Answer.{Answer}
+use Rattle.records.specs.declared.Coded.{Coded}
 use Rattle.records.specs.declared.Answer.the-variants.{Accepted, Refused}
 use Rattle.records.specs.declared.Refusal.the-variants.{UnitField, UnitDisagrees, OpeningField, CodeField, EffectiveTime, IssueTime, LevelOrRates}
 use Rattle.records.specs.Codes.{meaningOf, isUnknown, same}
@@ -92,58 +93,60 @@ some-three f (x ∷ y ∷ []) z e = absurd (omega arith)
 some-three f (x ∷ y ∷ w ∷ []) z e = rw (or-false (f w))
 some-three f (x ∷ y ∷ w ∷ v ∷ vs) z e = absurd (omega arith)
 
--- ---- 3 and 4
-module _ (ns : List ℕ) where
-  pub unit-out : fitFrom unitRanges ns 0 ≡ false → Refused UnitField ≡ unitAnswer ns
+-- ---- 3 and 4, by what is read and tested
+module _ (ns : List ℕ) (fit : Bool) (f : fit ≡ fitFrom unitRanges ns 0) where
+  pub unit-out : not fit ≡ true → Refused UnitField ≡ unitAnswer ns
   unfolding unitAnswer
-  unit-out f = simp f
+  unit-out t = simp (sym f, not-true fit t)
 
-  pub unit-disagreeing : fitFrom unitRanges ns 0 ≡ true → disagrees (unitOf ns) ≡ true → Refused UnitDisagrees ≡ unitAnswer ns
-  unfolding unitAnswer
-  unit-disagreeing f d = simp (f, d)
+  module _ (u : UnitData) (e : u ≡ unitOf ns) (disagreeing : Bool) (d : disagreeing ≡ disagrees u) (t : not fit ≡ false) where
+    pub unit-disagreeing : disagreeing ≡ true → Refused UnitDisagrees ≡ unitAnswer ns
+    unfolding unitAnswer
+    unit-disagreeing k = simp (sym f, not-false fit t, sym e, sym d, k)
 
-  pub unit-taken : fitFrom unitRanges ns 0 ≡ true → disagrees (unitOf ns) ≡ false → Accepted ≡ unitAnswer ns
-  unfolding unitAnswer
-  unit-taken f d = simp (f, d)
+    pub unit-taken : disagreeing ≡ false → Accepted ≡ unitAnswer ns
+    unfolding unitAnswer
+    unit-taken k = simp (sym f, not-false fit t, sym e, sym d, k)
 
--- ---- 5, and 6 to 9 in their order
-module _ (b : List ℕ) where
-  pub opening-out : openingFits (openingOf b) ≡ false → Refused OpeningField ≡ openingAnswer b
+-- ---- 5
+module _ (b : List ℕ) (o : Opening) (e : o ≡ openingOf b) (fits : Bool) (f : fits ≡ openingFits o) where
+  pub opening-out : fits ≡ false → Refused OpeningField ≡ openingAnswer b
   unfolding openingAnswer
-  opening-out f = simp f
+  opening-out t = simp (sym e, sym f, t)
 
-  pub opening-taken : openingFits (openingOf b) ≡ true → Accepted ≡ openingAnswer b
+  pub opening-taken : fits ≡ true → Accepted ≡ openingAnswer b
   unfolding openingAnswer
-  opening-taken f = simp f
+  opening-taken t = simp (sym e, sym f, t)
 
-module _ (i : Instruction) where
-  pub figures-mwof : same (i .meaning .effect) Mwof ≡ true → leb (i .level) 2000000 && (leb (i .up) 200000 && leb (i .down) 200000) ≡ figuresFit i
+-- ---- 6 to 9
+module _ (i : Instruction) (mwof : Bool) (e : mwof ≡ same (i .meaning .effect) Mwof) where
+  pub figures-mwof : mwof ≡ true → leb (i .level) 2000000 && (leb (i .up) 200000 && leb (i .down) 200000) ≡ figuresFit i
   unfolding figuresFit
-  figures-mwof e = simp e
+  figures-mwof t = simp (sym e, t)
 
-  pub figures-other : same (i .meaning .effect) Mwof ≡ false → eqb (i .level) 0 && (eqb (i .up) 0 && eqb (i .down) 0) ≡ figuresFit i
+  pub figures-other : mwof ≡ false → eqb (i .level) 0 && (eqb (i .up) 0 && eqb (i .down) 0) ≡ figuresFit i
   unfolding figuresFit
-  figures-other e = simp e
+  figures-other t = simp (sym e, t)
 
-module _ (end : ℕ) (b : List ℕ) where
-  pub code-unknown : isUnknown (meaningOf (getD b 8 0)) ≡ true → Refused CodeField ≡ instructionAnswer end b
+module _ (end : ℕ) (b : List ℕ) (coded : Coded) (c : coded ≡ meaningOf (getD b 8 0)) (unknown : Bool) (u : unknown ≡ isUnknown coded) where
+  pub code-unknown : unknown ≡ true → Refused CodeField ≡ instructionAnswer end b
   unfolding instructionAnswer
-  code-unknown u = simp u
+  code-unknown t = simp (sym c, sym u, t)
 
-  -- the instruction read is i
-  module _ (i : Instruction) (e : i ≡ instructionOf b) (u : isUnknown (meaningOf (getD b 8 0)) ≡ false) where
+  module _ (t : unknown ≡ false) (i : Instruction) (e : i ≡ instructionOf b) where
     pub effective-late : end ≤ i .effective → Refused EffectiveTime ≡ instructionAnswer end b
     unfolding instructionAnswer
-    effective-late h = simp (sym e, u, le-leb _ _ h)
+    effective-late h = simp (sym c, sym u, t, sym e, le-leb _ _ h)
 
     pub issue-out : i .effective < end → 1209600 < i .issue → Refused IssueTime ≡ instructionAnswer end b
     unfolding instructionAnswer
-    issue-out h k = simp (sym e, u, lt-leb _ _ h, lt-ltb _ _ k)
+    issue-out h k = simp (sym c, sym u, t, sym e, lt-leb _ _ h, lt-ltb _ _ k)
 
-    pub figures-out : i .effective < end → i .issue ≤ 1209600 → figuresFit i ≡ false → Refused LevelOrRates ≡ instructionAnswer end b
-    unfolding instructionAnswer
-    figures-out h k f = simp (sym e, u, lt-leb _ _ h, le-ltb _ _ k, f)
+    module _ (h : i .effective < end) (k : i .issue ≤ 1209600) (fit : Bool) (f : fit ≡ figuresFit i) where
+      pub figures-out : fit ≡ false → Refused LevelOrRates ≡ instructionAnswer end b
+      unfolding instructionAnswer
+      figures-out g = simp (sym c, sym u, t, sym e, lt-leb _ _ h, le-ltb _ _ k, sym f, g)
 
-    pub instruction-taken : i .effective < end → i .issue ≤ 1209600 → figuresFit i ≡ true → Accepted ≡ instructionAnswer end b
-    unfolding instructionAnswer
-    instruction-taken h k f = simp (sym e, u, lt-leb _ _ h, le-ltb _ _ k, f)
+      pub instruction-taken : fit ≡ true → Accepted ≡ instructionAnswer end b
+      unfolding instructionAnswer
+      instruction-taken g = simp (sym c, sym u, t, sym e, lt-leb _ _ h, le-ltb _ _ k, sym f, g)

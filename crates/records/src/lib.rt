@@ -8,7 +8,7 @@ ghost use Rattle.level.specs.Lists.{some};
 ghost use Rattle.records.specs.declared.Coded.the-variants.{Means};
 ghost use Rattle.records.specs.Answers.{refusalNumber, numberOf};
 ghost use Rattle.records.specs.Codes.{meaningOf, meaningIn, isUnknown, codeNumber, same};
-ghost use Rattle.records.specs.Fields.{inRange, unitRanges, fitFrom, falls, disagrees, unitAnswer, openingFits, openingAnswer, figuresFit, instructionAnswer};
+ghost use Rattle.records.specs.Fields.{unitRanges, fitFrom, falls, disagrees, unitAnswer, openingFits, openingAnswer, figuresFit, instructionAnswer};
 ghost use Rattle.records.specs.Records.{sizeOf, numberAt, numbers, triggerOf, columnOf, unitOf, openingOf, issueOf, instructionOf};
 
 // A soak or dwell trigger: a level in kW, and the minutes that the unit holds there. 0 minutes: no hold.
@@ -352,6 +352,13 @@ fn issue_of(n: u32) -> u32
     seconds as u32
 }
 
+// The code byte of an instruction's body, read.
+fn code_of(body: &[u8]) -> Coded
+    ensures { λ r. ⌜ r ≡ meaningOf (getD (now (body .entry)) 8 0) ⌝ }
+{
+    decode(byte(body, 8))
+}
+
 // What a code byte means; one outside 1 to 7 reads like the last.
 fn meaning_in(coded: Coded) -> Meaning
     ensures { λ r. ⌜ r ≡ meaningIn coded ⌝ }
@@ -372,7 +379,7 @@ pub fn instruction_of(body: &[u8]) -> Instruction
 {
     let effective = number(body, 0);
     let issue = issue_of(number(body, 4));
-    let meaning = meaning_in(decode(byte(body, 8)));
+    let meaning = meaning_in(code_of(body));
     let level = number(body, 9);
     let up = number(body, 13);
     let down = number(body, 17);
@@ -665,7 +672,7 @@ fn is_unknown(coded: Coded) -> bool
 pub fn instruction_answer(end: u32, body: &[u8]) -> Answer
     ensures { λ r. ⌜ r ≡ instructionAnswer end (now (body .entry)) ⌝ }
 {
-    let unknown = is_unknown(decode(byte(body, 8)));
+    let unknown = is_unknown(code_of(body));
     if unknown {
         return Answer::Refused(Refusal::CodeField);
     }

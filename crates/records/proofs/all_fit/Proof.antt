@@ -1,8 +1,8 @@
-use Prim.Native.Nat.{ℕ, _≤_, _<_, _+_, _-_}
-use mathlib.Core.Path.{_≡_, refl, sym, ap, _∙_}
+use Prim.Native.Nat.{_≤_, _-_}
+use mathlib.Core.Path.{_≡_, refl, sym, _∙_}
 use native.Mathlib.Omega.{arith}
 use borrow.Author.Needs.{needs}
-use lib.ListN.{length, getD, drop}
+use lib.ListN.{drop}
 use Rattle.records.specs.Fields.{aLevel, aMaximum, aRate, aHold, aBoundary, columnRanges, rampRanges, unitRanges, fitFrom}
 use Rattle.records.proofs.Laws.{lowsOf, highsOf, fit-below, fit-above, fit-next}
 use Rattle.records.proofs.all_fit.Statement.{statement}

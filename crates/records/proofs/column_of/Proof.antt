@@ -1,5 +1,5 @@
-use Rattle.records.specs.Records.{columnOf}
 use borrow.Author.Needs.{needs}
+use Rattle.records.specs.Records.{columnOf}
 use Rattle.records.proofs.column_of.Statement.{statement}
 use Rattle.records.proofs.column_of.Tie as tie
 use Rattle.records.proofs.column_of.Reads as reads

@@ -1,6 +1,6 @@
 use borrow.Author.Tests.{ne-eqb}
-use Rattle.records.specs.Codes.{meaningOf}
 use borrow.Author.Needs.{needs}
+use Rattle.records.specs.Codes.{meaningOf}
 use Rattle.records.proofs.decode.Statement.{statement}
 use Rattle.records.proofs.decode.Tie as tie
 use Rattle.records.proofs.decode.Reads as reads

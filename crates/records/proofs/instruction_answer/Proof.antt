@@ -1,53 +1,47 @@
-use mathlib.Core.Path.{_≡_, refl, sym, ap, _∙_}
 use native.Mathlib.Omega.{arith}
-use Rattle.records.proofs.Laws.{code-unknown, effective-late, issue-out, instruction-taken, figures-out}
 use borrow.Author.Needs.{needs}
+use Rattle.records.proofs.Laws.{code-unknown, effective-late, issue-out, instruction-taken, figures-out}
 use Rattle.records.proofs.instruction_answer.Statement.{statement}
 use Rattle.records.proofs.instruction_answer.Tie as tie
 use Rattle.records.proofs.instruction_answer.Reads as reads
 use Rattle.records.proofs.instruction_answer.Lts as lts
-use Rattle.records.proofs.byte.Reads as byte-reads
-use Rattle.records.proofs.decode.Reads as decode-reads
+use Rattle.records.proofs.code_of.Reads as code-of-reads
 use Rattle.records.proofs.figures_fit.Reads as figures-fit-reads
 use Rattle.records.proofs.instruction_of.Reads as instruction-of-reads
 use Rattle.records.proofs.is_unknown.Reads as is-unknown-reads
 
-byte-requires : tie.Need-byte-requires
-byte-requires c κs = search needs
-
-decode-requires : tie.Need-decode-requires
-decode-requires c κs = search needs
+code-of-requires : tie.Need-code-of-requires
+code-of-requires c κs = search needs
 
 is-unknown-requires : tie.Need-is-unknown-requires
 is-unknown-requires c κs = search needs
 
 returns : tie.Need-returns
-returns c = code-unknown _ _ (cc)
+returns c = code-unknown _ _ _ (c .before .before .code-of .ensures) _ (c .before .is-unknown .ensures) (c .if1 .taken)
 
 instruction-of-requires : tie.Need-instruction-of-requires
 instruction-of-requires c κs = search needs
 
 returns-2 : tie.Need-returns-2
-returns-2 c = effective-late _ _ _ (c .before .before .instruction-of .ensures) (cc) (omega arith)
+returns-2 c = effective-late _ _ _ (c .before .before .before .before .before .code-of .ensures) _ (c .before .before .before .before .is-unknown .ensures) (c .before .before .before .if1 .left) _ (c .before .before .instruction-of .ensures) (omega arith)
 
 returns-3 : tie.Need-returns-3
-returns-3 c = issue-out _ _ _ (c .before .before .before .before .instruction-of .ensures) (cc) (omega arith) (omega arith)
+returns-3 c = issue-out _ _ _ (c .before .before .before .before .before .before .before .code-of .ensures) _ (c .before .before .before .before .before .before .is-unknown .ensures) (c .before .before .before .before .before .if1 .left) _ (c .before .before .before .before .instruction-of .ensures) (omega arith) (omega arith)
 
 figures-fit-requires : tie.Need-figures-fit-requires
 figures-fit-requires c κs = search needs
 
 returns-4 : tie.Need-returns-4
-returns-4 c = instruction-taken _ _ _ (c .before .before .before .before .before .before .instruction-of .ensures) (cc) (omega arith) (omega arith) (cc)
+returns-4 c = instruction-taken _ _ _ (c .before .before .before .before .before .before .before .before .before .code-of .ensures) _ (c .before .before .before .before .before .before .before .before .is-unknown .ensures) (c .before .before .before .before .before .before .before .if1 .left) _ (c .before .before .before .before .before .before .instruction-of .ensures) (omega arith) (omega arith) _ (c .before .figures-fit .ensures) (c .if4 .taken)
 
 returns-5 : tie.Need-returns-5
-returns-5 c = figures-out _ _ _ (c .before .before .before .before .before .before .instruction-of .ensures) (cc) (omega arith) (omega arith) (cc)
+returns-5 c = figures-out _ _ _ (c .before .before .before .before .before .before .before .before .before .code-of .ensures) _ (c .before .before .before .before .before .before .before .before .is-unknown .ensures) (c .before .before .before .before .before .before .before .if1 .left) _ (c .before .before .before .before .before .before .instruction-of .ensures) (omega arith) (omega arith) _ (c .before .figures-fit .ensures) (c .if4 .left)
 
 pub instruction-answer-spec : {M : Type 1} → statement M
 instruction-answer-spec =
     tie.close
     (tie.spec
-    byte-requires
-    decode-requires
+    code-of-requires
     is-unknown-requires
     returns
     instruction-of-requires

@@ -1,13 +1,12 @@
-use Rattle.records.specs.Records.{issueOf, instructionOf}
-use Rattle.records.specs.Codes.{meaningOf, meaningIn}
 use mathlib.Core.Path.{ap, _∙_}
 use borrow.Author.Needs.{needs}
+use Rattle.records.specs.Codes.{meaningIn}
+use Rattle.records.specs.Records.{issueOf, instructionOf}
 use Rattle.records.proofs.instruction_of.Statement.{statement}
 use Rattle.records.proofs.instruction_of.Tie as tie
 use Rattle.records.proofs.instruction_of.Reads as reads
 use Rattle.records.proofs.instruction_of.Lts as lts
-use Rattle.records.proofs.byte.Reads as byte-reads
-use Rattle.records.proofs.decode.Reads as decode-reads
+use Rattle.records.proofs.code_of.Reads as code-of-reads
 use Rattle.records.proofs.issue_of.Reads as issue-of-reads
 use Rattle.records.proofs.meaning_in.Reads as meaning-in-reads
 use Rattle.records.proofs.number.Reads as number-reads
@@ -21,11 +20,8 @@ number-requires-2 c κs = search needs
 issue-of-requires : tie.Need-issue-of-requires
 issue-of-requires c κs = search needs
 
-byte-requires : tie.Need-byte-requires
-byte-requires c κs = search needs
-
-decode-requires : tie.Need-decode-requires
-decode-requires c κs = search needs
+code-of-requires : tie.Need-code-of-requires
+code-of-requires c κs = search needs
 
 meaning-in-requires : tie.Need-meaning-in-requires
 meaning-in-requires c κs = search needs
@@ -42,10 +38,10 @@ number-requires-5 c κs = search needs
 returns : tie.Need-returns
 unfolding instructionOf
 returns c =
-    let issue = c .before .before .before .before .before .before .issue-of .ensures ∙ ap issueOf (c .before .before .before .before .before .before .before .number2 .ensures) in
-    let meaning = c .before .before .before .meaning-in .ensures ∙ ap meaningIn (c .before .before .before .before .decode .ensures ∙ ap meaningOf (c .before .before .before .before .before .byte .ensures)) in
+    let issue = c .before .before .before .before .before .issue-of .ensures ∙ ap issueOf (c .before .before .before .before .before .before .number2 .ensures) in
+    let meaning = c .before .before .before .meaning-in .ensures ∙ ap meaningIn (c .before .before .before .before .code-of .ensures) in
     λ i. record {
-      effective = (c .before .before .before .before .before .before .before .before .number .ensures) i;
+      effective = (c .before .before .before .before .before .before .before .number .ensures) i;
       issue = issue i;
       meaning = meaning i;
       level = (c .before .before .number3 .ensures) i;
@@ -60,8 +56,7 @@ instruction-of-spec =
     number-requires
     number-requires-2
     issue-of-requires
-    byte-requires
-    decode-requires
+    code-of-requires
     meaning-in-requires
     number-requires-3
     number-requires-4

@@ -1,6 +1,6 @@
 use mathlib.Core.Path.{refl}
-use Rattle.records.specs.Records.{issueOf}
 use borrow.Author.Needs.{needs}
+use Rattle.records.specs.Records.{issueOf}
 use Rattle.records.proofs.issue_of.Statement.{statement}
 use Rattle.records.proofs.issue_of.Tie as tie
 use Rattle.records.proofs.issue_of.Reads as reads

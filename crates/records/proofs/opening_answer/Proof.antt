@@ -1,6 +1,5 @@
-use mathlib.Core.Path.{_≡_, refl, sym, ap, _∙_}
-use Rattle.records.proofs.Laws.{opening-taken, opening-out}
 use borrow.Author.Needs.{needs}
+use Rattle.records.proofs.Laws.{opening-taken, opening-out}
 use Rattle.records.proofs.opening_answer.Statement.{statement}
 use Rattle.records.proofs.opening_answer.Tie as tie
 use Rattle.records.proofs.opening_answer.Reads as reads
@@ -15,10 +14,10 @@ opening-fits-requires : tie.Need-opening-fits-requires
 opening-fits-requires c κs = search needs
 
 returns : tie.Need-returns
-returns c = opening-taken _ (cc)
+returns c = opening-taken _ _ (c .before .before .opening-of .ensures) _ (c .before .opening-fits .ensures) (c .if1 .taken)
 
 returns-2 : tie.Need-returns-2
-returns-2 c = opening-out _ (cc)
+returns-2 c = opening-out _ _ (c .before .before .opening-of .ensures) _ (c .before .opening-fits .ensures) (c .if1 .left)
 
 pub opening-answer-spec : {M : Type 1} → statement M
 opening-answer-spec =

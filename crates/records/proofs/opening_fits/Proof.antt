@@ -1,4 +1,4 @@
-use mathlib.Core.Path.{_≡_, refl, sym, ap, _∙_}
+use mathlib.Core.Path.{refl}
 use Rattle.records.specs.Fields.{openingFits}
 use Rattle.records.proofs.opening_fits.Statement.{statement}
 use Rattle.records.proofs.opening_fits.Tie as tie

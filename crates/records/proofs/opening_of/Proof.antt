@@ -1,5 +1,5 @@
-use Rattle.records.specs.Records.{openingOf}
 use borrow.Author.Needs.{needs}
+use Rattle.records.specs.Records.{openingOf}
 use Rattle.records.proofs.opening_of.Statement.{statement}
 use Rattle.records.proofs.opening_of.Tie as tie
 use Rattle.records.proofs.opening_of.Reads as reads

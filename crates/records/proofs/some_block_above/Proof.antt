@@ -1,6 +1,5 @@
-use mathlib.Core.Path.{_≡_, refl, sym, ap, _∙_}
-use Rattle.records.proofs.Laws.{some-three}
 use borrow.Author.Needs.{needs}
+use Rattle.records.proofs.Laws.{some-three}
 use Rattle.records.proofs.some_block_above.Statement.{statement}
 use Rattle.records.proofs.some_block_above.Tie as tie
 use Rattle.records.proofs.some_block_above.Reads as reads

@@ -1,6 +1,6 @@
 use mathlib.Core.Path.{refl}
-use Rattle.records.specs.Records.{triggerOf}
 use borrow.Author.Needs.{needs}
+use Rattle.records.specs.Records.{triggerOf}
 use Rattle.records.proofs.trigger_of.Statement.{statement}
 use Rattle.records.proofs.trigger_of.Tie as tie
 use Rattle.records.proofs.trigger_of.Reads as reads

@@ -1,8 +1,5 @@
-use borrow.Author.Tests.{not-true, not-false}
-use Rattle.records.specs.Fields.{disagrees}
-use mathlib.Core.Path.{_≡_, refl, sym, ap, _∙_}
-use Rattle.records.proofs.Laws.{unit-out, unit-disagreeing, unit-taken}
 use borrow.Author.Needs.{needs}
+use Rattle.records.proofs.Laws.{unit-out, unit-disagreeing, unit-taken}
 use Rattle.records.proofs.unit_answer.Statement.{statement}
 use Rattle.records.proofs.unit_answer.Tie as tie
 use Rattle.records.proofs.unit_answer.Reads as reads
@@ -15,7 +12,7 @@ all-fit-requires : tie.Need-all-fit-requires
 all-fit-requires c κs = search needs
 
 returns : tie.Need-returns
-returns c = unit-out _ (sym (c .before .all-fit .ensures) ∙ not-true _ (c .if1 .taken))
+returns c = unit-out _ _ (c .before .all-fit .ensures) (c .if1 .taken)
 
 unit-of-requires : tie.Need-unit-of-requires
 unit-of-requires c κs = search needs
@@ -24,10 +21,10 @@ unit-disagrees-requires : tie.Need-unit-disagrees-requires
 unit-disagrees-requires c κs = search needs
 
 returns-2 : tie.Need-returns-2
-returns-2 c = unit-disagreeing _ (sym (c .before .before .before .before .all-fit .ensures) ∙ not-false _ (c .before .before .before .if1 .left)) (ap disagrees (sym (c .before .before .unit-of .ensures)) ∙ sym (c .before .unit-disagrees .ensures) ∙ c .if2 .taken)
+returns-2 c = unit-disagreeing _ _ (c .before .before .before .before .all-fit .ensures) _ (c .before .before .unit-of .ensures) _ (c .before .unit-disagrees .ensures) (c .before .before .before .if1 .left) (c .if2 .taken)
 
 returns-3 : tie.Need-returns-3
-returns-3 c = unit-taken _ (sym (c .before .before .before .before .all-fit .ensures) ∙ not-false _ (c .before .before .before .if1 .left)) (ap disagrees (sym (c .before .before .unit-of .ensures)) ∙ sym (c .before .unit-disagrees .ensures) ∙ c .if2 .left)
+returns-3 c = unit-taken _ _ (c .before .before .before .before .all-fit .ensures) _ (c .before .before .unit-of .ensures) _ (c .before .unit-disagrees .ensures) (c .before .before .before .if1 .left) (c .if2 .left)
 
 pub unit-answer-spec : {M : Type 1} → statement M
 unit-answer-spec =

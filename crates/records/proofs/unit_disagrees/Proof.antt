@@ -1,6 +1,5 @@
-use mathlib.Core.Path.{_≡_, refl, sym, ap, _∙_}
-use Rattle.records.specs.Fields.{disagrees}
 use borrow.Author.Needs.{needs}
+use Rattle.records.specs.Fields.{disagrees}
 use Rattle.records.proofs.unit_disagrees.Statement.{statement}
 use Rattle.records.proofs.unit_disagrees.Tie as tie
 use Rattle.records.proofs.unit_disagrees.Reads as reads

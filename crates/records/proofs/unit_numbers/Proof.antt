@@ -1,12 +1,12 @@
 -- `unit_numbers` meets its contract. The loop's invariant: the first `i` elements are the first `i` numbers.
 -- Assumes nothing.
-use Prim.Native.Nat.{ℕ, suc, zero, _≤_, _<_, _-_, _+_, _*_}
-use mathlib.Core.Path.{_≡_, refl, sym, _∙_, ap}
-use mathlib.Core.List.{List, [], _∷_, _++_}
+use Prim.Native.Nat.{ℕ, _≤_, _<_, _-_, _+_, _*_}
+use mathlib.Core.Path.{_≡_, refl, sym, _∙_}
+use mathlib.Core.List.{List}
 use native.Mathlib.Omega.{arith}
 use native.Mathlib.Numerals.{add-one}
 use borrow.Author.Needs.{needs}
-use lib.ListN.{length, take, drop, set, length-set}
+use lib.ListN.{length, take, set, length-set}
 use lib.Seq.{take-suc-set, take-all}
 use Rattle.records.specs.Records.{numberAt, numbers}
 use Rattle.records.proofs.unit_numbers.Statement.{statement}

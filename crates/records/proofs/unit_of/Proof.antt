@@ -1,7 +1,7 @@
-use Rattle.records.specs.Records.{unitOf}
 use mathlib.Core.List.{[], _∷_}
 use lib.ListN.{getD}
 use borrow.Author.Needs.{needs}
+use Rattle.records.specs.Records.{unitOf}
 use Rattle.records.proofs.unit_of.Statement.{statement}
 use Rattle.records.proofs.unit_of.Tie as tie
 use Rattle.records.proofs.unit_of.Reads as reads
