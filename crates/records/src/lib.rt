@@ -11,6 +11,15 @@ ghost use Rattle.records.specs.Codes.{meaningOf, meaningIn, isUnknown, c
 ghost use Rattle.records.specs.Fields.{unitRanges, fitFrom, falls, disagrees, unitAnswer, openingFits, openingAnswer, figuresFit, instructionAnswer};
 ghost use Rattle.records.specs.Records.{sizeOf, numberAt, numbers, triggerOf, columnOf, unitOf, openingOf, issueOf, instructionOf};
 
+// The highest that a level in kW, a rate in kW a minute and the seconds off may be.
+const MOST_KW: u32 = 2000000;
+
+const MOST_RATE: u32 = 200000;
+
+const MOST_OFF: u32 = 10000000;
+// An issue time lies at most so many seconds before or after 06:00: a week.
+const WEEK: u32 = 604800;
+
 // A soak or dwell trigger: a level in kW, and the minutes that the unit holds there. 0 minutes: no hold.
 pub struct Trigger {
     pub level: u32,
@@ -347,7 +356,7 @@ pub fn opening_of(body: &[u8]) -> Opening
 fn issue_of(n: u32) -> u32
     ensures { λ r. ⌜ r ≡ issueOf n ⌝ }
 {
-    let sum = n as u64 + 604800;
+    let sum = n as u64 + WEEK as u64;
     let seconds = sum % 4294967296;
     seconds as u32
 }
@@ -395,134 +404,134 @@ pub fn instruction_of(body: &[u8]) -> Instruction
 
 // The lowest that each of a unit's 62 numbers may be.
 const LOWS: [u32; 62] = [
-    1,
-    1,
-    1,
-    0,
-    0,
-    0,
-    1,
-    1,
-    1,
-    0,
-    0,
-    0,
-    0,
-    0,
-    0,
-    0,
-    1,
-    1,
-    1,
-    0,
-    0,
-    0,
-    0,
-    0,
-    0,
-    0,
-    1,
-    1,
-    1,
-    0,
-    0,
-    0,
-    0,
-    0,
-    0,
-    1,
-    1,
-    1,
-    1,
-    1,
-    0,
-    0,
-    0,
-    0,
-    0,
-    0,
-    0,
-    0,
-    0,
-    0,
-    1,
-    1,
-    1,
-    1,
-    1,
-    0,
-    0,
-    0,
-    0,
-    1,
-    1,
-    0,
+    1, // capacity
+    1, // short-term maximum
+    1, // MSG
+    0, // hot boundary
+    0, // warm boundary
+    0, // hot block load
+    1, // hot rate 1
+    1, // hot rate 2
+    1, // hot rate 3
+    0, // hot break 1
+    0, // hot break 2
+    0, // hot soak trigger 1
+    0, // hot soak trigger 2
+    0, // hot soak minutes 1
+    0, // hot soak minutes 2
+    0, // warm block load
+    1, // warm rate 1
+    1, // warm rate 2
+    1, // warm rate 3
+    0, // warm break 1
+    0, // warm break 2
+    0, // warm soak trigger 1
+    0, // warm soak trigger 2
+    0, // warm soak minutes 1
+    0, // warm soak minutes 2
+    0, // cold block load
+    1, // cold rate 1
+    1, // cold rate 2
+    1, // cold rate 3
+    0, // cold break 1
+    0, // cold break 2
+    0, // cold soak trigger 1
+    0, // cold soak trigger 2
+    0, // cold soak minutes 1
+    0, // cold soak minutes 2
+    1, // ramp-up rate 1
+    1, // ramp-up rate 2
+    1, // ramp-up rate 3
+    1, // ramp-up rate 4
+    1, // ramp-up rate 5
+    0, // ramp-up break 1
+    0, // ramp-up break 2
+    0, // ramp-up break 3
+    0, // ramp-up break 4
+    0, // dwell trigger 1
+    0, // dwell trigger 2
+    0, // dwell trigger 3
+    0, // dwell minutes 1
+    0, // dwell minutes 2
+    0, // dwell minutes 3
+    1, // ramp-down rate 1
+    1, // ramp-down rate 2
+    1, // ramp-down rate 3
+    1, // ramp-down rate 4
+    1, // ramp-down rate 5
+    0, // ramp-down break 1
+    0, // ramp-down break 2
+    0, // ramp-down break 3
+    0, // ramp-down break 4
+    1, // deload rate 1
+    1, // deload rate 2
+    0, // deload break
 ];
 
 // The highest that each may be.
 const HIGHS: [u32; 62] = [
-    2000000,
-    2000000,
-    2000000,
-    100000,
-    100000,
-    2000000,
-    200000,
-    200000,
-    200000,
-    2000000,
-    2000000,
-    2000000,
-    2000000,
-    1440,
-    1440,
-    2000000,
-    200000,
-    200000,
-    200000,
-    2000000,
-    2000000,
-    2000000,
-    2000000,
-    1440,
-    1440,
-    2000000,
-    200000,
-    200000,
-    200000,
-    2000000,
-    2000000,
-    2000000,
-    2000000,
-    1440,
-    1440,
-    200000,
-    200000,
-    200000,
-    200000,
-    200000,
-    2000000,
-    2000000,
-    2000000,
-    2000000,
-    2000000,
-    2000000,
-    2000000,
-    1440,
-    1440,
-    1440,
-    200000,
-    200000,
-    200000,
-    200000,
-    200000,
-    2000000,
-    2000000,
-    2000000,
-    2000000,
-    200000,
-    200000,
-    2000000,
+    2000000, // capacity
+    2000000, // short-term maximum
+    2000000, // MSG
+    100000, // hot boundary
+    100000, // warm boundary
+    2000000, // hot block load
+    200000, // hot rate 1
+    200000, // hot rate 2
+    200000, // hot rate 3
+    2000000, // hot break 1
+    2000000, // hot break 2
+    2000000, // hot soak trigger 1
+    2000000, // hot soak trigger 2
+    1440, // hot soak minutes 1
+    1440, // hot soak minutes 2
+    2000000, // warm block load
+    200000, // warm rate 1
+    200000, // warm rate 2
+    200000, // warm rate 3
+    2000000, // warm break 1
+    2000000, // warm break 2
+    2000000, // warm soak trigger 1
+    2000000, // warm soak trigger 2
+    1440, // warm soak minutes 1
+    1440, // warm soak minutes 2
+    2000000, // cold block load
+    200000, // cold rate 1
+    200000, // cold rate 2
+    200000, // cold rate 3
+    2000000, // cold break 1
+    2000000, // cold break 2
+    2000000, // cold soak trigger 1
+    2000000, // cold soak trigger 2
+    1440, // cold soak minutes 1
+    1440, // cold soak minutes 2
+    200000, // ramp-up rate 1
+    200000, // ramp-up rate 2
+    200000, // ramp-up rate 3
+    200000, // ramp-up rate 4
+    200000, // ramp-up rate 5
+    2000000, // ramp-up break 1
+    2000000, // ramp-up break 2
+    2000000, // ramp-up break 3
+    2000000, // ramp-up break 4
+    2000000, // dwell trigger 1
+    2000000, // dwell trigger 2
+    2000000, // dwell trigger 3
+    1440, // dwell minutes 1
+    1440, // dwell minutes 2
+    1440, // dwell minutes 3
+    200000, // ramp-down rate 1
+    200000, // ramp-down rate 2
+    200000, // ramp-down rate 3
+    200000, // ramp-down rate 4
+    200000, // ramp-down rate 5
+    2000000, // ramp-down break 1
+    2000000, // ramp-down break 2
+    2000000, // ramp-down break 3
+    2000000, // ramp-down break 4
+    200000, // deload rate 1
+    200000, // deload rate 2
+    2000000, // deload break
 ];
 
 // All 62 numbers lie in their ranges.
@@ -626,9 +635,9 @@ fn opening_fits(o: Opening) -> bool
     ensures { λ r. ⌜ r ≡ openingFits o ⌝ }
 {
     let level = o.level.grains <= level::Level::LARGEST;
-    let target = o.target <= 2000000;
+    let target = o.target <= MOST_KW;
     let heat = (1 <= o.heat) & (o.heat <= 3);
-    let off = o.off <= 10000000;
+    let off = o.off <= MOST_OFF;
     level & (target & (heat & off))
 }
 
@@ -653,7 +662,7 @@ fn figures_fit(i: Instruction) -> bool
     let mwof = Effect::Mwof;
     let carries = same_effect(effect, mwof);
     if carries {
-        return (i.level <= 2000000) & ((i.up <= 200000) & (i.down <= 200000));
+        return (i.level <= MOST_KW) & ((i.up <= MOST_RATE) & (i.down <= MOST_RATE));
     }
     (i.level == 0) & ((i.up == 0) & (i.down == 0))
 }
@@ -680,7 +689,7 @@ pub fn instruction_answer(end: u32, body: &[u8]) -> Answer
     if end <= i.effective {
         return Answer::Refused(Refusal::EffectiveTime);
     }
-    if 1209600 < i.issue {
+    if 2 * WEEK < i.issue {
         return Answer::Refused(Refusal::IssueTime);
     }
     let fit = figures_fit(i);

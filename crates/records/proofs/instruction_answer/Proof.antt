@@ -25,6 +25,9 @@ instruction-of-requires c κs = search needs
 returns-2 : tie.Need-returns-2
 returns-2 c = effective-late _ _ _ (c .before .before .before .before .before .code-of .ensures) _ (c .before .before .before .before .is-unknown .ensures) (c .before .before .before .if1 .left) _ (c .before .before .instruction-of .ensures) (omega arith)
 
+mul-if3 : tie.Need-mul-if3
+mul-if3 c = search needs
+
 returns-3 : tie.Need-returns-3
 returns-3 c = issue-out _ _ _ (c .before .before .before .before .before .before .before .code-of .ensures) _ (c .before .before .before .before .before .before .is-unknown .ensures) (c .before .before .before .before .before .if1 .left) _ (c .before .before .before .before .instruction-of .ensures) (omega arith) (omega arith)
 
@@ -46,6 +49,7 @@ instruction-answer-spec =
     returns
     instruction-of-requires
     returns-2
+    mul-if3
     returns-3
     figures-fit-requires
     returns-4

@@ -6,6 +6,9 @@ use Rattle.records.proofs.issue_of.Tie as tie
 use Rattle.records.proofs.issue_of.Reads as reads
 use Rattle.records.proofs.issue_of.Lts as lts
 
+cast-sum : tie.Need-cast-sum
+cast-sum c = search needs
+
 add-sum : tie.Need-add-sum
 add-sum c = search needs
 
@@ -17,4 +20,4 @@ unfolding issueOf
 returns c = refl
 
 pub issue-of-spec : {M : Type 1} → statement M
-issue-of-spec = tie.close (tie.spec add-sum cast-result returns)
+issue-of-spec = tie.close (tie.spec cast-sum add-sum cast-result returns)
