@@ -10,6 +10,7 @@ use Rattle.records.proofs.all_fit.Tie as tie
 use Rattle.records.proofs.all_fit.Reads as reads
 use Rattle.records.proofs.all_fit.Lts as lts
 
+-- what is left to look at says what the whole says
 abbrev Inv-loop : tie.InvT-loop
 Inv-loop ns i₀ i = (i ≤ 62) × (fitFrom (drop i unitRanges) ns i ≡ fitFrom unitRanges ns 0)
 

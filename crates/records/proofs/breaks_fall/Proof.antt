@@ -10,6 +10,7 @@ use Rattle.records.proofs.breaks_fall.Tie as tie
 use Rattle.records.proofs.breaks_fall.Reads as reads
 use Rattle.records.proofs.breaks_fall.Lts as lts
 
+-- what is left to look at says what the whole says
 abbrev Inv-loop : tie.InvT-loop
 Inv-loop breaks before₀ i₀ before i = (i ≤ length breaks) × (fallsBelow before (drop i breaks) ≡ falls breaks)
 

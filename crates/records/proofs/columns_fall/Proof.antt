@@ -25,8 +25,11 @@ breaks-fall-requires-3 : tie.Need-breaks-fall-requires-3
 breaks-fall-requires-3 c κs = search needs
 
 returns : tie.Need-returns
-returns c = rw (c .breaks-fall3 .ensures, c .before .before .before .before .breaks-fall2 .ensures, c .before .before .before .before .before .before .before .before .breaks-fall .ensures)
-    (some-three _ (c .before .before .before .before .before .before .before .before .before .before .before .before .before .before .before .args .t1) _ (c .before .before .before .before .before .before .before .before .before .before .before .before .before .before .before .good .0 .1 .0 .1))
+returns c =
+    let warm = c .before .before .before .before in
+    let hot = warm .before .before .before .before in
+    let s = hot .before .before .before .before .before .before .before in
+    rw (c .breaks-fall3 .ensures, warm .breaks-fall2 .ensures, hot .breaks-fall .ensures) (some-three _ (s .args .t1) _ (s .good .0 .1 .0 .1))
 
 pub columns-fall-spec : {M : Type 1} → statement M
 columns-fall-spec =

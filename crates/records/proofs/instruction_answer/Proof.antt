@@ -23,22 +23,32 @@ instruction-of-requires : tie.Need-instruction-of-requires
 instruction-of-requires c κs = search needs
 
 returns-2 : tie.Need-returns-2
-returns-2 c = effective-late _ _ _ (c .before .before .before .before .before .code-of .ensures) _ (c .before .before .before .before .is-unknown .ensures) (c .before .before .before .if1 .left) _ (c .before .before .instruction-of .ensures) (omega arith)
+returns-2 c =
+    let s = c .before .before .before in
+    effective-late _ _ _ (s .before .before .code-of .ensures) _ (s .before .is-unknown .ensures) (s .if1 .left) _ (c .before .before .instruction-of .ensures) (omega arith)
 
 mul-if3 : tie.Need-mul-if3
 mul-if3 c = search needs
 
 returns-3 : tie.Need-returns-3
-returns-3 c = issue-out _ _ _ (c .before .before .before .before .before .before .before .code-of .ensures) _ (c .before .before .before .before .before .before .is-unknown .ensures) (c .before .before .before .before .before .if1 .left) _ (c .before .before .before .before .instruction-of .ensures) (omega arith) (omega arith)
+returns-3 c =
+    let s = c .before .before .before .before .before in
+    issue-out _ _ _ (s .before .before .code-of .ensures) _ (s .before .is-unknown .ensures) (s .if1 .left) _ (c .before .before .before .before .instruction-of .ensures) (omega arith) (omega arith)
 
 figures-fit-requires : tie.Need-figures-fit-requires
 figures-fit-requires c κs = search needs
 
 returns-4 : tie.Need-returns-4
-returns-4 c = instruction-taken _ _ _ (c .before .before .before .before .before .before .before .before .before .code-of .ensures) _ (c .before .before .before .before .before .before .before .before .is-unknown .ensures) (c .before .before .before .before .before .before .before .if1 .left) _ (c .before .before .before .before .before .before .instruction-of .ensures) (omega arith) (omega arith) _ (c .before .figures-fit .ensures) (c .if4 .taken)
+returns-4 c =
+    let i = c .before .before .before .before .before .before in
+    let s = i .before in
+    instruction-taken _ _ _ (s .before .before .code-of .ensures) _ (s .before .is-unknown .ensures) (s .if1 .left) _ (i .instruction-of .ensures) (omega arith) (omega arith) _ (c .before .figures-fit .ensures) (c .if4 .taken)
 
 returns-5 : tie.Need-returns-5
-returns-5 c = figures-out _ _ _ (c .before .before .before .before .before .before .before .before .before .code-of .ensures) _ (c .before .before .before .before .before .before .before .before .is-unknown .ensures) (c .before .before .before .before .before .before .before .if1 .left) _ (c .before .before .before .before .before .before .instruction-of .ensures) (omega arith) (omega arith) _ (c .before .figures-fit .ensures) (c .if4 .left)
+returns-5 c =
+    let i = c .before .before .before .before .before .before in
+    let s = i .before in
+    figures-out _ _ _ (s .before .before .code-of .ensures) _ (s .before .is-unknown .ensures) (s .if1 .left) _ (i .instruction-of .ensures) (omega arith) (omega arith) _ (c .before .figures-fit .ensures) (c .if4 .left)
 
 pub instruction-answer-spec : {M : Type 1} → statement M
 instruction-answer-spec =

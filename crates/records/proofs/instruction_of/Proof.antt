@@ -38,10 +38,11 @@ number-requires-5 c κs = search needs
 returns : tie.Need-returns
 unfolding instructionOf
 returns c =
-    let issue = c .before .before .before .before .before .issue-of .ensures ∙ ap issueOf (c .before .before .before .before .before .before .number2 .ensures) in
-    let meaning = c .before .before .before .meaning-in .ensures ∙ ap meaningIn (c .before .before .before .before .code-of .ensures) in
+    let code = c .before .before .before .before in
+    let issue = code .before .issue-of .ensures ∙ ap issueOf (code .before .before .number2 .ensures) in
+    let meaning = c .before .before .before .meaning-in .ensures ∙ ap meaningIn (code .code-of .ensures) in
     λ i. record {
-      effective = (c .before .before .before .before .before .before .before .number .ensures) i;
+      effective = (code .before .before .before .number .ensures) i;
       issue = issue i;
       meaning = meaning i;
       level = (c .before .before .number3 .ensures) i;

@@ -21,10 +21,14 @@ unit-disagrees-requires : tie.Need-unit-disagrees-requires
 unit-disagrees-requires c κs = search needs
 
 returns-2 : tie.Need-returns-2
-returns-2 c = unit-disagreeing _ _ (c .before .before .before .before .all-fit .ensures) _ (c .before .before .unit-of .ensures) _ (c .before .unit-disagrees .ensures) (c .before .before .before .if1 .left) (c .if2 .taken)
+returns-2 c =
+    let s = c .before .before .before in
+    unit-disagreeing _ _ (s .before .all-fit .ensures) _ (c .before .before .unit-of .ensures) _ (c .before .unit-disagrees .ensures) (s .if1 .left) (c .if2 .taken)
 
 returns-3 : tie.Need-returns-3
-returns-3 c = unit-taken _ _ (c .before .before .before .before .all-fit .ensures) _ (c .before .before .unit-of .ensures) _ (c .before .unit-disagrees .ensures) (c .before .before .before .if1 .left) (c .if2 .left)
+returns-3 c =
+    let s = c .before .before .before in
+    unit-taken _ _ (s .before .all-fit .ensures) _ (c .before .before .unit-of .ensures) _ (c .before .unit-disagrees .ensures) (s .if1 .left) (c .if2 .left)
 
 pub unit-answer-spec : {M : Type 1} → statement M
 unit-answer-spec =

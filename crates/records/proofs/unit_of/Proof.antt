@@ -61,8 +61,9 @@ array-read-t37 c = search needs
 returns : tie.Need-returns
 unfolding unitOf
 returns c =
-    let ns = c .before .before .before .before .before .before .before .before .args .t1 in
-    let up = c .before .before .before .before .ramp-of .ensures in
+    let up = c .before .before .before .before in
+    let hot = up .before .before .before in
+    let ns = hot .before .args .t1 in
     let down = c .ramp-of2 .ensures in
     λ i. record {
       capacity = getD ns 0 0;
@@ -70,8 +71,8 @@ returns c =
       msg = getD ns 2 0;
       hot = getD ns 3 0;
       warm = getD ns 4 0;
-      columns = (c .before .before .before .before .before .before .before .column-of .ensures) i ∷ (c .before .before .before .before .before .before .column-of2 .ensures) i ∷ (c .before .before .before .before .before .column-of3 .ensures) i ∷ [];
-      up = record { rates = (up .0) i; breaks = (up .1) i };
+      columns = (hot .column-of .ensures) i ∷ (up .before .before .column-of2 .ensures) i ∷ (up .before .column-of3 .ensures) i ∷ [];
+      up = record { rates = (up .ramp-of .ensures .0) i; breaks = (up .ramp-of .ensures .1) i };
       dwells = (c .before .before .before .trigger-of .ensures) i ∷ (c .before .before .trigger-of2 .ensures) i ∷ (c .before .trigger-of3 .ensures) i ∷ [];
       down = record { rates = (down .0) i; breaks = (down .1) i };
       deload = record { rates = getD ns 59 0 ∷ getD ns 60 0 ∷ []; breaks = getD ns 61 0 ∷ [] };
