@@ -1,0 +1,65 @@
+use mathlib.Core.Path.{ap, _∙_}
+use borrow.Author.Needs.{needs}
+use Rattle.records.specs.Codes.{meaningIn}
+use Rattle.records.specs.Records.{issueOf, instructionOf}
+use Rattle.records.proofs.instruction_of.Statement.{statement}
+use Rattle.records.proofs.instruction_of.Tie as tie
+use Rattle.records.proofs.instruction_of.Reads as reads
+use Rattle.records.proofs.instruction_of.Lts as lts
+use Rattle.records.proofs.code_of.Reads as code-of-reads
+use Rattle.records.proofs.issue_of.Reads as issue-of-reads
+use Rattle.records.proofs.meaning_in.Reads as meaning-in-reads
+use Rattle.records.proofs.number.Reads as number-reads
+
+number-requires : tie.Need-number-requires
+number-requires c κs = search needs
+
+number-requires-2 : tie.Need-number-requires-2
+number-requires-2 c κs = search needs
+
+issue-of-requires : tie.Need-issue-of-requires
+issue-of-requires c κs = search needs
+
+code-of-requires : tie.Need-code-of-requires
+code-of-requires c κs = search needs
+
+meaning-in-requires : tie.Need-meaning-in-requires
+meaning-in-requires c κs = search needs
+
+number-requires-3 : tie.Need-number-requires-3
+number-requires-3 c κs = search needs
+
+number-requires-4 : tie.Need-number-requires-4
+number-requires-4 c κs = search needs
+
+number-requires-5 : tie.Need-number-requires-5
+number-requires-5 c κs = search needs
+
+returns : tie.Need-returns
+unfolding instructionOf
+returns c =
+    let code = c .before .before .before .before in
+    let issue = code .before .issue-of .ensures ∙ ap issueOf (code .before .before .number2 .ensures) in
+    let meaning = c .before .before .before .meaning-in .ensures ∙ ap meaningIn (code .code-of .ensures) in
+    λ i. record {
+      effective = (code .before .before .before .number .ensures) i;
+      issue = issue i;
+      meaning = meaning i;
+      level = (c .before .before .number3 .ensures) i;
+      up = (c .before .number4 .ensures) i;
+      down = (c .number5 .ensures) i;
+    }
+
+pub instruction-of-spec : {M : Type 1} → statement M
+instruction-of-spec =
+    tie.close
+    (tie.spec
+    number-requires
+    number-requires-2
+    issue-of-requires
+    code-of-requires
+    meaning-in-requires
+    number-requires-3
+    number-requires-4
+    number-requires-5
+    returns)
