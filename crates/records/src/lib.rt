@@ -11,8 +11,10 @@ ghost use Rattle.records.specs.Codes.{meaningOf, meaningIn, isUnknown, c
 ghost use Rattle.records.specs.Fields.{unitRanges, fitFrom, falls, disagrees, unitAnswer, openingFits, openingAnswer, figuresFit, instructionAnswer};
 ghost use Rattle.records.specs.Records.{sizeOf, numberAt, numbers, triggerOf, columnOf, unitOf, openingOf, issueOf, instructionOf};
 
-// The highest that a level in kW, a rate in kW a minute and the seconds off may be.
+// The highest that a level in kW or in grains, a rate in kW a minute and the seconds off may be.
 const MOST_KW: u32 = 2000000;
+
+const MOST_GRAINS: u32 = 120000000;
 
 const MOST_RATE: u32 = 200000;
 
@@ -339,8 +341,7 @@ pub fn unit_of(ns: [u32; 62]) -> UnitData
 pub fn opening_of(body: &[u8]) -> Opening
     ensures { λ r. ⌜ r ≡ openingOf (now (body .entry)) ⌝ }
 {
-    let grains = number(body, 0) as u64;
-    let level = level::Level { grains };
+    let level = number(body, 0);
     let target = number(body, 4);
     let heat = number(body, 8);
     let off = number(body, 12);
@@ -634,7 +635,7 @@ pub fn unit_answer(ns: [u32; 62]) -> Answer
 fn opening_fits(o: Opening) -> bool
     ensures { λ r. ⌜ r ≡ openingFits o ⌝ }
 {
-    let level = o.level.grains <= level::Level::LARGEST;
+    let level = o.level <= MOST_GRAINS;
     let target = o.target <= MOST_KW;
     let heat = (1 <= o.heat) & (o.heat <= 3);
     let off = o.off <= MOST_OFF;

@@ -9,9 +9,6 @@ use Rattle.records.proofs.number.Reads as number-reads
 number-requires : tie.Need-number-requires
 number-requires c κs = search needs
 
-cast-grains : tie.Need-cast-grains
-cast-grains c = search needs
-
 number-requires-2 : tie.Need-number-requires-2
 number-requires-2 c κs = search needs
 
@@ -30,7 +27,6 @@ opening-of-spec =
     tie.close
     (tie.spec
     number-requires
-    cast-grains
     number-requires-2
     number-requires-3
     number-requires-4
