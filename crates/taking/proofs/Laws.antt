@@ -1,0 +1,141 @@
+-- The cases of taking a record, each with its conditions as plain facts.
+-- Assumes nothing.
+use mathlib.Core.Path.{_≡_, refl, ap, sym, _∙_}
+use mathlib.Core.List.{List, [], _∷_}
+use mathlib.Core.Bool.{Bool, true, false, _&&_, _||_, not}
+use Prim.Native.Nat.{ℕ, zero, suc, _+_, _*_, _-_, _≤_, _<_}
+use native.Mathlib.Omega.{arith}
+use lib.Dec.{leb, ltb, eqb}
+use lib.ListN.{length, getD, take, drop}
+use borrow.Author.Tests.{lt-ltb, le-ltb, le-leb, lt-leb, eq-eqb, ne-eqb}
+use Rattle.level.specs.Choice.{pick}
+use Rattle.records.specs.declared.Answer.{Answer}
+use Rattle.records.specs.declared.Answer.the-variants.{Accepted, Refused}
+use Rattle.records.specs.declared.Refusal.the-variants.{UnknownKind, TooFewBytes, SecondOne, BeforeUnit, OpeningTooHigh, TooManyInstructions, AfterClose, NotReady, QuantityTooHigh}
+use Rattle.records.specs.Answers.{accepted, refusing, firstRefusal}
+use Rattle.records.specs.Records.{sizeOf, numbers, unitOf, openingOf, instructionOf}
+use Rattle.records.specs.Fields.{unitAnswer, openingAnswer, instructionAnswer}
+use Rattle.profile.specs.Profile.{Found}
+use Rattle.day.specs.declared.Day.{Day}
+use Rattle.day.specs.declared.Stepped.{Stepped}
+use Rattle.day.specs.Day.{daySeconds, withUnit, withOpening, withInstruction, closedWith}
+use Rattle.day.specs.Step.{kindOf, bodyOf, noBytes, unknownKind, tooFew, secondOne, beforeUnit, tooMany, notReady, fieldAnswer, tooHigh, quantityTooHigh, answerBy, dayWith, stepBy}
+use Rattle.day.proofs.Passed.{by-bool, is-accepted, passed}
+use Rattle.taking.specs.Kinds.{refuse, accept, onAnswer, unitStep, openingStep, instructionStep, closeStep}
+
+-- what an answer makes of a day: as it stands, or taken
+settle : Answer → Day → Stepped → Stepped
+settle a d x = pick (accepted a) x (record { answer = a; day = d; used = 0 })
+
+module _ (find : Day → Found) (d : Day) (s : List ℕ) where
+  abbrev rest : Stepped
+  rest = accept (dayWith find d (kindOf s) (bodyOf s)) (sizeOf (kindOf s))
+
+  step-settles : stepBy find d s ≡ settle (answerBy find d s) d rest
+  unfolding stepBy settle
+  step-settles = refl
+
+  -- ---- before the kind counts
+  pub step-empty : length s ≡ 0 → refuse TooFewBytes d ≡ stepBy find d s
+  unfolding stepBy answerBy noBytes
+  step-empty h = simp (eq-eqb (length s) 0 h)
+
+  module _ (some : 1 ≤ length s) where
+    has : noBytes s ≡ false
+    unfolding noBytes
+    has = ne-eqb (length s) 0 (λ e. omega arith)
+
+    pub step-low : kindOf s < 1 → refuse UnknownKind d ≡ stepBy find d s
+    unfolding stepBy answerBy unknownKind
+    step-low h = simp (has, lt-leb 1 (kindOf s) h)
+
+    pub step-unknown : 4 < kindOf s → refuse UnknownKind d ≡ stepBy find d s
+    unfolding stepBy answerBy unknownKind
+    step-unknown h = simp (has, le-leb 1 (kindOf s) (omega arith), lt-leb (kindOf s) 4 h)
+
+    module _ (least : 1 ≤ kindOf s) (most : kindOf s ≤ 4) where
+      known : unknownKind s ≡ false
+      unfolding unknownKind
+      known = simp (le-leb 1 (kindOf s) least, le-leb (kindOf s) 4 most)
+
+      pub step-short : length s < sizeOf (kindOf s) → refuse TooFewBytes d ≡ stepBy find d s
+      unfolding stepBy answerBy tooFew
+      step-short h = simp (has, known, lt-ltb (length s) (sizeOf (kindOf s)) h)
+
+      module _ (long : sizeOf (kindOf s) ≤ length s) where
+        enough : tooFew s ≡ false
+        unfolding tooFew
+        enough = le-ltb (length s) (sizeOf (kindOf s)) long
+
+        pub step-closed : d .closed ≡ true → refuse AfterClose d ≡ stepBy find d s
+        unfolding stepBy answerBy
+        step-closed c = simp (has, known, enough, c)
+
+        module _ (open-day : d .closed ≡ false) where
+          answer-from : answerBy find d s ≡
+              firstRefusal
+              (refusing (secondOne d (kindOf s)) SecondOne
+              ∷ refusing (beforeUnit d (kindOf s)) BeforeUnit
+              ∷ refusing (tooMany d (kindOf s)) TooManyInstructions
+              ∷ refusing (notReady d (kindOf s)) NotReady
+              ∷ fieldAnswer (kindOf s) (bodyOf s)
+              ∷ refusing (eqb (kindOf s) 2 && tooHigh (d .unit) (openingOf (bodyOf s))) OpeningTooHigh
+              ∷ refusing (eqb (kindOf s) 4 && quantityTooHigh (d .unit) (find d)) QuantityTooHigh
+              ∷ [])
+          unfolding answerBy
+          answer-from = simp (has, known, enough, open-day)
+
+          pub step-unit : kindOf s ≡ 1 → unitStep d (bodyOf s) ≡ stepBy find d s
+          unfolding settle secondOne beforeUnit tooMany notReady fieldAnswer unitStep dayWith sizeOf
+          step-unit k = sym (step-settles ∙ (ap (λ (a : Answer). settle a d rest) answer-from ∙ rw k (go (d .hasUnit) (unitAnswer (numbers (bodyOf s) 62)))))
+            where
+              go : (h : Bool) (a : Answer) →
+                  settle (firstRefusal (refusing (h || false) SecondOne ∷ Accepted ∷ Accepted ∷ Accepted ∷ a ∷ Accepted ∷ Accepted ∷ [])) d (accept (withUnit d (unitOf (numbers (bodyOf s) 62))) 249)
+                  ≡ pick h (refuse SecondOne d) (onAnswer a d (accept (withUnit d (unitOf (numbers (bodyOf s) 62))) 249))
+              go true a = refl
+              go false Accepted = refl
+              go false (Refused r) = refl
+
+          pub step-opening : kindOf s ≡ 2 → openingStep d (bodyOf s) ≡ stepBy find d s
+          unfolding settle secondOne beforeUnit tooMany notReady fieldAnswer openingStep dayWith sizeOf
+          step-opening k =
+              sym (step-settles ∙ (ap (λ (a : Answer). settle a d rest) answer-from ∙ rw k (go (d .hasOpening) (d .hasUnit) (openingAnswer (bodyOf s)) (tooHigh (d .unit) (openingOf (bodyOf s))))))
+            where
+              go : (o u : Bool) (a : Answer) (t : Bool) →
+                  settle (firstRefusal (refusing o SecondOne ∷ refusing (not u) BeforeUnit ∷ Accepted ∷ Accepted ∷ a ∷ refusing t OpeningTooHigh ∷ Accepted ∷ [])) d (accept (withOpening d (openingOf (bodyOf s))) 17)
+                  ≡ pick o (refuse SecondOne d) (pick (not u) (refuse BeforeUnit d) (onAnswer a d (pick t (refuse OpeningTooHigh d) (accept (withOpening d (openingOf (bodyOf s))) 17))))
+              go true u a t = refl
+              go false false a t = refl
+              go false true (Refused r) t = refl
+              go false true Accepted true = refl
+              go false true Accepted false = refl
+
+          pub step-instruction : kindOf s ≡ 3 → instructionStep d (bodyOf s) ≡ stepBy find d s
+          unfolding settle secondOne beforeUnit tooMany notReady fieldAnswer instructionStep dayWith sizeOf
+          step-instruction k =
+              sym (step-settles ∙ (ap (λ (a : Answer). settle a d rest) answer-from ∙ rw k (go (d .hasUnit) (leb 40 (d .count)) (instructionAnswer daySeconds (bodyOf s)))))
+            where
+              go : (u m : Bool) (a : Answer) →
+                  settle (firstRefusal (Accepted ∷ refusing (not u) BeforeUnit ∷ refusing m TooManyInstructions ∷ Accepted ∷ a ∷ Accepted ∷ Accepted ∷ [])) d (accept (withInstruction d (instructionOf (bodyOf s))) 22)
+                  ≡ pick (not u) (refuse BeforeUnit d) (pick m (refuse TooManyInstructions d) (onAnswer a d (accept (withInstruction d (instructionOf (bodyOf s))) 22)))
+              go false m a = refl
+              go true true a = refl
+              go true false (Refused r) = refl
+              go true false Accepted = refl
+
+          pub step-close : kindOf s ≡ 4 → closeStep find d ≡ stepBy find d s
+          unfolding settle secondOne beforeUnit tooMany notReady fieldAnswer closeStep dayWith sizeOf
+          step-close k =
+              sym (step-settles ∙ (ap (λ (a : Answer). settle a d rest) answer-from ∙ rw k (go (d .hasOpening) (quantityTooHigh (d .unit) (find d)))))
+            where
+              go : (o q : Bool) →
+                  settle (firstRefusal (Accepted ∷ Accepted ∷ Accepted ∷ refusing (not o) NotReady ∷ Accepted ∷ Accepted ∷ refusing q QuantityTooHigh ∷ [])) d (accept (closedWith d (find d)) 1)
+                  ≡ pick (not o) (refuse NotReady d) (pick q (refuse QuantityTooHigh d) (accept (closedWith d (find d)) 1))
+              go false q = refl
+              go true true = refl
+              go true false = refl
+
+-- ---- a step uses no more than there is
+pub step-used : (find : Day → Found) (d : Day) (s : List ℕ) → stepBy find d s .used ≤ length s
+unfolding stepBy
+step-used find d s = by-bool (accepted (answerBy find d s)) (λ e. simp e (passed find d s (is-accepted (answerBy find d s) e) .long)) (λ e. simp e (omega arith))
