@@ -11,6 +11,7 @@ use borrow.Author.Tests.{lt-ltb, le-ltb, le-leb, lt-leb, eq-eqb, ne-eqb}
 use Rattle.level.specs.Choice.{pick}
 use Rattle.records.specs.declared.Answer.{Answer}
 use Rattle.records.specs.declared.Answer.the-variants.{Accepted, Refused}
+use Rattle.records.specs.declared.Refusal.{Refusal}
 use Rattle.records.specs.declared.Refusal.the-variants.{UnknownKind, TooFewBytes, SecondOne, BeforeUnit, OpeningTooHigh, TooManyInstructions, AfterClose, NotReady, QuantityTooHigh}
 use Rattle.records.specs.Answers.{accepted, refusing, firstRefusal}
 use Rattle.records.specs.Records.{sizeOf, numbers, unitOf, openingOf, instructionOf}
@@ -139,3 +140,54 @@ module _ (find : Day → Found) (d : Day) (s : List ℕ) where
 pub step-used : (find : Day → Found) (d : Day) (s : List ℕ) → stepBy find d s .used ≤ length s
 unfolding stepBy
 step-used find d s = by-bool (accepted (answerBy find d s)) (λ e. simp e (passed find d s (is-accepted (answerBy find d s) e) .long)) (λ e. simp e (omega arith))
+
+-- ---- the steps of each kind, case by case
+module _ (d : Day) (b : List ℕ) where
+  pub unit-second : d .hasUnit ≡ true → refuse SecondOne d ≡ unitStep d b
+  unfolding unitStep
+  unit-second h = simp h
+
+  pub unit-refused : {r : Refusal} → d .hasUnit ≡ false → unitAnswer (numbers b 62) ≡ Refused r → refuse r d ≡ unitStep d b
+  unfolding unitStep
+  unit-refused h a = simp (h, a)
+
+  pub unit-taken : d .hasUnit ≡ false → unitAnswer (numbers b 62) ≡ Accepted → accept (withUnit d (unitOf (numbers b 62))) 249 ≡ unitStep d b
+  unfolding unitStep
+  unit-taken h a = simp (h, a)
+
+  pub opening-second : d .hasOpening ≡ true → refuse SecondOne d ≡ openingStep d b
+  unfolding openingStep
+  opening-second h = simp h
+
+  pub opening-before : d .hasOpening ≡ false → d .hasUnit ≡ false → refuse BeforeUnit d ≡ openingStep d b
+  unfolding openingStep
+  opening-before h u = simp (h, u)
+
+  pub opening-refused : {r : Refusal} → d .hasOpening ≡ false → d .hasUnit ≡ true → openingAnswer b ≡ Refused r → refuse r d ≡ openingStep d b
+  unfolding openingStep
+  opening-refused h u a = simp (h, u, a)
+
+  pub opening-high : d .hasOpening ≡ false → d .hasUnit ≡ true → openingAnswer b ≡ Accepted → tooHigh (d .unit) (openingOf b) ≡ true → refuse OpeningTooHigh d ≡ openingStep d b
+  unfolding openingStep
+  opening-high h u a t = simp (h, u, a, t)
+
+  pub opening-taken : d .hasOpening ≡ false → d .hasUnit ≡ true → openingAnswer b ≡ Accepted → tooHigh (d .unit) (openingOf b) ≡ false →
+      accept (withOpening d (openingOf b)) 17 ≡ openingStep d b
+  unfolding openingStep
+  opening-taken h u a t = simp (h, u, a, t)
+
+  pub instruction-before : d .hasUnit ≡ false → refuse BeforeUnit d ≡ instructionStep d b
+  unfolding instructionStep
+  instruction-before u = simp u
+
+  pub instruction-many : d .hasUnit ≡ true → 40 ≤ d .count → refuse TooManyInstructions d ≡ instructionStep d b
+  unfolding instructionStep
+  instruction-many u m = simp (u, le-leb 40 (d .count) m)
+
+  pub instruction-refused : {r : Refusal} → d .hasUnit ≡ true → d .count < 40 → instructionAnswer daySeconds b ≡ Refused r → refuse r d ≡ instructionStep d b
+  unfolding instructionStep
+  instruction-refused u m a = simp (u, lt-leb 40 (d .count) m, a)
+
+  pub instruction-taken : d .hasUnit ≡ true → d .count < 40 → instructionAnswer daySeconds b ≡ Accepted → accept (withInstruction d (instructionOf b)) 22 ≡ instructionStep d b
+  unfolding instructionStep
+  instruction-taken u m a = simp (u, lt-leb 40 (d .count) m, a)
