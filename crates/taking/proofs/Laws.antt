@@ -9,6 +9,10 @@ use lib.Dec.{leb, ltb, eqb}
 use lib.ListN.{length, getD, take, drop}
 use borrow.Author.Tests.{lt-ltb, le-ltb, le-leb, lt-leb, eq-eqb, ne-eqb}
 use Rattle.level.specs.Choice.{pick}
+use Rattle.level.specs.declared.Level.{Level}
+use Rattle.level.specs.Level.{grains, fromKw}
+use Rattle.records.specs.declared.UnitData.{UnitData}
+use Rattle.records.specs.declared.Opening.{Opening}
 use Rattle.records.specs.declared.Answer.{Answer}
 use Rattle.records.specs.declared.Answer.the-variants.{Accepted, Refused}
 use Rattle.records.specs.declared.Refusal.{Refusal}
@@ -22,7 +26,7 @@ use Rattle.day.specs.declared.Stepped.{Stepped}
 use Rattle.day.specs.Day.{daySeconds, withUnit, withOpening, withInstruction, closedWith}
 use Rattle.day.specs.Step.{kindOf, bodyOf, noBytes, unknownKind, tooFew, secondOne, beforeUnit, tooMany, notReady, fieldAnswer, tooHigh, quantityTooHigh, answerBy, dayWith, stepBy}
 use Rattle.day.proofs.Passed.{by-bool, is-accepted, passed}
-use Rattle.taking.specs.Kinds.{refuse, accept, onAnswer, unitStep, openingStep, instructionStep, closeStep}
+use Rattle.taking.specs.Kinds.{refuse, accept, onAnswer, unitStep, openingTaken, openingStep, instructionStep, closeStep}
 
 -- what an answer makes of a day: as it stands, or taken
 settle : Answer → Day → Stepped → Stepped
@@ -98,7 +102,7 @@ module _ (find : Day → Found) (d : Day) (s : List ℕ) where
               go false (Refused r) = refl
 
           pub step-opening : kindOf s ≡ 2 → openingStep d (bodyOf s) ≡ stepBy find d s
-          unfolding settle secondOne beforeUnit tooMany notReady fieldAnswer openingStep dayWith sizeOf
+          unfolding settle secondOne beforeUnit tooMany notReady fieldAnswer openingStep openingTaken dayWith sizeOf
           step-opening k =
               sym (step-settles ∙ (ap (λ (a : Answer). settle a d rest) answer-from ∙ rw k (go (d .hasOpening) (d .hasUnit) (openingAnswer (bodyOf s)) (tooHigh (d .unit) (openingOf (bodyOf s))))))
             where
@@ -167,14 +171,9 @@ module _ (d : Day) (b : List ℕ) where
   unfolding openingStep
   opening-refused h u a = simp (h, u, a)
 
-  pub opening-high : d .hasOpening ≡ false → d .hasUnit ≡ true → openingAnswer b ≡ Accepted → tooHigh (d .unit) (openingOf b) ≡ true → refuse OpeningTooHigh d ≡ openingStep d b
+  pub opening-fits : d .hasOpening ≡ false → d .hasUnit ≡ true → openingAnswer b ≡ Accepted → openingTaken d (openingOf b) ≡ openingStep d b
   unfolding openingStep
-  opening-high h u a t = simp (h, u, a, t)
-
-  pub opening-taken : d .hasOpening ≡ false → d .hasUnit ≡ true → openingAnswer b ≡ Accepted → tooHigh (d .unit) (openingOf b) ≡ false →
-      accept (withOpening d (openingOf b)) 17 ≡ openingStep d b
-  unfolding openingStep
-  opening-taken h u a t = simp (h, u, a, t)
+  opening-fits h u a = simp (h, u, a)
 
   pub instruction-before : d .hasUnit ≡ false → refuse BeforeUnit d ≡ instructionStep d b
   unfolding instructionStep
@@ -191,3 +190,42 @@ module _ (d : Day) (b : List ℕ) where
   pub instruction-taken : d .hasUnit ≡ true → d .count < 40 → instructionAnswer daySeconds b ≡ Accepted → accept (withInstruction d (instructionOf b)) 22 ≡ instructionStep d b
   unfolding instructionStep
   instruction-taken u m a = simp (u, lt-leb 40 (d .count) m, a)
+
+pub not-true : (b : Bool) → not b ≡ true → b ≡ false
+not-true true e = sym e
+not-true false e = refl
+
+pub not-false : (b : Bool) → not b ≡ false → b ≡ true
+not-false true e = refl
+not-false false e = sym e
+
+pub kw-grains : (l : Level) (kw : ℕ) → l ≡ fromKw kw → l .grains ≡ grains kw
+unfolding fromKw
+kw-grains l kw e = ap (λ (x : Level). x .grains) e
+
+-- refusal 22
+module _ (u : UnitData) (o : Opening) where
+  pub high-level : grains (u .maximum) < o .level → true ≡ tooHigh u o
+  unfolding tooHigh
+  high-level h = simp (lt-ltb _ _ h)
+
+  pub high-target : o .level ≤ grains (u .maximum) → u .maximum < o .target → true ≡ tooHigh u o
+  unfolding tooHigh
+  high-target h t = simp (le-ltb _ _ h, lt-ltb _ _ t)
+
+  pub high-none : o .level ≤ grains (u .maximum) → o .target ≤ u .maximum → o .level ≡ 0 → false ≡ tooHigh u o
+  unfolding tooHigh
+  high-none h t z = simp (le-ltb _ _ h, le-ltb _ _ t, le-ltb 0 (o .level) (omega arith))
+
+  pub high-off : o .level ≤ grains (u .maximum) → o .target ≤ u .maximum → (o .level ≡ 0 → ⊥) → ltb 0 (o .off) ≡ tooHigh u o
+  unfolding tooHigh
+  high-off h t z = simp (le-ltb _ _ h, le-ltb _ _ t, lt-ltb 0 (o .level) (omega arith))
+
+module _ (d : Day) (o : Opening) where
+  pub taken-high : tooHigh (d .unit) o ≡ true → refuse OpeningTooHigh d ≡ openingTaken d o
+  unfolding openingTaken
+  taken-high e = simp e
+
+  pub taken-low : tooHigh (d .unit) o ≡ false → accept (withOpening d o) 17 ≡ openingTaken d o
+  unfolding openingTaken
+  taken-low e = simp e

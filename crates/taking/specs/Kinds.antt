@@ -5,6 +5,7 @@ use mathlib.Core.List.{List}
 use mathlib.Core.Bool.{Bool, true, false, not}
 use lib.Dec.{leb}
 use Rattle.level.specs.Choice.{pick}
+use Rattle.records.specs.declared.Opening.{Opening}
 use Rattle.records.specs.declared.Answer.{Answer}
 use Rattle.records.specs.declared.Answer.the-variants.{Accepted, Refused}
 use Rattle.records.specs.declared.Refusal.{Refusal}
@@ -33,13 +34,15 @@ onAnswer (Refused r) d x = refuse r d
 unfoldable pub unitStep : Day → List ℕ → Stepped
 unitStep d b = pick (d .hasUnit) (refuse SecondOne d) (onAnswer (unitAnswer (numbers b 62)) d (accept (withUnit d (unitOf (numbers b 62))) 249))
 
+-- an opening whose fields fit
+unfoldable pub openingTaken : Day → Opening → Stepped
+openingTaken d o = pick (tooHigh (d .unit) o) (refuse OpeningTooHigh d) (accept (withOpening d o) 17)
+
 unfoldable pub openingStep : Day → List ℕ → Stepped
 openingStep d b =
     pick (d .hasOpening) (refuse SecondOne d)
     (pick (not (d .hasUnit)) (refuse BeforeUnit d)
-    (onAnswer (openingAnswer b) d
-    (pick (tooHigh (d .unit) (openingOf b)) (refuse OpeningTooHigh d)
-    (accept (withOpening d (openingOf b)) 17))))
+    (onAnswer (openingAnswer b) d (openingTaken d (openingOf b))))
 
 unfoldable pub instructionStep : Day → List ℕ → Stepped
 instructionStep d b =
