@@ -22,12 +22,12 @@ number-requires-4 c κs = search needs
 returns : tie.Need-returns
 unfolding openingOf
 returns c =
-    let body = c .before .before .before .before .before .args .body .now in
+    let body = c .before .before .before .before .args .body .now in
     let level : c .before .before .before .number .result ≡ numberAt body 0 = c .before .before .before .number .ensures in
     let target : c .before .before .number2 .result ≡ numberAt body 4 = c .before .before .number2 .ensures in
     let heat : c .before .number3 .result ≡ numberAt body 8 = c .before .number3 .ensures in
     let off : c .number4 .result ≡ numberAt body 12 = c .number4 .ensures in
-    λ i. record { level = record { grains = level i }; target = target i; heat = heat i; off = off i }
+    λ i. record { level = level i; target = target i; heat = heat i; off = off i }
 
 pub opening-of-spec : {M : Type 1} → statement M
 opening-of-spec =
