@@ -4,6 +4,7 @@ use mathlib.Core.Path.{_≡_, refl, ap, sym, _∙_}
 use mathlib.Core.List.{List, [], _∷_}
 use mathlib.Core.Bool.{Bool, true, false, _&&_, _||_, not}
 use Prim.Native.Nat.{ℕ, zero, suc, _+_, _*_, _-_, _≤_, _<_}
+use native.Mathlib.Decide.{decLe}
 use native.Mathlib.Omega.{arith}
 use lib.Dec.{leb, ltb, eqb}
 use lib.ListN.{length, getD, take, drop}
@@ -139,6 +140,79 @@ module _ (find : Day → Found) (d : Day) (s : List ℕ) where
               go false q = refl
               go true true = refl
               go true false = refl
+
+-- ---- at the front of the input, of the kind k with records of n bytes
+module _ (find : Day → Found) (d : Day) (s : List ℕ) (some : 1 ≤ length s) where
+  module _ (k n : ℕ) (kind : kindOf s ≡ k) (size : sizeOf k ≡ n) (least : 1 ≤ k) (most : k ≤ 4) where
+    size-is : sizeOf (kindOf s) ≡ n
+    size-is = ap sizeOf kind ∙ size
+
+    short : length s < n → refuse TooFewBytes d ≡ stepBy find d s
+    short h = step-short find d s some (omega arith) (omega arith) (omega (arith, size-is))
+
+    late : n ≤ length s → d .closed ≡ true → refuse AfterClose d ≡ stepBy find d s
+    late h c = step-closed find d s some (omega arith) (omega arith) (omega (arith, size-is)) c
+
+    body-is : bodyOf s ≡ take (n - 1) (drop 1 s)
+    unfolding bodyOf
+    body-is = ap (λ (m : ℕ). take (m - 1) (drop 1 s)) size-is
+
+  pub unit-short : getD s 0 0 ≡ 1 → length s < 249 → refuse TooFewBytes d ≡ stepBy find d s
+  unfolding kindOf sizeOf
+  unit-short k h = short 1 249 k refl (omega arith) (omega arith) h
+
+  pub unit-late : getD s 0 0 ≡ 1 → 249 ≤ length s → d .closed ≡ true → refuse AfterClose d ≡ stepBy find d s
+  unfolding kindOf sizeOf
+  unit-late k h c = late 1 249 k refl (omega arith) (omega arith) h c
+
+  pub unit-now : getD s 0 0 ≡ 1 → 249 ≤ length s → d .closed ≡ false → unitStep d (take 248 (drop 1 s)) ≡ stepBy find d s
+  unfolding kindOf sizeOf
+  unit-now k h c =
+      ap (unitStep d) (sym (body-is 1 249 k refl (omega arith) (omega arith)))
+      ∙ step-unit find d s some (omega arith) (omega arith) (omega (arith, size-is 1 249 k refl (omega arith) (omega arith))) c k
+
+  pub opening-short : getD s 0 0 ≡ 2 → length s < 17 → refuse TooFewBytes d ≡ stepBy find d s
+  unfolding kindOf sizeOf
+  opening-short k h = short 2 17 k refl (omega arith) (omega arith) h
+
+  pub opening-late : getD s 0 0 ≡ 2 → 17 ≤ length s → d .closed ≡ true → refuse AfterClose d ≡ stepBy find d s
+  unfolding kindOf sizeOf
+  opening-late k h c = late 2 17 k refl (omega arith) (omega arith) h c
+
+  pub opening-now : getD s 0 0 ≡ 2 → 17 ≤ length s → d .closed ≡ false → openingStep d (take 16 (drop 1 s)) ≡ stepBy find d s
+  unfolding kindOf sizeOf
+  opening-now k h c =
+      ap (openingStep d) (sym (body-is 2 17 k refl (omega arith) (omega arith)))
+      ∙ step-opening find d s some (omega arith) (omega arith) (omega (arith, size-is 2 17 k refl (omega arith) (omega arith))) c k
+
+  pub instruction-short : getD s 0 0 ≡ 3 → length s < 22 → refuse TooFewBytes d ≡ stepBy find d s
+  unfolding kindOf sizeOf
+  instruction-short k h = short 3 22 k refl (omega arith) (omega arith) h
+
+  pub instruction-late : getD s 0 0 ≡ 3 → 22 ≤ length s → d .closed ≡ true → refuse AfterClose d ≡ stepBy find d s
+  unfolding kindOf sizeOf
+  instruction-late k h c = late 3 22 k refl (omega arith) (omega arith) h c
+
+  pub instruction-now : getD s 0 0 ≡ 3 → 22 ≤ length s → d .closed ≡ false → instructionStep d (take 21 (drop 1 s)) ≡ stepBy find d s
+  unfolding kindOf sizeOf
+  instruction-now k h c =
+      ap (instructionStep d) (sym (body-is 3 22 k refl (omega arith) (omega arith)))
+      ∙ step-instruction find d s some (omega arith) (omega arith) (omega (arith, size-is 3 22 k refl (omega arith) (omega arith))) c k
+
+  pub close-late : getD s 0 0 ≡ 4 → d .closed ≡ true → refuse AfterClose d ≡ stepBy find d s
+  unfolding kindOf sizeOf
+  close-late k c = late 4 1 k refl (omega arith) (omega arith) some c
+
+  pub close-now : getD s 0 0 ≡ 4 → d .closed ≡ false → closeStep find d ≡ stepBy find d s
+  unfolding kindOf sizeOf
+  close-now k c = step-close find d s some (omega arith) (omega arith) (omega (arith, size-is 4 1 k refl (omega arith) (omega arith))) c k
+
+  pub no-kind : (getD s 0 0 ≡ 1 → ⊥) → (getD s 0 0 ≡ 2 → ⊥) → (getD s 0 0 ≡ 3 → ⊥) → (getD s 0 0 ≡ 4 → ⊥) → refuse UnknownKind d ≡ stepBy find d s
+  unfolding kindOf
+  no-kind a b c e = elim (decLe 1 (getD s 0 0)) [
+    | yes h ↦ step-unknown find d s some (omega arith)
+    | no h ↦ step-low find d s some (omega arith)
+  ]
 
 -- ---- a step uses no more than there is
 pub step-used : (find : Day → Found) (d : Day) (s : List ℕ) → stepBy find d s .used ≤ length s

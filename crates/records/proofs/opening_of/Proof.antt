@@ -22,7 +22,7 @@ number-requires-4 c κs = search needs
 returns : tie.Need-returns
 unfolding openingOf
 returns c =
-    let body = c .before .before .before .before .args .body .now in
+    let body = c .before .before .before .before .before .args .body .now in
     let level : c .before .before .before .number .result ≡ numberAt body 0 = c .before .before .before .number .ensures in
     let target : c .before .before .number2 .result ≡ numberAt body 4 = c .before .before .number2 .ensures in
     let heat : c .before .number3 .result ≡ numberAt body 8 = c .before .number3 .ensures in
