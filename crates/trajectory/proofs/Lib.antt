@@ -1,2 +1,4 @@
 pub mod Arrays
 pub mod Rates
+pub mod Holds
+pub mod Nexts

@@ -159,3 +159,218 @@ pub fn rate_at(u: records::UnitData, c: course::Course, up: bool, v: u64) -> u64
     }
     rate_falling(u, c, v)
 }
+
+// ---- the hold at a level
+
+// The seconds for which a trigger holds the level w.
+fn held_one(w: u64, g: records::Trigger) -> u64
+    ensures { λ r. ⌜ (r ≡ holding w (inGrains g ∷ [])) × (r ≤ 257698037760) ⌝ }
+{
+    let at = grains_of(g.level);
+    if at == w {
+        return (g.minutes as u64) * 60;
+    }
+    0
+}
+
+fn held_three(w: u64, gs: [records::Trigger; 3]) -> u64
+    ensures { λ r. ⌜ (r ≡ holding w (map inGrains gs)) × (r ≤ 773094113280) ⌝ }
+{
+    let a = held_one(w, gs[0]);
+    let b = held_one(w, gs[1]);
+    let c = held_one(w, gs[2]);
+    a + b + c
+}
+
+fn held_two(w: u64, gs: [records::Trigger; 2]) -> u64
+    ensures { λ r. ⌜ (r ≡ holding w (map inGrains gs)) × (r ≤ 773094113280) ⌝ }
+{
+    let a = held_one(w, gs[0]);
+    let b = held_one(w, gs[1]);
+    a + b
+}
+
+// Below MSG only soaks hold, and only a rising level.
+fn soaked(u: records::UnitData, c: course::Course, up: bool, w: u64) -> u64
+    requires { ⌜ w < grains (u .msg) ⌝ }
+    requires { ⌜ (w ≡ grains (c .target) → ⊥) ⌝ }
+    ensures { λ r. ⌜ (r ≡ holdAt (headed up) (listsIn u c) (grains (c .target)) w) × (r ≤ 773094113280) ⌝ }
+{
+    if up {
+        let l = column_for(u, c.heat);
+        let gs = l.soaks;
+        return held_two(w, gs);
+    }
+    0
+}
+
+// The hold (seconds) at the stop w.
+pub fn hold_at(u: records::UnitData, c: course::Course, up: bool, w: u64) -> u64
+    ensures { λ r. ⌜ (r ≡ holdAt (headed up) (listsIn u c) (grains (c .target)) w) × (r ≤ 773094113280) ⌝ }
+{
+    let t = grains_of(c.target);
+    if w == t {
+        return 0;
+    }
+    let msg = grains_of(u.msg);
+    if w < msg {
+        return soaked(u, c, up, w);
+    }
+    let gs = u.dwells;
+    held_three(w, gs)
+}
+
+// ---- the next stop
+
+// The level w, where it lies past v and before n; else n.
+fn nearer(up: bool, v: u64, w: u64, n: u64) -> u64
+    ensures { λ r. ⌜ r ≡ nearest (headed up) v n (w ∷ []) ⌝ }
+{
+    if up {
+        if w <= v {
+            return n;
+        }
+        if w < n {
+            return w;
+        }
+        return n;
+    }
+    if v <= w {
+        return n;
+    }
+    if n < w {
+        return w;
+    }
+    n
+}
+
+// With a ramp's break, which counts where the ramp is in use.
+fn ramp_break(up: bool, v: u64, msg: u64, b: u32, n: u64) -> u64
+    ensures { λ r. ⌜ r ≡ nearest (headed up) v n (breaksIn (ramping (headed up) msg) (b ∷ [])) ⌝ }
+{
+    let w = grains_of(b);
+    if in_ramp(up, msg, w) {
+        return nearer(up, v, w, n);
+    }
+    n
+}
+
+fn ramp_breaks(up: bool, v: u64, msg: u64, bs: [u32; 4], n: u64) -> u64
+    ensures { λ r. ⌜ r ≡ nearest (headed up) v n (breaksIn (ramping (headed up) msg) bs) ⌝ }
+{
+    let d = ramp_break(up, v, msg, bs[3], n);
+    let c = ramp_break(up, v, msg, bs[2], d);
+    let b = ramp_break(up, v, msg, bs[1], c);
+    ramp_break(up, v, msg, bs[0], b)
+}
+
+// With a break of the column or of deload, which counts where no ramp is in use.
+fn lower_break(up: bool, v: u64, msg: u64, b: u32, n: u64) -> u64
+    ensures { λ r. ⌜ r ≡ nearest (headed up) v n (breaksIn (lower (headed up) msg) (b ∷ [])) ⌝ }
+{
+    let w = grains_of(b);
+    if in_ramp(up, msg, w) {
+        return n;
+    }
+    nearer(up, v, w, n)
+}
+
+fn column_breaks(v: u64, msg: u64, bs: [u32; 2], n: u64) -> u64
+    ensures { λ r. ⌜ r ≡ nearest rising v n (breaksIn (lower rising msg) bs) ⌝ }
+{
+    let b = lower_break(true, v, msg, bs[1], n);
+    lower_break(true, v, msg, bs[0], b)
+}
+
+fn deload_break(v: u64, msg: u64, bs: [u32; 1], n: u64) -> u64
+    ensures { λ r. ⌜ r ≡ nearest falling v n (breaksIn (lower falling msg) bs) ⌝ }
+{
+    lower_break(false, v, msg, bs[0], n)
+}
+
+// With a dwell trigger, which counts at or above MSG.
+fn dwell_stop(up: bool, v: u64, msg: u64, g: records::Trigger, n: u64) -> u64
+    ensures { λ r. ⌜ r ≡ nearest (headed up) v n (levelsIn (leb msg) (g ∷ [])) ⌝ }
+{
+    let w = grains_of(g.level);
+    if g.minutes == 0 {
+        return n;
+    }
+    if w < msg {
+        return n;
+    }
+    nearer(up, v, w, n)
+}
+
+fn dwell_stops(up: bool, v: u64, msg: u64, gs: [records::Trigger; 3], n: u64) -> u64
+    ensures { λ r. ⌜ r ≡ nearest (headed up) v n (levelsIn (leb msg) gs) ⌝ }
+{
+    let c = dwell_stop(up, v, msg, gs[2], n);
+    let b = dwell_stop(up, v, msg, gs[1], c);
+    dwell_stop(up, v, msg, gs[0], b)
+}
+
+// With a soak trigger, which counts below MSG when rising.
+fn soak_stop(v: u64, msg: u64, g: records::Trigger, n: u64) -> u64
+    ensures { λ r. ⌜ r ≡ nearest rising v n (levelsIn (lower rising msg) (g ∷ [])) ⌝ }
+{
+    let w = grains_of(g.level);
+    if g.minutes == 0 {
+        return n;
+    }
+    if msg <= w {
+        return n;
+    }
+    nearer(true, v, w, n)
+}
+
+fn soak_stops(v: u64, msg: u64, gs: [records::Trigger; 2], n: u64) -> u64
+    ensures { λ r. ⌜ r ≡ nearest rising v n (levelsIn (lower rising msg) gs) ⌝ }
+{
+    let b = soak_stop(v, msg, gs[1], n);
+    soak_stop(v, msg, gs[0], b)
+}
+
+fn stop_rising(u: records::UnitData, c: course::Course, v: u64) -> u64
+    ensures { λ r. ⌜ r ≡ nextStop rising (listsIn u c) (grains (c .target)) v ⌝ }
+{
+    let t = grains_of(c.target);
+    let msg = grains_of(u.msg);
+    let dwells = u.dwells;
+    let d = dwell_stops(true, v, msg, dwells, t);
+    let column = column_for(u, c.heat);
+    let soaks = column.soaks;
+    let s = soak_stops(v, msg, soaks, d);
+    let ramp = u.up;
+    let bs = ramp.breaks;
+    let r = ramp_breaks(true, v, msg, bs, s);
+    let cs = column.breaks;
+    let q = column_breaks(v, msg, cs, r);
+    nearer(true, v, msg, q)
+}
+
+fn stop_falling(u: records::UnitData, c: course::Course, v: u64) -> u64
+    ensures { λ r. ⌜ r ≡ nextStop falling (listsIn u c) (grains (c .target)) v ⌝ }
+{
+    let t = grains_of(c.target);
+    let msg = grains_of(u.msg);
+    let dwells = u.dwells;
+    let d = dwell_stops(false, v, msg, dwells, t);
+    let deload = u.deload;
+    let cs = deload.breaks;
+    let q = deload_break(v, msg, cs, d);
+    let ramp = u.down;
+    let bs = ramp.breaks;
+    let r = ramp_breaks(false, v, msg, bs, q);
+    nearer(false, v, msg, r)
+}
+
+// The next stop past the level v, and the target where nothing stops the course before.
+pub fn next_stop(u: records::UnitData, c: course::Course, up: bool, v: u64) -> u64
+    ensures { λ r. ⌜ r ≡ nextStop (headed up) (listsIn u c) (grains (c .target)) v ⌝ }
+{
+    if up {
+        return stop_rising(u, c, v);
+    }
+    stop_falling(u, c, v)
+}
