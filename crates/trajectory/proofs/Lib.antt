@@ -2,3 +2,4 @@ pub mod Arrays
 pub mod Rates
 pub mod Holds
 pub mod Nexts
+pub mod Onward

@@ -1,13 +1,15 @@
 // A course in code: its rate, next stop and hold at a level, and what follows from them at any second.
 ghost use mathlib.Core.Path.{_≡_};
-ghost use Prim.Native.Nat.{ℕ, _+_, _*_, _-_, _<_, _≤_};
+ghost use Prim.Native.Nat.{ℕ, _+_, _*_, _-_, _/_, min, _<_, _≤_};
 ghost use mathlib.Core.List.{[], _∷_, _++_, map};
 ghost use lib.ListN.{length, getD};
 ghost use lib.Dec.{leb, ltb};
 ghost use Rattle.level.specs.Level.{grains};
 ghost use Rattle.course.specs.Lists.{placeOf, columnFor, replaced, inGrains, listsOf};
-ghost use Rattle.course.specs.Course.{rising, falling, passed, rateAt, nearest, nextStop, holding, holdAt};
+ghost use Rattle.course.specs.Course.{rising, falling, gap, toward, passed, rateAt, nearest, nextStop, holding, holdAt};
 ghost use Rattle.trajectory.specs.Ways.{headed, listsIn, ramping, lower, breaksIn, levelsIn};
+ghost use Rattle.course.proofs.Near.{Short};
+ghost use Rattle.trajectory.specs.Walk.{Reaches, momentOf, segmentTo, segmentFrom, afterHold, afterRest, afterRun, afterShort, along, onward};
 
 // So many kW in grains.
 fn grains_of(kw: u32) -> u64
@@ -373,4 +375,176 @@ pub fn next_stop(u: records::UnitData, c: course::Course, up: bool, v: u64) -> u
         return stop_rising(u, c, v);
     }
     stop_falling(u, c, v)
+}
+
+// ---- segments
+
+// The unsigned difference of two levels.
+fn gap_between(v: u64, w: u64) -> u64
+    ensures { λ r. ⌜ r ≡ gap v w ⌝ }
+{
+    if v < w {
+        return w - v;
+    }
+    v - w
+}
+
+// The segment from the level v to the stop w.
+fn segment_to(
+    u: records::UnitData,
+    c: course::Course,
+    up: bool,
+    v: u64,
+    w: u64,
+) -> segments::Segment
+    ensures { λ r. ⌜ r ≡ segmentTo (headed up) (listsIn u c) (grains (c .target)) v w ⌝ }
+{
+    let way = gap_between(v, w);
+    let rate = rate_at(u, c, up, v);
+    let hold = hold_at(u, c, up, w);
+    segments::Segment { way, rate, hold }
+}
+
+// The segment from the level v to the next stop: way, rate and hold.
+pub fn segment_from(u: records::UnitData, c: course::Course, up: bool, v: u64) -> segments::Segment
+    ensures { λ r. ⌜ r ≡ segmentFrom (headed up) (listsIn u c) (grains (c .target)) v ⌝ }
+{
+    let w = next_stop(u, c, up, v);
+    segment_to(u, c, up, v, w)
+}
+
+// ---- going along a course
+
+// Where a course stands at a second: its level, and the seconds left of a hold.
+pub struct Place {
+    pub second: u32,
+    pub level: u64,
+    pub left: u64,
+}
+
+// The level v moved by m in the heading's direction.
+fn moved(up: bool, v: u64, m: u64) -> u64
+    requires { ⌜ Reaches (headed up) v m ⌝ }
+    ensures { λ r. ⌜ r ≡ toward (headed up) v m ⌝ }
+{
+    if up {
+        return v + m;
+    }
+    v - m
+}
+
+// To the end of a hold, or to the second n.
+fn after_hold(p: Place, n: u32) -> Place
+    requires { ⌜ p .second < n ⌝ }
+    ensures { λ r. ⌜ r ≡ afterHold n p ⌝ }
+{
+    let room = n - p.second;
+    let wide = room as u64;
+    if wide < p.left {
+        return Place {
+            second: n,
+            level: p.level,
+            left: p.left - wide,
+        };
+    }
+    let held = p.left as u32;
+    Place {
+        second: p.second + held,
+        level: p.level,
+        left: 0,
+    }
+}
+
+// At rest to the second n.
+fn after_rest(p: Place, n: u32) -> Place
+    ensures { λ r. ⌜ r ≡ afterRest n p ⌝ }
+{
+    Place {
+        second: n,
+        level: p.level,
+        left: 0,
+    }
+}
+
+// A second to the stop of a segment.
+fn after_short(up: bool, p: Place, s: segments::Segment) -> Place
+    requires { ⌜ p .second < 4294967295 ⌝ }
+    requires { ⌜ Reaches (headed up) (p .level) (s .way) ⌝ }
+    ensures { λ r. ⌜ r ≡ afterShort (headed up) p s ⌝ }
+{
+    let level = moved(up, p.level, s.way);
+    Place {
+        second: p.second + 1,
+        level,
+        left: s.hold,
+    }
+}
+
+// f seconds at the full rate of a segment.
+fn after_run(up: bool, p: Place, s: segments::Segment, f: u32) -> Place
+    requires { ⌜ p .second + f ≤ 4294967295 ⌝ }
+    requires { ⌜ f * s .rate ≤ s .way ⌝ }
+    requires { ⌜ Reaches (headed up) (p .level) (s .way) ⌝ }
+    ensures { λ r. ⌜ r ≡ afterRun (headed up) f p s ⌝ }
+{
+    let m = (f as u64) * s.rate;
+    let level = moved(up, p.level, m);
+    if m == s.way {
+        return Place {
+            second: p.second + f,
+            level,
+            left: s.hold,
+        };
+    }
+    Place {
+        second: p.second + f,
+        level,
+        left: 0,
+    }
+}
+
+// The whole seconds at full rate before the stop of a segment, or before the second n.
+fn run_seconds(p: Place, s: segments::Segment, n: u32) -> u32
+    requires { ⌜ p .second < n ⌝ }
+    requires { ⌜ 1 ≤ s .rate ⌝ }
+    ensures { λ r. ⌜ r ≡ min (s .way / s .rate) (n - p .second) ⌝ }
+{
+    let room = n - p.second;
+    let full = s.way / s.rate;
+    if full < room as u64 {
+        return full as u32;
+    }
+    room
+}
+
+fn along_segment(up: bool, p: Place, s: segments::Segment, n: u32) -> Place
+    requires { ⌜ p .second < n ⌝ }
+    requires { ⌜ Reaches (headed up) (p .level) (s .way) ⌝ }
+    ensures { λ r. ⌜ r ≡ along (headed up) n p s ⌝ }
+{
+    if s.rate == 0 {
+        return after_rest(p, n);
+    }
+    if s.way < s.rate {
+        return after_short(up, p, s);
+    }
+    let f = run_seconds(p, s, n);
+    after_run(up, p, s, f)
+}
+
+// To the end of the straight piece that begins at p, and no further than the second n.
+pub fn walk_on(u: records::UnitData, c: course::Course, up: bool, p: Place, n: u32) -> Place
+    requires { ⌜ p .second < n ⌝ }
+    requires { ⌜ Short (headed up) (grains (c .target)) (p .level) ⌝ }
+    ensures { λ r. ⌜ r ≡ onward (headed up) (listsIn u c) (grains (c .target)) n p ⌝ }
+{
+    if 0 < p.left {
+        return after_hold(p, n);
+    }
+    let t = grains_of(c.target);
+    if p.level == t {
+        return after_rest(p, n);
+    }
+    let s = segment_from(u, c, up, p.level);
+    along_segment(up, p, s, n)
 }

@@ -1,0 +1,54 @@
+-- Going along a course from one straight piece to the next.
+-- Assumes nothing.
+use Prim.Native.Nat.{ℕ, _+_, _*_, _-_, _/_, min, _≤_}
+use mathlib.Core.Bool.{Bool, true, false}
+use lib.Dec.{ltb, eqb}
+use Rattle.level.specs.Choice.{pick}
+use Rattle.segments.specs.declared.Segment.{Segment}
+use Rattle.course.specs.Lists.{Lists}
+use Rattle.course.specs.Course.{Heading, rising, falling, Moment, toward, gap, rateAt, nextStop, holdAt}
+use Rattle.trajectory.specs.declared.Place.{Place}
+
+-- room to move v by m: up to the largest number of 64 bits, down to 0
+abbrev pub Reaches : Heading → ℕ → ℕ → Type 0
+Reaches rising v m = v + m ≤ 18446744073709551615
+Reaches falling v m = m ≤ v
+
+abbrev pub momentOf : Place → Moment
+momentOf p = record { level = p .level; left = p .left }
+
+-- the end of a hold, or of what the second n leaves of it
+unfoldable pub afterHold : ℕ → Place → Place
+afterHold n p = record { second = min (p .second + p .left) n; level = p .level; left = p .second + p .left - n }
+
+-- at rest up to the second n
+unfoldable pub afterRest : ℕ → Place → Place
+afterRest n p = record { second = n; level = p .level; left = 0 }
+
+module _ (h : Heading) where
+  -- f seconds along a segment at its full rate; if that is the whole way, its hold begins
+  unfoldable pub afterRun : ℕ → Place → Segment → Place
+  afterRun f p s = record { second = p .second + f; level = toward h (p .level) (f * s .rate); left = pick (eqb (f * s .rate) (s .way)) (s .hold) 0 }
+
+  -- at the segment's stop, one second on
+  unfoldable pub afterShort : Place → Segment → Place
+  afterShort p s = record { second = p .second + 1; level = toward h (p .level) (s .way); left = s .hold }
+
+  -- along a segment: nothing moves at a rate of 0, and a way shorter than the rate takes a second
+  unfoldable pub along : ℕ → Place → Segment → Place
+  along n p s =
+      pick (eqb (s .rate) 0) (afterRest n p)
+      (pick (ltb (s .way) (s .rate)) (afterShort p s) (afterRun (min (s .way / s .rate) (n - p .second)) p s))
+
+module _ (h : Heading) (l : Lists) (t : ℕ) where
+  -- the segment from v to w: way, rate, and the hold there
+  unfoldable pub segmentTo : ℕ → ℕ → Segment
+  segmentTo v w = record { way = gap v w; rate = rateAt h l v; hold = holdAt h l t w }
+
+  -- the segment from v to its next stop
+  unfoldable pub segmentFrom : ℕ → Segment
+  segmentFrom v = segmentTo v (nextStop h l t v)
+
+  -- the end of the straight piece that begins at p, cut at the second n
+  unfoldable pub onward : ℕ → Place → Place
+  onward n p = pick (ltb 0 (p .left)) (afterHold n p) (pick (eqb (p .level) t) (afterRest n p) (along h n p (segmentFrom (p .level))))
