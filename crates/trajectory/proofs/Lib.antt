@@ -3,3 +3,5 @@ pub mod Rates
 pub mod Holds
 pub mod Nexts
 pub mod Onward
+pub mod Seconds
+pub mod Goes
