@@ -19,9 +19,9 @@ use Rattle.course.proofs.Ahead.{next-past}
 use Rattle.course.proofs.Rule.{at, after-rest}
 use Rattle.course.proofs.Pieces.{Room, Traces, line, room-less, traces-area}
 use Rattle.trajectory.specs.declared.Place.{Place}
-use Rattle.trajectory.specs.Walk.{momentOf, afterHold, afterRest, afterRun, afterShort, along, segmentTo, segmentFrom, onward}
+use Rattle.trajectory.specs.Walk.{momentOf, afterHold, afterRest, afterRun, afterShort, along, segmentTo, segmentFrom, onward, standing}
 use Rattle.trajectory.proofs.Onward.{full-way, along-stuck, along-short, along-run, onward-hold, onward-rest, onward-along}
-use Rattle.trajectory.proofs.Seconds.{holds, stuck, ran-whole, ran-part, runs, stops}
+use Rattle.trajectory.proofs.Seconds.{holds, stuck, runs, stops, after-add}
 
 -- from p to q the rule of one second goes along a straight piece
 pub record Goes (h : Heading) (l : Lists) (t n : ℕ) (p q : Place) : Type 0 where
@@ -178,3 +178,20 @@ module _ (h : Heading) (l : Lists) (t n : ℕ) (p : Place) (before : p .second <
       | no e ↦ rw (sym (onward-along h l t n p (omega arith) e)) (segment-goes (omega arith) (short-past h t (p .level) sh e))
     ]
   ]
+
+-- ---- one piece after another, to the second n
+module _ (h : Heading) (l : Lists) (t n : ℕ) where
+  pub standing-on : (p q : Place) → Goes h l t n p q → standing h l t n q ≡ standing h l t n p
+  unfolding standing
+  standing-on p q g =
+      let e : after h l t (n - q .second) (momentOf q) ≡ after h l t (n - p .second) (momentOf p) =
+      ap (after h l t (n - q .second)) (sym (g .moment)) ∙ sym (after-add h l t (q .second - p .second) (n - q .second) (momentOf p))
+      ∙ ap (λ (k : ℕ). after h l t k (momentOf p)) (omega (arith, g .later, g .within)) in
+      ap (λ (m : Moment). record { second = n; level = m .level; left = m .left }) e
+
+  pub standing-here : (p : Place) → n ≡ p .second → standing h l t n p ≡ p
+  unfolding standing
+  standing-here p e =
+      let z : after h l t (n - p .second) (momentOf p) ≡ momentOf p =
+      ap (λ (k : ℕ). after h l t k (momentOf p)) {x = n - p .second} {y = 0} (omega arith) ∙ after-zero h l t (momentOf p) in
+      λ i. record { second = e i; level = z i .level; left = z i .left }

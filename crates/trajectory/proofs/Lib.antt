@@ -5,3 +5,4 @@ pub mod Nexts
 pub mod Onward
 pub mod Seconds
 pub mod Goes
+pub mod Courses

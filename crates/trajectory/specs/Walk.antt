@@ -5,8 +5,9 @@ use mathlib.Core.Bool.{Bool, true, false}
 use lib.Dec.{ltb, eqb}
 use Rattle.level.specs.Choice.{pick}
 use Rattle.segments.specs.declared.Segment.{Segment}
+use Rattle.course.specs.declared.Course.{Course}
 use Rattle.course.specs.Lists.{Lists}
-use Rattle.course.specs.Course.{Heading, rising, falling, Moment, toward, gap, rateAt, nextStop, holdAt}
+use Rattle.course.specs.Course.{Heading, rising, falling, Moment, toward, gap, rateAt, nextStop, holdAt, after}
 use Rattle.trajectory.specs.declared.Place.{Place}
 
 -- room to move v by m: up to the largest number of 64 bits, down to 0
@@ -16,6 +17,10 @@ Reaches falling v m = m ≤ v
 
 abbrev pub momentOf : Place → Moment
 momentOf p = record { level = p .level; left = p .left }
+
+-- where a course begins, at the second a
+unfoldable pub beginning : Course → ℕ → Place
+beginning c a = record { second = a; level = c .start .grains; left = 0 }
 
 -- the end of a hold, or of what the second n leaves of it
 unfoldable pub afterHold : ℕ → Place → Place
@@ -52,3 +57,9 @@ module _ (h : Heading) (l : Lists) (t : ℕ) where
   -- the end of the straight piece that begins at p, cut at the second n
   unfoldable pub onward : ℕ → Place → Place
   onward n p = pick (ltb 0 (p .left)) (afterHold n p) (pick (eqb (p .level) t) (afterRest n p) (along h n p (segmentFrom (p .level))))
+
+  -- where the rule of one second stands at the second n
+  unfoldable pub standing : ℕ → Place → Place
+  standing n p =
+      let m : Moment = after h l t (n - p .second) (momentOf p) in
+      record { second = n; level = m .level; left = m .left }

@@ -6,10 +6,10 @@ ghost use lib.ListN.{length, getD};
 ghost use lib.Dec.{leb, ltb};
 ghost use Rattle.level.specs.Level.{grains};
 ghost use Rattle.course.specs.Lists.{placeOf, columnFor, replaced, inGrains, listsOf};
-ghost use Rattle.course.specs.Course.{rising, falling, gap, toward, passed, rateAt, nearest, nextStop, holding, holdAt};
+ghost use Rattle.course.specs.Course.{rising, falling, gap, toward, passed, rateAt, nearest, nextStop, holding, holdAt, trajectoryOf, levelAt};
 ghost use Rattle.trajectory.specs.Ways.{headed, listsIn, ramping, lower, breaksIn, levelsIn};
 ghost use Rattle.course.proofs.Near.{Short};
-ghost use Rattle.trajectory.specs.Walk.{Reaches, momentOf, segmentTo, segmentFrom, afterHold, afterRest, afterRun, afterShort, along, onward};
+ghost use Rattle.trajectory.specs.Walk.{Reaches, momentOf, segmentTo, segmentFrom, afterHold, afterRest, afterRun, afterShort, along, onward, standing, beginning};
 
 // So many kW in grains.
 fn grains_of(kw: u32) -> u64
@@ -547,4 +547,48 @@ pub fn walk_on(u: records::UnitData, c: course::Course, up: bool, p: Place, n: u
     }
     let s = segment_from(u, c, up, p.level);
     along_segment(up, p, s, n)
+}
+
+// Along the course to the second n.
+pub fn walk_to(u: records::UnitData, c: course::Course, up: bool, from: Place, n: u32) -> Place
+    requires { ⌜ from .second ≤ n ⌝ }
+    requires { ⌜ Short (headed up) (grains (c .target)) (from .level) ⌝ }
+    ensures { λ r. ⌜ r ≡ standing (headed up) (listsIn u c) (grains (c .target)) n from ⌝ }
+{
+    let mut p = from;
+    while p.second < n {
+        p = walk_on(u, c, up, p, n);
+    }
+    p
+}
+
+// Whether a course rises.
+pub fn is_rising(c: course::Course) -> bool
+    ensures { λ r. ⌜ r ≡ ltb (c .start .grains) (grains (c .target)) ⌝ }
+{
+    let t = grains_of(c.target);
+    let start = c.start;
+    start.grains < t
+}
+
+// Where a course begins, at the second a.
+fn begin_at(c: course::Course, a: u32) -> Place
+    ensures { λ r. ⌜ r ≡ beginning c a ⌝ }
+{
+    let start = c.start;
+    Place {
+        second: a,
+        level: start.grains,
+        left: 0,
+    }
+}
+
+// The level k seconds after a course began.
+pub fn level_after(u: records::UnitData, c: course::Course, k: u32) -> u64
+    ensures { λ r. ⌜ r ≡ levelAt (trajectoryOf u c) k ⌝ }
+{
+    let up = is_rising(c);
+    let from = begin_at(c, 0);
+    let p = walk_to(u, c, up, from, k);
+    p.level
 }
