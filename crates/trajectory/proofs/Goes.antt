@@ -4,7 +4,7 @@ use Prim.Native.Nat.{ℕ, zero, suc, _+_, _*_, _-_, _/_, min, _≤_, _<_}
 use mathlib.Core.Path.{_≡_, refl, ap, sym, _∙_}
 use mathlib.Core.List.{List, [], _∷_}
 use mathlib.Core.Bool.{Bool, true, false}
-use native.Mathlib.Nat.{mul-le-mul-right, div-add-mod', div-lt-iff-lt-mul}
+use native.Mathlib.Nat.{mul-le-mul-right}
 use native.Mathlib.Decide.{decLe, ℕ-discrete}
 use native.Mathlib.Omega.{arith}
 use lib.Dec.{eqb}
@@ -20,7 +20,7 @@ use Rattle.course.proofs.Rule.{at, after-rest}
 use Rattle.course.proofs.Pieces.{Room, Traces, line, room-less, traces-area}
 use Rattle.trajectory.specs.declared.Place.{Place}
 use Rattle.trajectory.specs.Walk.{momentOf, afterHold, afterRest, afterRun, afterShort, along, segmentTo, segmentFrom, onward, standing}
-use Rattle.trajectory.proofs.Onward.{full-way, along-stuck, along-short, along-run, onward-hold, onward-rest, onward-along}
+use Rattle.trajectory.proofs.Onward.{full-way, full-some, along-stuck, along-short, along-run, onward-hold, onward-rest, onward-along}
 use Rattle.trajectory.proofs.Seconds.{holds, stuck, runs, stops, after-add}
 
 -- from p to q the rule of one second goes along a straight piece
@@ -40,12 +40,6 @@ room-gap falling v w p = omega arith
 room-none : (h : Heading) (v : ℕ) → Room h v 0
 room-none rising v = tt
 room-none falling v = omega arith
-
-full-some : (way rate : ℕ) → 1 ≤ rate → rate ≤ way → 1 ≤ way / rate
-full-some way rate r le = elim (decLe 1 (way / rate)) [
-  | yes q ↦ q
-  | no q ↦ let z : way < 1 * rate = div-lt-iff-lt-mul r .0 (omega arith) in absurd (omega arith)
-]
 
 after-zero : (h : Heading) (l : Lists) (t : ℕ) (m : Moment) → after h l t 0 m ≡ m
 unfolding after

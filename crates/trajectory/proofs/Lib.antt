@@ -6,3 +6,4 @@ pub mod Onward
 pub mod Seconds
 pub mod Goes
 pub mod Courses
+pub mod Left

@@ -5,7 +5,7 @@ use mathlib.Core.Path.{_≡_, refl, ap, sym, _∙_}
 use mathlib.Core.Bool.{Bool, true, false}
 use native.Mathlib.Decide.{decLe, ℕ-discrete}
 use native.Mathlib.Omega.{arith}
-use native.Mathlib.Nat.{mul-le-mul-right, div-add-mod'}
+use native.Mathlib.Nat.{mul-le-mul-right, div-add-mod', div-lt-iff-lt-mul}
 use borrow.Author.Tests.{lt-ltb, le-ltb, eq-eqb, ne-eqb}
 use Rattle.segments.specs.declared.Segment.{Segment}
 use Rattle.course.specs.Lists.{Lists}
@@ -31,6 +31,12 @@ reaches-less falling v m n p r = omega arith
 -- whole seconds at full rate
 pub full-way : (way rate f : ℕ) → f ≤ way / rate → f * rate ≤ way
 full-way way rate f p = omega (arith, div-add-mod' way rate, mul-le-mul-right rate p)
+
+pub full-some : (way rate : ℕ) → 1 ≤ rate → rate ≤ way → 1 ≤ way / rate
+full-some way rate r le = elim (decLe 1 (way / rate)) [
+  | yes q ↦ q
+  | no q ↦ let z : way < 1 * rate = div-lt-iff-lt-mul r .0 (omega arith) in absurd (omega arith)
+]
 
 module _ (h : Heading) (n : ℕ) (p : Place) (s : Segment) where
   pub along-stuck : s .rate ≡ 0 → afterRest n p ≡ along h n p s

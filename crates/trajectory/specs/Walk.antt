@@ -2,12 +2,16 @@
 -- Assumes nothing.
 use Prim.Native.Nat.{ℕ, _+_, _*_, _-_, _/_, min, _≤_}
 use mathlib.Core.Bool.{Bool, true, false}
+use mathlib.Core.List.{List, _++_}
 use lib.Dec.{ltb, eqb}
+use lib.ListN.{length}
 use Rattle.level.specs.Choice.{pick}
 use Rattle.segments.specs.declared.Segment.{Segment}
 use Rattle.course.specs.declared.Course.{Course}
 use Rattle.course.specs.Lists.{Lists}
-use Rattle.course.specs.Course.{Heading, rising, falling, Moment, toward, gap, rateAt, nextStop, holdAt, after}
+use Rattle.course.specs.Course.{Heading, rising, falling, Moment, toward, gap, rateAt, candidates, nextStop, holdAt, after, stopsFrom, segmentsOf}
+use Rattle.course.specs.declared.Piece.{Piece}
+use Rattle.course.specs.Pieces.{piece, piecesOf}
 use Rattle.trajectory.specs.declared.Place.{Place}
 
 -- room to move v by m: up to the largest number of 64 bits, down to 0
@@ -21,6 +25,10 @@ momentOf p = record { level = p .level; left = p .left }
 -- where a course begins, at the second a
 unfoldable pub beginning : Course → ℕ → Place
 beginning c a = record { second = a; level = c .start .grains; left = 0 }
+
+-- the straight piece from one place to another
+unfoldable pub pieceBetween : Place → Place → Piece
+pieceBetween p q = record { from = p .second; to = q .second; enter = p .level; leave = q .level }
 
 -- the end of a hold, or of what the second n leaves of it
 unfoldable pub afterHold : ℕ → Place → Place
@@ -63,3 +71,13 @@ module _ (h : Heading) (l : Lists) (t : ℕ) where
   standing n p =
       let m : Moment = after h l t (n - p .second) (momentOf p) in
       record { second = n; level = m .level; left = m .left }
+
+  -- the segments from the level v on
+  unfoldable pub segmentsFrom : ℕ → List Segment
+  segmentsFrom v = segmentsOf h l t v (stopsFrom h l t (length (candidates h l t)) v)
+
+  -- the pieces from p on, cut at the second n: what is left of a hold, then those of the segments
+  unfoldable pub piecesLeft : ℕ → Place → List Piece
+  piecesLeft n p =
+      let held : ℕ = min (p .second + p .left) n in
+      piece (p .second) held (p .level) (p .level) ++ piecesOf h n held (p .level) (segmentsFrom (p .level))

@@ -9,7 +9,7 @@ ghost use Rattle.course.specs.Lists.{placeOf, columnFor, replaced, inGrains, li
 ghost use Rattle.course.specs.Course.{rising, falling, gap, toward, passed, rateAt, nearest, nextStop, holding, holdAt, trajectoryOf, levelAt};
 ghost use Rattle.trajectory.specs.Ways.{headed, listsIn, ramping, lower, breaksIn, levelsIn};
 ghost use Rattle.course.proofs.Near.{Short};
-ghost use Rattle.trajectory.specs.Walk.{Reaches, momentOf, segmentTo, segmentFrom, afterHold, afterRest, afterRun, afterShort, along, onward, standing, beginning};
+ghost use Rattle.trajectory.specs.Walk.{Reaches, momentOf, segmentTo, segmentFrom, afterHold, afterRest, afterRun, afterShort, along, onward, standing, beginning, pieceBetween};
 
 // So many kW in grains.
 fn grains_of(kw: u32) -> u64
@@ -562,6 +562,18 @@ pub fn walk_to(u: records::UnitData, c: course::Course, up: bool, from: Place, n
     p
 }
 
+// The straight piece from p to q.
+pub fn piece_between(p: Place, q: Place) -> course::Piece
+    ensures { λ r. ⌜ r ≡ pieceBetween p q ⌝ }
+{
+    course::Piece {
+        from: p.second,
+        to: q.second,
+        enter: p.level,
+        leave: q.level,
+    }
+}
+
 // Whether a course rises.
 pub fn is_rising(c: course::Course) -> bool
     ensures { λ r. ⌜ r ≡ ltb (c .start .grains) (grains (c .target)) ⌝ }
@@ -572,7 +584,7 @@ pub fn is_rising(c: course::Course) -> bool
 }
 
 // Where a course begins, at the second a.
-fn begin_at(c: course::Course, a: u32) -> Place
+pub fn begin_at(c: course::Course, a: u32) -> Place
     ensures { λ r. ⌜ r ≡ beginning c a ⌝ }
 {
     let start = c.start;
