@@ -9,6 +9,10 @@ use lib.Dec.{eqb}
 use borrow.Author.Tests.{lt-ltb, le-ltb, le-leb, lt-leb, eq-eqb, ne-eqb}
 use Rattle.level.specs.Choice.{pick}
 use Rattle.records.specs.declared.UnitData.{UnitData}
+use Rattle.course.specs.declared.Course.{Course}
+use Rattle.trajectory.specs.declared.Place.{Place}
+use Rattle.profile.specs.State.{held}
+use Rattle.close.specs.Watching.{offStarting, offBetween}
 use Rattle.profile.specs.Effects.{heatBy, stepped}
 
 module _ (u : UnitData) (off : ℕ) where
@@ -44,3 +48,35 @@ module _ (block target v : ℕ) where
   pub step-target : v ≤ 0 → 0 < target → target < block → target ≡ stepped block target v
   unfolding stepped
   step-target z h b = simp (eq-eqb v 0 (omega arith), lt-ltb 0 target h) (omega arith)
+
+-- ---- the seconds off
+
+pub held-low : (n : ℕ) → n ≤ 10000000 → n ≡ held n
+unfolding held
+held-low n h = omega arith
+
+pub held-high : (n : ℕ) → 10000000 < n → 10000000 ≡ held n
+unfolding held
+held-high n h = omega arith
+
+module _ (c : Course) (off : ℕ) where
+  pub starting-off : c .start .grains ≡ 0 → held (off + 0) ≡ offStarting c off
+  unfolding offStarting
+  starting-off e = simp (eq-eqb (c .start .grains) 0 e) (ap held (omega arith))
+
+  pub starting-on : (c .start .grains ≡ 0 → ⊥) → 0 ≡ offStarting c off
+  unfolding offStarting
+  starting-on e = simp (ne-eqb (c .start .grains) 0 e)
+
+module _ (p q : Place) (off : ℕ) where
+  pub between-from : (p .level ≡ 0 → ⊥) → 0 ≡ offBetween p q off
+  unfolding offBetween
+  between-from e = simp (ne-eqb (p .level) 0 e)
+
+  pub between-to : p .level ≡ 0 → (q .level ≡ 0 → ⊥) → 0 ≡ offBetween p q off
+  unfolding offBetween
+  between-to e f = simp (eq-eqb (p .level) 0 e, ne-eqb (q .level) 0 f)
+
+  pub between-off : p .level ≡ 0 → q .level ≡ 0 → held (off + (q .second - p .second)) ≡ offBetween p q off
+  unfolding offBetween
+  between-off e f = simp (eq-eqb (p .level) 0 e, eq-eqb (q .level) 0 f)

@@ -8,6 +8,10 @@ ghost use Rattle.profile.specs.Effects.{idle, heatBy, mwofTarget, syncTarget, s
 ghost use Rattle.validation.specs.Kept.{acting};
 ghost use Rattle.level.specs.Level.{grains};
 ghost use Rattle.course.specs.Lists.{columnFor};
+ghost use Rattle.course.specs.Course.{trajectoryOf};
+ghost use Rattle.profile.specs.State.{held, byRule};
+ghost use Rattle.profile.specs.Effects.{stateAt};
+ghost use Rattle.close.specs.Watching.{offStarting, offBetween};
 
 // ---- what each instruction does at its acting second
 
@@ -314,4 +318,82 @@ fn begin_course(
     let i = o.instruction;
     let g = setting_of(u, now, i, s);
     under_way(u, at, g, s.off)
+}
+
+// ---- the state just before
+
+// The most seconds off that are counted.
+const MOST_OFF: u64 = 10000000;
+
+// So many seconds off and so many more, held.
+fn held_off(off: u32, more: u32) -> u32
+    ensures { λ r. ⌜ r ≡ held (off + more) ⌝ }
+{
+    let sum = off as u64 + more as u64;
+    if sum <= MOST_OFF {
+        return sum as u32;
+    }
+    MOST_OFF as u32
+}
+
+// The seconds off where a course begins.
+fn off_starting(c: course::Course, off: u32) -> u32
+    ensures { λ r. ⌜ r ≡ offStarting c off ⌝ }
+{
+    let start = c.start;
+    if start.grains == 0 {
+        return held_off(off, 0);
+    }
+    0
+}
+
+// The seconds off at q, by those at p.
+fn off_between(p: trajectory::Place, q: trajectory::Place, off: u32) -> u32
+    requires { ⌜ p .second ≤ q .second ⌝ }
+    ensures { λ r. ⌜ r ≡ offBetween p q off ⌝ }
+{
+    if p.level != 0 {
+        return 0;
+    }
+    if q.level != 0 {
+        return 0;
+    }
+    held_off(off, q.second - p.second)
+}
+
+// The state k seconds after a course began with so many seconds off.
+fn state_after(u: records::UnitData, c: course::Course, before: u32, k: u32) -> profile::State
+    ensures { λ r. ⌜ r ≡ byRule (trajectoryOf u c) before k ⌝ }
+{
+    let up = trajectory::is_rising(c);
+    let mut p = trajectory::begin_at(c, 0);
+    let mut off = off_starting(c, before);
+    while p.second < k {
+        let q = trajectory::walk_on(u, c, up, p, k);
+        off = off_between(p, q, off);
+        p = q;
+    }
+    profile::State {
+        level: p.level,
+        off,
+    }
+}
+
+// The seconds from one second to another; 0 where that lies before.
+fn seconds_from(begin: u32, t: u32) -> u32
+    ensures { λ r. ⌜ r ≡ t - begin ⌝ }
+{
+    if begin <= t {
+        return t - begin;
+    }
+    0
+}
+
+// The state at the second t, of the course under way.
+fn state_at(u: records::UnitData, now: profile::UnderWay, t: u32) -> profile::State
+    ensures { λ r. ⌜ r ≡ stateAt byRule u now t ⌝ }
+{
+    let c = now.course;
+    let k = seconds_from(c.begin, t);
+    state_after(u, c, now.off, k)
 }
