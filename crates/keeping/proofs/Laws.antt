@@ -1,7 +1,7 @@
 -- Walks over the first places of an array, and the cases of the definitions, each with its conditions as plain facts.
 -- Assumes nothing.
 use mathlib.Core.Path.{_≡_, refl, sym, ap, _∙_}
-use mathlib.Core.List.{List, [], _∷_, _++_, append-assoc, append-nil}
+use mathlib.Core.List.{List, [], _∷_, _++_, map, append-assoc, append-nil}
 use mathlib.Core.Bool.{Bool, true, false, _&&_, _||_, not}
 use Prim.Native.Nat.{ℕ, zero, suc, _+_, _-_, _≤_, _<_, min}
 use native.Mathlib.Nat.{min-eq-left, min-eq-right}
@@ -21,6 +21,10 @@ use Rattle.keeping.specs.Working.{noNumbered, holding, pushed, foundList
 use Rattle.keeping.specs.declared.Sequence.{Sequence}
 use Rattle.keeping.specs.declared.Found.{Found}
 use Rattle.keeping.specs.declared.Found.the-variants.{One, Nothing}
+
+pub map-length : {A B : Type 0} (f : A → B) (xs : List A) → length (map f xs) ≡ length xs
+map-length f [] = refl
+map-length f (x ∷ xs) = ap suc (map-length f xs)
 
 -- ---- what is left of the first n places, from the place i on
 module _ {A : Type 0} (xs : List A) (n : ℕ) where
@@ -94,6 +98,11 @@ module _ {s : Sequence} {rest whole : List Numbered} where
   unfolding joined
   begun-found (One o) h b = begun-push o h b
   begun-found Nothing h b = b
+
+-- the list that a sequence holds
+pub held : {s : Sequence} {xs : List Numbered} → s ≡ holding xs → s .count ≤ 40 → take (s .count) (s .items) ≡ xs
+held {s} {xs} e h =
+    ap (λ (q : Sequence). take (q .count) (q .items)) e ∙ filled-listed noNumbered 40 xs (omega (arith, ap (λ (q : Sequence). q .count) e))
 
 pub pick-count : (test : Bool) (s : Sequence) (o : Numbered) → pick test (pushed s o) s .count ≤ s .count + 1
 unfolding pushed

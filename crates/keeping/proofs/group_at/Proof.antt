@@ -77,7 +77,7 @@ unfolding group inGroup
 returns c =
     let s = c .before .before .before in
     let l = c .before .loop in
-    begun-all (rw (those-none (inGroup (take (s .args .n) (s .args .t1)) (s .args .t)) (left-none (s .args .t1) (s .args .n) (l .i) (omega arith))) at (l .inv .2))
+    (begun-all (rw (those-none (inGroup (take (s .args .n) (s .args .t1)) (s .args .t)) (left-none (s .args .t1) (s .args .n) (l .i) (omega arith))) at (l .inv .2)), omega arith)
 
 pub group-at-spec : {M : Type 1} → statement M
 group-at-spec =
