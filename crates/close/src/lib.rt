@@ -12,6 +12,12 @@ ghost use Rattle.course.specs.Course.{trajectoryOf};
 ghost use Rattle.profile.specs.State.{held, byRule};
 ghost use Rattle.profile.specs.Effects.{stateAt};
 ghost use Rattle.close.specs.Watching.{offStarting, offBetween};
+ghost use Rattle.close.specs.Walk.{walkOf, walkAll, wentOn, replacedBy, actedOn};
+ghost use Rattle.day.specs.Day.{noCourse};
+ghost use lib.ListN.{length, take, getD};
+ghost use mathlib.Core.List.{[], _∷_};
+ghost use Rattle.level.specs.Lists.{All};
+ghost use Rattle.validation.specs.declared.Numbered.{Numbered};
 
 // ---- what each instruction does at its acting second
 
@@ -396,4 +402,120 @@ fn state_at(u: records::UnitData, now: profile::UnderWay, t: u32) -> profile::St
     let c = now.course;
     let k = seconds_from(c.begin, t);
     state_after(u, c, now.off, k)
+}
+
+// ---- all that act, one after another
+
+// How far they are followed: the course under way, the courses so far with it as the last (the first `started` places),
+// and the fates, in acting order, of those that have acted.
+pub struct Walk {
+    pub now: profile::UnderWay,
+    pub courses: [course::Course; 41],
+    pub started: usize,
+    pub fates: [u8; 40],
+    pub acted: usize,
+}
+
+// A place that holds no course.
+fn no_course() -> course::Course
+    ensures { λ r. ⌜ r ≡ noCourse ⌝ }
+{
+    let start = level::Level { grains: 0 };
+    course::Course {
+        begin: 0,
+        start,
+        target: 0,
+        heat: 0,
+        up: 0,
+        down: 0,
+    }
+}
+
+// None has acted yet.
+fn begin_walk(now: profile::UnderWay) -> Walk
+    ensures { λ r. ⌜ r ≡ walkOf now (record { marks = []; courses = now ∷ [] }) ⌝ }
+{
+    let none = no_course();
+    let first = now.course;
+    let mut courses = [none; 41];
+    courses[0] = first;
+    let fates = [0u8; 40];
+    Walk {
+        now,
+        courses,
+        started: 1,
+        fates,
+        acted: 0,
+    }
+}
+
+// Fate 7: the course under way goes on.
+fn go_on(w: Walk) -> Walk
+    requires { ⌜ w .acted < 40 ⌝ }
+    ensures { λ r. ⌜ r ≡ wentOn w ⌝ }
+{
+    let at = w.acted;
+    let mut next = w;
+    next.fates[at] = 7;
+    next.acted = at + 1;
+    next
+}
+
+// Fate 0: a new course.
+fn replace(w: Walk, next: profile::UnderWay) -> Walk
+    requires { ⌜ (w .acted < 40) × (w .started < 41) ⌝ }
+    ensures { λ r. ⌜ r ≡ replacedBy w next ⌝ }
+{
+    let at = w.acted;
+    let top = w.started;
+    let c = next.course;
+    let mut courses = w.courses;
+    courses[top] = c;
+    let mut fates = w.fates;
+    fates[at] = 0;
+    Walk {
+        now: next,
+        courses,
+        started: top + 1,
+        fates,
+        acted: at + 1,
+    }
+}
+
+// One instruction, read with the state just before.
+fn act(u: records::UnitData, w: Walk, o: validation::Numbered) -> Walk
+    requires { ⌜ (w .acted < 40) × (w .started < 41) × (acting o < 4294967296) ⌝ }
+    ensures { λ r. ⌜ r ≡ actedOn u w o ⌝ }
+{
+    let now = w.now;
+    let i = o.instruction;
+    let m = i.meaning;
+    let effect = m.effect;
+    let s = state_at(u, now, acting_second(o));
+    if is_idle(effect, i.level, s.level, now.maximised) {
+        return go_on(w);
+    }
+    let next = begin_course(u, now, o, s);
+    replace(w, next)
+}
+
+// The first n of those that act, followed from the course now.
+fn follow_all(
+    u: records::UnitData,
+    now: profile::UnderWay,
+    acts: [validation::Numbered; 40],
+    n: usize,
+) -> Walk
+    requires { ⌜ n ≤ 40 ⌝ }
+    requires { ⌜ All (λ (o : Numbered). acting o < 4294967296) (take n acts) ⌝ }
+    ensures { λ r. ⌜ r ≡ walkAll u now (take n acts) ⌝ }
+{
+    let mut w = begin_walk(now);
+    let mut i: usize = 0;
+    while i < n {
+        let o = acts[i];
+        w = act(u, w, o);
+        i += 1;
+    }
+    w
 }

@@ -144,8 +144,8 @@ module _ (s : Checking) (o : Numbered) where
       let voids = between (s .kept) (syncPlace (s .kept) (s .height) - 1) (s .height - (syncPlace (s .kept) (s .height) - 1)) in
       let f : fromSync (m .kept) ≡ voids = ap fromSync (sym (t .stack)) ∙ from-sync (s .kept) (s .height) p in
       let g : marked (s .fates) (map (mark 4) voids) ≡ marked (replicate 40 2) (map (mark 4) (fromSync (m .kept)) ++ m .marks) =
-          ap (λ (l : List ℕ). marked l (map (mark 4) voids)) (t .settled)
-          ∙ (sym (marked-append (replicate 40 2) (map (mark 4) voids) (m .marks)) ∙ ap (λ (l : List Numbered). marked (replicate 40 2) (map (mark 4) l ++ m .marks)) (sym f)) in
+      ap (λ (l : List ℕ). marked l (map (mark 4) voids)) (t .settled)
+      ∙ (sym (marked-append (replicate 40 2) (map (mark 4) voids) (m .marks)) ∙ ap (λ (l : List Numbered). marked (replicate 40 2) (map (mark 4) l ++ m .marks)) (sym f)) in
       rw (failed-on m o e)
       (record {
         stack = sym (before-sync (s .kept) (s .height)) ∙ ap beforeSync (t .stack);

@@ -33,9 +33,13 @@ pub struct Checking {
 
 // The codes that the steps name.
 const TRIP: u8 = 1;
+
 const MWOF: u8 = 2;
+
 const SYNC: u8 = 4;
+
 const DESY: u8 = 6;
+
 const FAIL: u8 = 7;
 
 // The number of a code.
@@ -119,10 +123,7 @@ fn empty() -> Sequence
 {
     let none = no_one();
     let items = [none; 40];
-    Sequence {
-        items,
-        count: 0,
-    }
+    Sequence { items, count: 0 }
 }
 
 fn push(s: Sequence, o: validation::Numbered) -> Sequence
@@ -566,7 +567,12 @@ fn acting_time(o: validation::Numbered) -> u64
 }
 
 // One of the kept ones from a place on acts no later than o.
-fn is_overtaken(kept: [validation::Numbered; 40], n: usize, from: usize, o: validation::Numbered) -> bool
+fn is_overtaken(
+    kept: [validation::Numbered; 40],
+    n: usize,
+    from: usize,
+    o: validation::Numbered,
+) -> bool
     requires { ⌜ (from ≤ n) × (n ≤ 40) ⌝ }
     ensures { λ r. ⌜ r ≡ overtaken o (drop from (take n kept)) ⌝ }
 {
