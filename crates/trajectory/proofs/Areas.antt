@@ -15,8 +15,9 @@ use Rattle.segments.proofs.Sums.{sum-eq, area-split}
 use Rattle.records.specs.declared.UnitData.{UnitData}
 use Rattle.course.specs.declared.Course.{Course}
 use Rattle.course.specs.Lists.{Lists}
-use Rattle.course.specs.Course.{Heading, Moment, trajectoryOf, after, momentAt, levelAt}
+use Rattle.course.specs.Course.{Heading, heading, Moment, trajectoryOf, after, momentAt, levelAt}
 use Rattle.course.specs.Pieces.{piece, twiceArea}
+use Rattle.course.proofs.Rule.{at}
 use Rattle.course.proofs.Pieces.{traces-area}
 use Rattle.trajectory.specs.declared.Place.{Place}
 use Rattle.trajectory.specs.Ways.{headed, listsIn}
@@ -79,3 +80,36 @@ module _ (h : Heading) (l : Lists) (t n : ℕ) where
 pub twice-low : (p q : Place) → p .level < 274877906944 → q .level < 274877906944 → twiceBetween p q ≤ (q .second - p .second) * 549755813888
 unfolding twiceBetween
 twice-low p q lp lq = mul-le-mul-left (q .second - p .second) (omega arith)
+
+-- ---- in the course's own seconds
+pub no-area : (f : ℕ → ℕ) (a n : ℕ) → n ≤ 0 → area f a n ≡ 0
+unfolding area sum
+no-area f a n le = ap (area f a) {x = n} {y = 0} (omega arith)
+
+module _ (u : UnitData) (c : Course) (up : Bool) (rises : up ≡ ltb (c .start .grains) (grains (c .target))) where
+  abbrev here : ℕ → ℕ → Place
+  here a m = standing (headed up) (listsIn u c) (grains (c .target)) m (beginning c a)
+
+  second-is : (a m : ℕ) → here a m .second ≡ m
+  unfolding standing
+  second-is a m = refl
+
+  later-is : (a m j : ℕ) → after (headed up) (listsIn u c) (grains (c .target)) j (momentOf (here a m)) ≡ momentAt (trajectoryOf u c) (m - a + j)
+  unfolding trajectoryOf momentAt
+  later-is a m j =
+      let l : Lists = listsIn u c in
+      let t : ℕ = grains (c .target) in
+      let x : ℕ = m - a in
+      ap (after (headed up) l t j) (moment-is u c up rises a m)
+      ∙ ap (λ (k : Heading). after k l t j (momentAt (trajectoryOf u c) x)) (sym (heading-is u c up rises))
+      ∙ sym (after-add (heading (trajectoryOf u c)) l t x j (at (c .start .grains) 0))
+
+  -- from the second m on, of a course that began at the second a
+  pub twice-is : (a m n : ℕ) → twiceTo (headed up) (listsIn u c) (grains (c .target)) n (here a m) ≡ area (levelAt (trajectoryOf u c)) (m - a) (n - m)
+  unfolding twiceTo levelAt
+  twice-is a m n =
+      let x : ℕ = m - a in
+      ap (area (λ k. after (headed up) (listsIn u c) (grains (c .target)) k (momentOf (here a m)) .level) 0) (ap (λ (k : ℕ). n - k) (second-is a m))
+      ∙ area-same (λ k. after (headed up) (listsIn u c) (grains (c .target)) k (momentOf (here a m)) .level) (λ j. levelAt (trajectoryOf u c) (x + j))
+      (λ j. ap (λ (q : Moment). q .level) (later-is a m j)) 0 (n - m)
+      ∙ sym (area-from (levelAt (trajectoryOf u c)) x (n - m))

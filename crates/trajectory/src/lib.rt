@@ -641,3 +641,20 @@ pub fn sum_to(u: records::UnitData, c: course::Course, up: bool, from: Place, n:
     }
     Summed { place: p, twice }
 }
+
+// Twice the recorded area of a course from its second `from` to its second `to`: the sum over seconds of the levels at
+// start and end.
+pub fn twice_in(u: records::UnitData, c: course::Course, from: u32, to: u32) -> u64
+    requires { ⌜ to ≤ 16777216 ⌝ }
+    requires { ⌜ c .start .grains < 274877906944 ⌝ }
+    ensures { λ r. ⌜ (r ≡ area (levelAt (trajectoryOf u c)) from (to - from)) × (r ≤ (to - from) * 549755813888) ⌝ }
+{
+    if to <= from {
+        return 0;
+    }
+    let up = is_rising(c);
+    let begin = begin_at(c, 0);
+    let p = walk_to(u, c, up, begin, from);
+    let s = sum_to(u, c, up, p, to);
+    s.twice
+}
