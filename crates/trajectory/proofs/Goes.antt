@@ -1,6 +1,6 @@
 -- Each straight piece is what the rule of one second does, and its levels lie on a straight line.
 -- Assumes nothing.
-use Prim.Native.Nat.{ℕ, zero, suc, _+_, _*_, _-_, _/_, min, _≤_, _<_}
+use Prim.Native.Nat.{ℕ, zero, suc, _+_, _*_, _-_, _/_, min, max, _≤_, _<_}
 use mathlib.Core.Path.{_≡_, refl, ap, sym, _∙_}
 use mathlib.Core.List.{List, [], _∷_}
 use mathlib.Core.Bool.{Bool, true, false}
@@ -28,10 +28,16 @@ pub record Goes (h : Heading) (l : Lists) (t n : ℕ) (p q : Place) : Type 0 whe
   pub later : p .second < q .second
   pub within : q .second ≤ n
   pub short : Short h t (q .level)
+  pub low : q .level ≤ max (p .level) t
   pub moment : after h l t (q .second - p .second) (momentOf p) ≡ momentOf q
   pub straight : Traces h (λ k. after h l t (k - p .second) (momentOf p) .level) (p .second) (q .second) (piece (p .second) (q .second) (p .level) (q .level))
 
--- between the headings' levels there is room
+toward-low : (h : Heading) (t v m w : ℕ) → Short h t w → w ≡ toward h v m → w ≤ max v t
+unfolding toward
+toward-low rising t v m w sh e = omega arith
+toward-low falling t v m w sh e = omega arith
+
+-- where one level lies past another there is room
 room-gap : (h : Heading) (v w : ℕ) → Past h v w → Room h v (gap v w)
 unfolding gap
 room-gap rising v w p = tt
@@ -62,6 +68,7 @@ module _ (h : Heading) (l : Lists) (t n : ℕ) (p : Place) (before : p .second <
           later = omega arith;
           within = le;
           short = sh;
+          low = toward-low h t (p .level) (f * r) (q .level) sh e;
           moment = ap (λ (k : ℕ). after h l t k (momentOf p)) w ∙ m;
           straight = line h levels (p .level) x y 0 (f * r) r (p .level) (q .level) (omega arith) (sym (toward-zero h (p .level))) e room
               (λ z. (

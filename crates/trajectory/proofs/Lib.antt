@@ -7,3 +7,4 @@ pub mod Seconds
 pub mod Goes
 pub mod Courses
 pub mod Left
+pub mod Areas

@@ -7,6 +7,7 @@ use lib.Dec.{ltb, eqb}
 use lib.ListN.{length}
 use Rattle.level.specs.Choice.{pick}
 use Rattle.segments.specs.declared.Segment.{Segment}
+use Rattle.segments.specs.Segments.{area}
 use Rattle.course.specs.declared.Course.{Course}
 use Rattle.course.specs.Lists.{Lists}
 use Rattle.course.specs.Course.{Heading, rising, falling, Moment, toward, gap, rateAt, candidates, nextStop, holdAt, after, stopsFrom, segmentsOf}
@@ -29,6 +30,10 @@ beginning c a = record { second = a; level = c .start .grains; left = 0 }
 -- the straight piece from one place to another
 unfoldable pub pieceBetween : Place → Place → Piece
 pieceBetween p q = record { from = p .second; to = q .second; enter = p .level; leave = q .level }
+
+-- twice its area: time by the sum of the levels at the two ends
+unfoldable pub twiceBetween : Place → Place → ℕ
+twiceBetween p q = (q .second - p .second) * (p .level + q .level)
 
 -- the end of a hold, or of what the second n leaves of it
 unfoldable pub afterHold : ℕ → Place → Place
@@ -81,3 +86,7 @@ module _ (h : Heading) (l : Lists) (t : ℕ) where
   piecesLeft n p =
       let held : ℕ = min (p .second + p .left) n in
       piece (p .second) held (p .level) (p .level) ++ piecesOf h n held (p .level) (segmentsFrom (p .level))
+
+  -- twice the area from p to the second n: the sum over seconds of the levels at start and end
+  unfoldable pub twiceTo : ℕ → Place → ℕ
+  twiceTo n p = area (λ k. after h l t k (momentOf p) .level) 0 (n - p .second)

@@ -1,15 +1,16 @@
 // A course in code: its rate, next stop and hold at a level, and what follows from them at any second.
 ghost use mathlib.Core.Path.{_≡_};
-ghost use Prim.Native.Nat.{ℕ, _+_, _*_, _-_, _/_, min, _<_, _≤_};
+ghost use Prim.Native.Nat.{ℕ, _+_, _*_, _-_, _/_, min, max, _<_, _≤_};
 ghost use mathlib.Core.List.{[], _∷_, _++_, map};
 ghost use lib.ListN.{length, getD};
 ghost use lib.Dec.{leb, ltb};
 ghost use Rattle.level.specs.Level.{grains};
+ghost use Rattle.segments.specs.Segments.{area};
 ghost use Rattle.course.specs.Lists.{placeOf, columnFor, replaced, inGrains, listsOf};
 ghost use Rattle.course.specs.Course.{rising, falling, gap, toward, passed, rateAt, nearest, nextStop, holding, holdAt, trajectoryOf, levelAt};
 ghost use Rattle.trajectory.specs.Ways.{headed, listsIn, ramping, lower, breaksIn, levelsIn};
 ghost use Rattle.course.proofs.Near.{Short};
-ghost use Rattle.trajectory.specs.Walk.{Reaches, momentOf, segmentTo, segmentFrom, afterHold, afterRest, afterRun, afterShort, along, onward, standing, beginning, pieceBetween};
+ghost use Rattle.trajectory.specs.Walk.{Reaches, momentOf, segmentTo, segmentFrom, afterHold, afterRest, afterRun, afterShort, along, onward, standing, beginning, pieceBetween, twiceBetween, twiceTo};
 
 // So many kW in grains.
 fn grains_of(kw: u32) -> u64
@@ -553,7 +554,7 @@ pub fn walk_on(u: records::UnitData, c: course::Course, up: bool, p: Place, n: u
 pub fn walk_to(u: records::UnitData, c: course::Course, up: bool, from: Place, n: u32) -> Place
     requires { ⌜ from .second ≤ n ⌝ }
     requires { ⌜ Short (headed up) (grains (c .target)) (from .level) ⌝ }
-    ensures { λ r. ⌜ r ≡ standing (headed up) (listsIn u c) (grains (c .target)) n from ⌝ }
+    ensures { λ r. ⌜ (r ≡ standing (headed up) (listsIn u c) (grains (c .target)) n from) × Short (headed up) (grains (c .target)) (r .level) × (r .level ≤ max (from .level) (grains (c .target))) ⌝ }
 {
     let mut p = from;
     while p.second < n {
@@ -603,4 +604,57 @@ pub fn level_after(u: records::UnitData, c: course::Course, k: u32) -> u64
     let from = begin_at(c, 0);
     let p = walk_to(u, c, up, from, k);
     p.level
+}
+
+// ---- areas
+
+// Twice the area from p to q, straight.
+fn twice_between(p: Place, q: Place) -> u64
+    requires { ⌜ (p .second ≤ q .second) × (q .second ≤ 16777216) ⌝ }
+    requires { ⌜ (p .level < 274877906944) × (q .level < 274877906944) ⌝ }
+    ensures { λ r. ⌜ (r ≡ twiceBetween p q) × (r ≤ (q .second - p .second) * 549755813888) ⌝ }
+{
+    let time = q.second - p.second;
+    let wide = time as u64;
+    wide * (p.level + q.level)
+}
+
+// Where a sum over seconds has come to.
+pub struct Summed {
+    pub place: Place,
+    pub twice: u64,
+}
+
+// Along the course to the second n, with twice the area on the way. Levels are below those of 32 bits of kW.
+pub fn sum_to(u: records::UnitData, c: course::Course, up: bool, from: Place, n: u32) -> Summed
+    requires { ⌜ (from .second ≤ n) × (n ≤ 16777216) ⌝ }
+    requires { ⌜ Short (headed up) (grains (c .target)) (from .level) ⌝ }
+    requires { ⌜ from .level < 274877906944 ⌝ }
+    ensures { λ r. ⌜ (r .place ≡ standing (headed up) (listsIn u c) (grains (c .target)) n from) × (r .twice ≡ twiceTo (headed up) (listsIn u c) (grains (c .target)) n from) × (r .twice ≤ (n - from .second) * 549755813888) ⌝ }
+{
+    let mut p = from;
+    let mut twice: u64 = 0;
+    while p.second < n {
+        let q = walk_on(u, c, up, p, n);
+        twice += twice_between(p, q);
+        p = q;
+    }
+    Summed { place: p, twice }
+}
+
+// Twice the recorded area of a course from its second `from` to its second `to`: the sum over seconds of the levels at
+// start and end.
+pub fn twice_in(u: records::UnitData, c: course::Course, from: u32, to: u32) -> u64
+    requires { ⌜ to ≤ 16777216 ⌝ }
+    requires { ⌜ c .start .grains < 274877906944 ⌝ }
+    ensures { λ r. ⌜ (r ≡ area (levelAt (trajectoryOf u c)) from (to - from)) × (r ≤ (to - from) * 549755813888) ⌝ }
+{
+    if to <= from {
+        return 0;
+    }
+    let up = is_rising(c);
+    let begin = begin_at(c, 0);
+    let p = walk_to(u, c, up, begin, from);
+    let s = sum_to(u, c, up, p, to);
+    s.twice
 }

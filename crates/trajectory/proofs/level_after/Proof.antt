@@ -34,7 +34,7 @@ returns : tie.Need-returns
 returns c =
     let s = c .before .before .before in
     let up = c .before .before .is-rising .result in
-    rw (c .walk-to .ensures, c .before .begin-at .ensures) (level-is (s .args .u) (s .args .c) up (c .before .before .is-rising .ensures) (s .args .k))
+    rw (c .walk-to .ensures .0, c .before .begin-at .ensures) (level-is (s .args .u) (s .args .c) up (c .before .before .is-rising .ensures) (s .args .k))
 
 pub level-after-spec : {M : Type 1} → statement M
 level-after-spec =
