@@ -17,7 +17,8 @@ use Rattle.records.specs.declared.Effect.the-variants.{Sync, Desy}
 use Rattle.records.specs.Codes.{codeNumber}
 use Rattle.validation.specs.declared.Numbered.{Numbered}
 use Rattle.validation.specs.Kept.{effectiveOf, effectOf, levelOf, goesBefore, highest, superseded, orElse, present, carrying, merged, usedOf, nextTime}
-use Rattle.keeping.specs.Working.{noNumbered, holding, pushed, foundList, joined, Begun, earliest, inGroup, earlierOf, supersedesOf}
+use Rattle.keeping.specs.Outcome.{noNumbered}
+use Rattle.keeping.specs.Working.{holding, pushed, foundList, joined, Begun, earliest, inGroup, earlierOf, supersedesOf}
 use Rattle.keeping.specs.declared.Sequence.{Sequence}
 use Rattle.keeping.specs.declared.Found.{Found}
 use Rattle.keeping.specs.declared.Found.the-variants.{One, Nothing}
@@ -61,7 +62,7 @@ module _ {A : Type 0} (x : A) where
       let r : replicate (suc m) x ≡ replicate m x ++ (x ∷ []) = ap (λ (k : ℕ). replicate k x) (sym (add-one m)) ∙ sym (replicate-append-replicate m 1 x) in
       let k : suc m ≤ length (xs ++ (o ∷ replicate m x)) = simp (length-append, length-replicate) (omega arith) in
       let e : take (suc m) (xs ++ (o ∷ replicate (suc m) x)) ≡ take (suc m) (xs ++ (o ∷ replicate m x)) =
-          ap (λ (l : List A). take (suc m) (xs ++ (o ∷ l))) r ∙ (ap (take (suc m)) (sym (append-assoc xs (o ∷ replicate m x) (x ∷ []))) ∙ take-append-le (suc m) (xs ++ (o ∷ replicate m x)) (x ∷ []) k) in
+      ap (λ (l : List A). take (suc m) (xs ++ (o ∷ l))) r ∙ (ap (take (suc m)) (sym (append-assoc xs (o ∷ replicate m x) (x ∷ []))) ∙ take-append-le (suc m) (xs ++ (o ∷ replicate m x)) (x ∷ []) k) in
       sym (take-set-lt (suc m) (xs ++ replicate (suc m) x) (length xs) o h)
       ∙ (ap (take (suc m)) (set-append-seam xs x (replicate m x) o)
       ∙ (sym e ∙ ap (take (suc m)) (sym (append-assoc xs (o ∷ []) (replicate (suc m) x)))))

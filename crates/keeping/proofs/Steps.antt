@@ -17,7 +17,8 @@ use Rattle.records.specs.Codes.{codeNumber}
 use Rattle.validation.specs.declared.Numbered.{Numbered}
 use Rattle.validation.specs.Kept.{effectiveOf, effectOf, numbered, Mark, mark, superseded, group, usedOf, nextTime, usedFrom, used, repeats, syncWithinHour, fromSync, beforeSync, Checked, failed, checkOne, check, acting, overtaken, lateFate, actors, lateMarks}
 use Rattle.keeping.specs.declared.Checking.{Checking}
-use Rattle.keeping.specs.Working.{noNumbered, stackOf, between, syncPlace, withinHour, setFate, marked, withFate, voided, keeping, noChecking, noneChecked, Tracks, Follows, overtakenBy, settleFate, settled, fatesTo}
+use Rattle.keeping.specs.Outcome.{noNumbered}
+use Rattle.keeping.specs.Working.{stackOf, between, syncPlace, withinHour, setFate, marked, withFate, voided, keeping, noChecking, noneChecked, Tracks, Follows, overtakenBy, settleFate, settled, fatesTo}
 use Rattle.keeping.proofs.Laws.{left-cons, filled-push}
 use Rattle.keeping.proofs.Stack.{stack-push, hour-none, hour-some, before-sync, from-sync}
 
@@ -144,8 +145,8 @@ module _ (s : Checking) (o : Numbered) where
       let voids = between (s .kept) (syncPlace (s .kept) (s .height) - 1) (s .height - (syncPlace (s .kept) (s .height) - 1)) in
       let f : fromSync (m .kept) ≡ voids = ap fromSync (sym (t .stack)) ∙ from-sync (s .kept) (s .height) p in
       let g : marked (s .fates) (map (mark 4) voids) ≡ marked (replicate 40 2) (map (mark 4) (fromSync (m .kept)) ++ m .marks) =
-          ap (λ (l : List ℕ). marked l (map (mark 4) voids)) (t .settled)
-          ∙ (sym (marked-append (replicate 40 2) (map (mark 4) voids) (m .marks)) ∙ ap (λ (l : List Numbered). marked (replicate 40 2) (map (mark 4) l ++ m .marks)) (sym f)) in
+      ap (λ (l : List ℕ). marked l (map (mark 4) voids)) (t .settled)
+      ∙ (sym (marked-append (replicate 40 2) (map (mark 4) voids) (m .marks)) ∙ ap (λ (l : List Numbered). marked (replicate 40 2) (map (mark 4) l ++ m .marks)) (sym f)) in
       rw (failed-on m o e)
       (record {
         stack = sym (before-sync (s .kept) (s .height)) ∙ ap beforeSync (t .stack);

@@ -1,6 +1,6 @@
 // Which instructions are kept, steps 1 to 4: over up to forty instructions with their numbers.
 ghost use mathlib.Core.Path.{_≡_};
-ghost use Prim.Native.Nat.{ℕ, _+_, _-_, _<_, _≤_};
+ghost use Prim.Native.Nat.{ℕ, _+_, _-_, _<_, _≤_, min};
 ghost use mathlib.Core.List.{[], _∷_, map};
 ghost use mathlib.Core.Bool.{Bool};
 ghost use lib.Dec.{eqb};
@@ -10,7 +10,15 @@ ghost use Rattle.level.specs.Choice.{pick};
 ghost use Rattle.records.specs.declared.Effect.the-variants.{Sync, Desy};
 ghost use Rattle.records.specs.Codes.{codeNumber};
 ghost use Rattle.validation.specs.Kept.{effectOf, superseded, group, goesBefore, highest, orElse, present, carrying, merged, usedOf, nextTime, numbered, used, repeats, Checked, mark, failed, checkOne, check, acting, overtaken, lateFate, actors, lateMarks};
-ghost use Rattle.keeping.specs.Working.{noNumbered, holding, pushed, foundList, joined, earliest, inGroup, earlierOf, supersedesOf, stackOf, syncPlace, between, setFate, marked, settleFate, settled, voided, settling, withFate, withinHour, keeping, noChecking, noneChecked, Tracks, Follows, fatesTo};
+ghost use Rattle.keeping.specs.Outcome.{noNumbered, validationOf};
+ghost use Rattle.keeping.specs.Working.{holding, pushed, foundList, joined, earliest, inGroup, earlierOf, supersedesOf, stackOf, syncPlace, between, setFate, marked, settleFate, settled, voided, settling, withFate, withinHour, keeping, noChecking, noneChecked, Tracks, Follows, fatesTo};
+
+// What steps 1 to 4 come to: the fates by number, those that act in time order, and how many these are.
+pub struct Validation {
+    pub fates: [u8; 40],
+    pub acts: [validation::Numbered; 40],
+    pub acting: usize,
+}
 
 // Some of the instructions, in order: the first `count` places.
 pub struct Sequence {
@@ -33,9 +41,13 @@ pub struct Checking {
 
 // The codes that the steps name.
 const TRIP: u8 = 1;
+
 const MWOF: u8 = 2;
+
 const SYNC: u8 = 4;
+
 const DESY: u8 = 6;
+
 const FAIL: u8 = 7;
 
 // The number of a code.
@@ -119,10 +131,7 @@ fn empty() -> Sequence
 {
     let none = no_one();
     let items = [none; 40];
-    Sequence {
-        items,
-        count: 0,
-    }
+    Sequence { items, count: 0 }
 }
 
 fn push(s: Sequence, o: validation::Numbered) -> Sequence
@@ -566,7 +575,12 @@ fn acting_time(o: validation::Numbered) -> u64
 }
 
 // One of the kept ones from a place on acts no later than o.
-fn is_overtaken(kept: [validation::Numbered; 40], n: usize, from: usize, o: validation::Numbered) -> bool
+fn is_overtaken(
+    kept: [validation::Numbered; 40],
+    n: usize,
+    from: usize,
+    o: validation::Numbered,
+) -> bool
     requires { ⌜ (from ≤ n) × (n ≤ 40) ⌝ }
     ensures { λ r. ⌜ r ≡ overtaken o (drop from (take n kept)) ⌝ }
 {
@@ -689,4 +703,47 @@ fn fates_of(os: [validation::Numbered; 40], n: usize, later: [u8; 40]) -> [u8; 4
         i += 1;
     }
     out
+}
+
+// ---- the four steps together
+
+// Steps 1 to 3 over the first n.
+fn checked_in(os: [validation::Numbered; 40], n: usize, end: u32) -> Checking
+    requires { ⌜ n ≤ 40 ⌝ }
+    ensures { λ r. ⌜ (r .height ≤ 40) × Tracks r (check noneChecked (used end (take n os))) ⌝ }
+{
+    let s = used_in(os, n, end);
+    let items = s.items;
+    check_all(items, s.count)
+}
+
+fn at_most_forty(count: usize) -> usize
+    ensures { λ r. ⌜ r ≡ min count 40 ⌝ }
+{
+    if count < 40 {
+        return count;
+    }
+    40
+}
+
+// Which of the first `count` instructions are kept, in a day of `end` seconds. A count above forty reads like forty.
+pub fn validate(instructions: [records::Instruction; 40], count: usize, end: u32) -> Validation
+    ensures { λ r. ⌜ r ≡ validationOf instructions count end ⌝ }
+{
+    let n = at_most_forty(count);
+    let numbered = number_all(instructions, n);
+    let os = numbered.items;
+    let s = checked_in(os, n, end);
+    let late = settle_late(s, end);
+    let later = late.fates;
+    let fates = fates_of(os, n, later);
+    let kept = s.kept;
+    let height = s.height;
+    let actors = acts_of(kept, height, end);
+    let acts = actors.items;
+    Validation {
+        fates,
+        acts,
+        acting: actors.count,
+    }
 }

@@ -4,7 +4,8 @@ use Prim.Native.Nat.{_≤_, _-_, _+_}
 use lib.ListN.{length, take, drop, getD}
 use borrow.Author.Needs.{needs}
 use Rattle.validation.specs.Kept.{check, checkOne, Checked}
-use Rattle.keeping.specs.Working.{noNumbered, noChecking, noneChecked, Tracks}
+use Rattle.keeping.specs.Outcome.{noNumbered}
+use Rattle.keeping.specs.Working.{noChecking, noneChecked, Tracks}
 use Rattle.keeping.proofs.Steps.{check-more, check-none}
 use Rattle.keeping.proofs.check_all.Statement.{statement}
 use Rattle.keeping.proofs.check_all.Tie as tie

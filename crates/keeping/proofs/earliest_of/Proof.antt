@@ -3,7 +3,8 @@ use mathlib.Core.Path.{_≡_, refl, sym, ap, _∙_}
 use native.Mathlib.Omega.{arith}
 use borrow.Author.Needs.{needs}
 use lib.ListN.{length, take, drop, getD}
-use Rattle.keeping.specs.Working.{noNumbered, earliest}
+use Rattle.keeping.specs.Outcome.{noNumbered}
+use Rattle.keeping.specs.Working.{earliest}
 use Rattle.keeping.proofs.Laws.{left-none, earliest-none, earliest-here, earliest-next}
 use Rattle.keeping.proofs.earliest_of.Statement.{statement}
 use Rattle.keeping.proofs.earliest_of.Tie as tie

@@ -4,7 +4,8 @@ use Prim.Native.Nat.{_≤_, _-_, _+_}
 use lib.ListN.{length, take, drop, getD}
 use borrow.Author.Tests.{not-true, not-false}
 use Rattle.keeping.specs.declared.Checking.{Checking}
-use Rattle.keeping.specs.Working.{noNumbered, withFate, voided, withinHour}
+use Rattle.keeping.specs.Outcome.{noNumbered}
+use Rattle.keeping.specs.Working.{withFate, voided, withinHour}
 use Rattle.keeping.proofs.Steps.{failed-none, failed-late, failed-void}
 use borrow.Author.Needs.{needs}
 use Rattle.keeping.proofs.fail_one.Statement.{statement}

@@ -8,7 +8,8 @@ use Rattle.keeping.proofs.Steps.{fates-more}
 use Rattle.level.specs.Choice.{pick}
 use Rattle.level.specs.Lists.{filled}
 use Rattle.validation.specs.Kept.{superseded}
-use Rattle.keeping.specs.Working.{noNumbered, fatesTo}
+use Rattle.keeping.specs.Outcome.{noNumbered}
+use Rattle.keeping.specs.Working.{fatesTo}
 use Rattle.keeping.proofs.Laws.{filled-length}
 use Rattle.keeping.proofs.fates_of.Statement.{statement}
 use Rattle.keeping.proofs.fates_of.Tie as tie

@@ -5,7 +5,7 @@ use borrow.Author.Needs.{needs}
 use lib.ListN.{length, take, drop, getD}
 use Rattle.validation.specs.declared.Numbered.{Numbered}
 use Rattle.validation.specs.Kept.{highest}
-use Rattle.keeping.specs.Working.{noNumbered}
+use Rattle.keeping.specs.Outcome.{noNumbered}
 use Rattle.keeping.proofs.Laws.{left-none, highest-none, highest-next}
 use Rattle.keeping.proofs.highest_of.Statement.{statement}
 use Rattle.keeping.proofs.highest_of.Tie as tie

@@ -4,7 +4,8 @@ use Prim.Native.Nat.{ℕ, _≤_, _-_, _+_}
 use lib.ListN.{length, take, drop, getD}
 use borrow.Author.Needs.{needs}
 use Rattle.validation.specs.Kept.{acting, overtaken}
-use Rattle.keeping.specs.Working.{noNumbered, overtakenBy}
+use Rattle.keeping.specs.Outcome.{noNumbered}
+use Rattle.keeping.specs.Working.{overtakenBy}
 use Rattle.keeping.proofs.Laws.{left-none}
 use Rattle.keeping.proofs.Steps.{overtaken-here, overtaken-next, overtaken-none}
 use Rattle.keeping.proofs.is_overtaken.Statement.{statement}

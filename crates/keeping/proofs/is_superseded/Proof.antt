@@ -3,7 +3,7 @@ use mathlib.Core.Path.{_≡_, refl, sym, ap, _∙_}
 use native.Mathlib.Omega.{arith}
 use borrow.Author.Needs.{needs}
 use lib.ListN.{length, take, drop}
-use Rattle.keeping.specs.Working.{noNumbered}
+use Rattle.keeping.specs.Outcome.{noNumbered}
 use Rattle.validation.specs.Kept.{superseded}
 use Rattle.keeping.proofs.Laws.{left-none, superseded-none, superseded-here, superseded-next}
 use Rattle.keeping.proofs.is_superseded.Statement.{statement}

@@ -3,7 +3,8 @@ use native.Mathlib.Omega.{arith}
 use Prim.Native.Nat.{_≤_, _-_, _+_}
 use lib.ListN.{length, take, drop, getD}
 use borrow.Author.Needs.{needs}
-use Rattle.keeping.specs.Working.{noNumbered, syncPlace}
+use Rattle.keeping.specs.Outcome.{noNumbered}
+use Rattle.keeping.specs.Working.{syncPlace}
 use Rattle.keeping.proofs.Stack.{sync-here, sync-next}
 use Rattle.keeping.proofs.latest_sync.Statement.{statement}
 use Rattle.keeping.proofs.latest_sync.Tie as tie

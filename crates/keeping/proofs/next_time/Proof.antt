@@ -3,7 +3,7 @@ use mathlib.Core.Path.{_≡_, refl, sym, ap, _∙_}
 use native.Mathlib.Omega.{arith}
 use borrow.Author.Needs.{needs}
 use lib.ListN.{length, take, drop}
-use Rattle.keeping.specs.Working.{noNumbered}
+use Rattle.keeping.specs.Outcome.{noNumbered}
 use Rattle.validation.specs.Kept.{nextTime}
 use Rattle.keeping.proofs.Laws.{left-none, next-none, next-more}
 use Rattle.keeping.proofs.next_time.Statement.{statement}

@@ -6,7 +6,8 @@ use borrow.Author.Needs.{needs}
 use Rattle.keeping.specs.declared.Checking.{Checking}
 use mathlib.Core.List.{List}
 use Rattle.validation.specs.Kept.{lateFate, lateMarks}
-use Rattle.keeping.specs.Working.{noNumbered, settling, settleFate, settled}
+use Rattle.keeping.specs.Outcome.{noNumbered}
+use Rattle.keeping.specs.Working.{settling, settleFate, settled}
 use Rattle.keeping.proofs.Laws.{left-none, map-length}
 use Rattle.keeping.proofs.Steps.{settled-next, settled-none}
 use Rattle.keeping.proofs.settle_late.Statement.{statement}
@@ -62,7 +63,7 @@ loop-again c =
     let o = getD ks (l .i) noNumbered in
     let g : length ks ≡ 40 = simp map-length at (s .good .0 .1 .1 .0 .1 .0 .1) in
     let e : c .settle-one .result .fates ≡ settleFate (l .out .fates) (o .number) (lateFate end o (drop (l .i + 1) (take n ks))) =
-        ap (λ (q : Checking). q .fates) (c .settle-one .ensures) ∙ ap (settleFate (l .out .fates) (o .number)) (c .before .late-fate .ensures) in
+    ap (λ (q : Checking). q .fates) (c .settle-one .ensures) ∙ ap (settleFate (l .out .fates) (o .number)) (c .before .late-fate .ensures) in
     (omega arith, ap (λ (q : List ℕ). settled q (lateMarks end (drop (l .i + 1) (take n ks)))) e ∙ (sym (settled-next ks n (omega arith) end (l .i) (l .out .fates) (omega arith)) ∙ l .inv .1))
 
 -- src/lib.rt:650:1

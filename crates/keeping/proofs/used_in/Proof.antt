@@ -6,7 +6,8 @@ use borrow.Author.Needs.{needs}
 use mathlib.Core.List.{List, [], _++_}
 use Rattle.validation.specs.declared.Numbered.{Numbered}
 use Rattle.validation.specs.Kept.{used, usedFrom, usedOf, group, nextTime}
-use Rattle.keeping.specs.Working.{noNumbered, foundList, Begun}
+use Rattle.keeping.specs.Outcome.{noNumbered}
+use Rattle.keeping.specs.Working.{foundList, Begun}
 use Rattle.keeping.proofs.Laws.{left-none, begun-none, begun-found, begun-all, joined-count, held}
 use Rattle.keeping.proofs.Steps.{used-more, used-stop, used-begins, used-zero}
 use Rattle.keeping.proofs.used_in.Statement.{statement}
@@ -82,10 +83,10 @@ loop-again c =
     let g : foundList u ≡ usedOf (group os next) = c .before .used-of .ensures ∙ ap usedOf (held (c .before .before .before .group-at .ensures .0) (c .before .before .before .group-at .ensures .1)) in
     let m : s .n - (l .i + 1) ≡ s .n - l .i - 1 = omega arith in
     let q : usedFrom (s .end) os (s .n - l .i) (l .t) ≡ foundList u ++ usedFrom (s .end) os (s .n - (l .i + 1)) (next + 1) =
-        used-more (s .end) os (s .n - l .i) (l .t) (omega arith) (omega arith)
-        ∙ (ap (λ (k : ℕ). usedOf (group os k) ++ usedFrom (s .end) os (s .n - l .i - 1) (k + 1)) (sym t)
-        ∙ (ap (λ (k : ℕ). usedOf (group os next) ++ usedFrom (s .end) os k (next + 1)) (sym m)
-        ∙ ap (λ (xs : List Numbered). xs ++ usedFrom (s .end) os (s .n - (l .i + 1)) (next + 1)) (sym g))) in
+    used-more (s .end) os (s .n - l .i) (l .t) (omega arith) (omega arith)
+    ∙ (ap (λ (k : ℕ). usedOf (group os k) ++ usedFrom (s .end) os (s .n - l .i - 1) (k + 1)) (sym t)
+    ∙ (ap (λ (k : ℕ). usedOf (group os next) ++ usedFrom (s .end) os k (next + 1)) (sym m)
+    ∙ ap (λ (xs : List Numbered). xs ++ usedFrom (s .end) os (s .n - (l .i + 1)) (next + 1)) (sym g))) in
     let e = c .push-found .ensures in
     (omega arith, rw e (omega (arith, joined-count (l .out) u)), rw e (begun-found u (omega arith) (rw q at (l .inv .2))))
 
