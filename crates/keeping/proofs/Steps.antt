@@ -2,11 +2,11 @@
 -- Assumes nothing.
 use mathlib.Core.Path.{_≡_, refl, sym, ap, _∙_}
 use mathlib.Core.List.{List, [], _∷_, _++_, map}
-use mathlib.Core.Bool.{Bool, true, false, _||_}
+use mathlib.Core.Bool.{Bool, true, false}
 use Prim.Native.Nat.{ℕ, zero, suc, _+_, _-_, _≤_, _<_}
 use native.Mathlib.Numerals.{add-one}
 use native.Mathlib.Omega.{arith}
-use lib.Dec.{leb, ltb, eqb}
+use lib.Dec.{eqb}
 use lib.ListN.{length, take, drop, getD, set, replicate, length-append, List·getD-eq-default}
 use lib.Seq.{take-suc, set-out, length-take-le, getD-take}
 use borrow.Author.Tests.{lt-ltb, le-ltb, le-leb, lt-leb, eq-eqb, ne-eqb}

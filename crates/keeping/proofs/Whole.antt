@@ -5,12 +5,11 @@ use mathlib.Core.List.{List, [], _∷_, _++_, map, append-assoc, append-nil}
 use mathlib.Core.Bool.{Bool, true, false}
 use mathlib.Core.Logic.{_⊎_, inl, inr}
 use Prim.Native.Nat.{ℕ, zero, suc, _+_, _-_, _≤_, _<_, min}
-use native.Mathlib.Numerals.{add-one}
 use native.Mathlib.Decide.{ℕ-discrete, decLe}
 use native.Mathlib.Omega.{arith}
 use lib.Dec.{leb, eqb}
-use lib.ListN.{length, take, getD, set, replicate, length-set, length-replicate, getD-replicate, length-take}
-use lib.Seq.{take-suc, take-all, take-length, getD-set-same, getD-set-other}
+use lib.ListN.{length, take, getD, replicate, length-set, getD-replicate, length-take}
+use lib.Seq.{take-suc, take-all, getD-set-same, getD-set-other}
 use borrow.Author.Tests.{eq-eqb, ne-eqb}
 use Rattle.level.specs.Choice.{pick}
 use Rattle.level.specs.Lists.{All, filled}
@@ -24,7 +23,7 @@ use Rattle.keeping.specs.declared.Checking.{Checking}
 use Rattle.keeping.specs.declared.Sequence.{Sequence}
 use Rattle.keeping.specs.declared.Validation.{Validation}
 use Rattle.keeping.specs.Outcome.{noNumbered, outcomeOf, validationOf}
-use Rattle.keeping.specs.Working.{holding, stackOf, setFate, marked, noneChecked, Tracks, settleFate, settled, fatesTo}
+use Rattle.keeping.specs.Working.{holding, setFate, marked, noneChecked, Tracks, settleFate, settled, fatesTo}
 use Rattle.keeping.proofs.Laws.{held}
 use Rattle.keeping.proofs.Stack.{stack-turned}
 use Rattle.keeping.proofs.Steps.{set-zero, set-some, settle-zero, settle-done, settle-some}

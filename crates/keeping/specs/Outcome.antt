@@ -7,7 +7,7 @@ use Rattle.level.specs.Lists.{filled}
 use Rattle.records.specs.declared.Effect.the-variants.{Trip}
 use Rattle.records.specs.declared.Instruction.{Instruction}
 use Rattle.validation.specs.declared.Numbered.{Numbered}
-use Rattle.validation.specs.Kept.{numbered, Validated, validated, fatesOf}
+use Rattle.validation.specs.Kept.{numbered, validated, fatesOf}
 use Rattle.keeping.specs.declared.Validation.{Validation}
 
 -- a place that holds none

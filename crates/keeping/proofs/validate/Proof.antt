@@ -1,50 +1,34 @@
-use mathlib.Core.Path.{_≡_, refl, sym, ap, _∙_}
+use mathlib.Core.Path.{_≡_, ap, _∙_}
 use mathlib.Core.List.{List}
 use Prim.Native.Nat.{ℕ}
 use native.Mathlib.Omega.{arith}
 use lib.ListN.{length, take}
 use Rattle.level.specs.Lists.{filled}
-use Rattle.keeping.specs.declared.Validation.{Validation}
 use Rattle.keeping.specs.Working.{fatesTo}
 use Rattle.keeping.proofs.Laws.{map-length}
 use Rattle.keeping.proofs.Whole.{result, validation-is}
 use borrow.Author.Needs.{needs}
 use Rattle.keeping.proofs.validate.Statement.{statement}
 use Rattle.keeping.proofs.validate.Tie as tie
-use Rattle.keeping.proofs.validate.Reads as reads
-use Rattle.keeping.proofs.validate.Lts as lts
-use Rattle.keeping.proofs.acts_of.Reads as acts-of-reads
-use Rattle.keeping.proofs.at_most_forty.Reads as at-most-forty-reads
-use Rattle.keeping.proofs.checked_in.Reads as checked-in-reads
-use Rattle.keeping.proofs.fates_of.Reads as fates-of-reads
-use Rattle.keeping.proofs.number_all.Reads as number-all-reads
-use Rattle.keeping.proofs.settle_late.Reads as settle-late-reads
 
--- src/lib.rt:727:9
 at-most-forty-requires : tie.Need-at-most-forty-requires
 at-most-forty-requires c κs = search needs
 
--- src/lib.rt:728:9
 number-all-requires : tie.Need-number-all-requires
 number-all-requires c κs = search needs
 
--- src/lib.rt:730:9
 checked-in-requires : tie.Need-checked-in-requires
 checked-in-requires c κs = search needs
 
--- src/lib.rt:731:9
 settle-late-requires : tie.Need-settle-late-requires
 settle-late-requires c κs = search needs
 
--- src/lib.rt:733:9
 fates-of-requires : tie.Need-fates-of-requires
 fates-of-requires c κs = search needs
 
--- src/lib.rt:736:9
 acts-of-requires : tie.Need-acts-of-requires
 acts-of-requires c κs = search needs
 
--- src/lib.rt:724:1
 returns : tie.Need-returns
 returns c =
     let a = c .before .before .before .before .before .before .before .before .before .before in
