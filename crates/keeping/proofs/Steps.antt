@@ -2,11 +2,11 @@
 -- Assumes nothing.
 use mathlib.Core.Path.{_≡_, refl, sym, ap, _∙_}
 use mathlib.Core.List.{List, [], _∷_, _++_, map}
-use mathlib.Core.Bool.{Bool, true, false, _||_}
+use mathlib.Core.Bool.{Bool, true, false}
 use Prim.Native.Nat.{ℕ, zero, suc, _+_, _-_, _≤_, _<_}
 use native.Mathlib.Numerals.{add-one}
 use native.Mathlib.Omega.{arith}
-use lib.Dec.{leb, ltb, eqb}
+use lib.Dec.{eqb}
 use lib.ListN.{length, take, drop, getD, set, replicate, length-append, List·getD-eq-default}
 use lib.Seq.{take-suc, set-out, length-take-le, getD-take}
 use borrow.Author.Tests.{lt-ltb, le-ltb, le-leb, lt-leb, eq-eqb, ne-eqb}
@@ -17,7 +17,8 @@ use Rattle.records.specs.Codes.{codeNumber}
 use Rattle.validation.specs.declared.Numbered.{Numbered}
 use Rattle.validation.specs.Kept.{effectiveOf, effectOf, numbered, Mark, mark, superseded, group, usedOf, nextTime, usedFrom, used, repeats, syncWithinHour, fromSync, beforeSync, Checked, failed, checkOne, check, acting, overtaken, lateFate, actors, lateMarks}
 use Rattle.keeping.specs.declared.Checking.{Checking}
-use Rattle.keeping.specs.Working.{noNumbered, stackOf, between, syncPlace, withinHour, setFate, marked, withFate, voided, keeping, noChecking, noneChecked, Tracks, Follows, overtakenBy, settleFate, settled, fatesTo}
+use Rattle.keeping.specs.Outcome.{noNumbered}
+use Rattle.keeping.specs.Working.{stackOf, between, syncPlace, withinHour, setFate, marked, withFate, voided, keeping, noChecking, noneChecked, Tracks, Follows, overtakenBy, settleFate, settled, fatesTo}
 use Rattle.keeping.proofs.Laws.{left-cons, filled-push}
 use Rattle.keeping.proofs.Stack.{stack-push, hour-none, hour-some, before-sync, from-sync}
 

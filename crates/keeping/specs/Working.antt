@@ -3,26 +3,20 @@
 use Prim.Native.Nat.{ℕ, zero, suc, _+_, _-_, min}
 use mathlib.Core.Path.{_≡_}
 use mathlib.Core.List.{List, [], _∷_, _++_, map}
-use mathlib.Core.Bool.{Bool, true, false, _&&_, not}
+use mathlib.Core.Bool.{Bool, _&&_, not}
 use lib.Dec.{leb, ltb, eqb}
 use lib.ListN.{length, set, getD, replicate}
 use Rattle.level.specs.Lists.{filled, those, some}
 use Rattle.level.specs.Choice.{pick}
-use Rattle.records.specs.declared.Effect.the-variants.{Trip, Sync}
+use Rattle.records.specs.declared.Effect.the-variants.{Sync}
 use Rattle.records.specs.Codes.{codeNumber, same}
 use Rattle.validation.specs.declared.Numbered.{Numbered}
 use Rattle.validation.specs.Kept.{effectiveOf, effectOf, superseded, firstOne, Mark, mark, Checked, acting}
+use Rattle.keeping.specs.Outcome.{noNumbered}
 use Rattle.keeping.specs.declared.Checking.{Checking}
 use Rattle.keeping.specs.declared.Sequence.{Sequence}
 use Rattle.keeping.specs.declared.Found.{Found}
 use Rattle.keeping.specs.declared.Found.the-variants.{One, Nothing}
-
--- a place of an array that holds none
-abbrev pub noNumbered : Numbered
-noNumbered = record {
-  number = 0;
-  instruction = record { effective = 0; issue = 0; meaning = record { lag = 0; rank = 0; effect = Trip }; level = 0; up = 0; down = 0 };
-}
 
 -- a sequence that holds these; its list; with one more
 abbrev pub holding : List Numbered → Sequence

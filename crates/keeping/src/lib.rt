@@ -1,6 +1,6 @@
 // Which instructions are kept, steps 1 to 4: over up to forty instructions with their numbers.
 ghost use mathlib.Core.Path.{_≡_};
-ghost use Prim.Native.Nat.{ℕ, _+_, _-_, _<_, _≤_};
+ghost use Prim.Native.Nat.{ℕ, _+_, _-_, _<_, _≤_, min};
 ghost use mathlib.Core.List.{[], _∷_, map};
 ghost use mathlib.Core.Bool.{Bool};
 ghost use lib.Dec.{eqb};
@@ -10,7 +10,15 @@ ghost use Rattle.level.specs.Choice.{pick};
 ghost use Rattle.records.specs.declared.Effect.the-variants.{Sync, Desy};
 ghost use Rattle.records.specs.Codes.{codeNumber};
 ghost use Rattle.validation.specs.Kept.{effectOf, superseded, group, goesBefore, highest, orElse, present, carrying, merged, usedOf, nextTime, numbered, used, repeats, Checked, mark, failed, checkOne, check, acting, overtaken, lateFate, actors, lateMarks};
-ghost use Rattle.keeping.specs.Working.{noNumbered, holding, pushed, foundList, joined, earliest, inGroup, earlierOf, supersedesOf, stackOf, syncPlace, between, setFate, marked, settleFate, settled, voided, settling, withFate, withinHour, keeping, noChecking, noneChecked, Tracks, Follows, fatesTo};
+ghost use Rattle.keeping.specs.Outcome.{noNumbered, validationOf};
+ghost use Rattle.keeping.specs.Working.{holding, pushed, foundList, joined, earliest, inGroup, earlierOf, supersedesOf, stackOf, syncPlace, between, setFate, marked, settleFate, settled, voided, settling, withFate, withinHour, keeping, noChecking, noneChecked, Tracks, Follows, fatesTo};
+
+// What steps 1 to 4 come to: the fates by number, those that act in time order, and how many these are.
+pub struct Validation {
+    pub fates: [u8; 40],
+    pub acts: [validation::Numbered; 40],
+    pub acting: usize,
+}
 
 // Some of the instructions, in order: the first `count` places.
 pub struct Sequence {
@@ -42,6 +50,8 @@ const DESY: u8 = 6;
 
 const FAIL: u8 = 7;
 
+// ---- codes
+
 // The number of a code.
 fn code_number(e: records::Effect) -> u8
     ensures { λ r. ⌜ r ≡ codeNumber e ⌝ }
@@ -57,6 +67,7 @@ fn code_number(e: records::Effect) -> u8
     }
 }
 
+// The number of an instruction's code.
 fn code_of(o: validation::Numbered) -> u8
     ensures { λ r. ⌜ r ≡ codeNumber (effectOf o) ⌝ }
 {
@@ -65,6 +76,77 @@ fn code_of(o: validation::Numbered) -> u8
     let e = m.effect;
     code_number(e)
 }
+
+// ---- sequences
+
+// A place that holds none.
+fn no_one() -> validation::Numbered
+    ensures { λ r. ⌜ r ≡ noNumbered ⌝ }
+{
+    let effect = records::Effect::Trip;
+    let meaning = records::Meaning {
+        lag: 0,
+        rank: 0,
+        effect,
+    };
+    let instruction = records::Instruction {
+        effective: 0,
+        issue: 0,
+        meaning,
+        level: 0,
+        up: 0,
+        down: 0,
+    };
+    validation::Numbered {
+        number: 0,
+        instruction,
+    }
+}
+
+// None of them.
+fn empty() -> Sequence
+    ensures { λ r. ⌜ r ≡ holding [] ⌝ }
+{
+    let none = no_one();
+    let items = [none; 40];
+    Sequence { items, count: 0 }
+}
+
+// With one more.
+fn push(s: Sequence, o: validation::Numbered) -> Sequence
+    requires { ⌜ s .count < 40 ⌝ }
+    ensures { λ r. ⌜ r ≡ pushed s o ⌝ }
+{
+    let at = s.count;
+    let mut next = s;
+    next.items[at] = o;
+    next.count = at + 1;
+    next
+}
+
+// With one more where the test holds.
+fn push_if(s: Sequence, o: validation::Numbered, test: bool) -> Sequence
+    requires { ⌜ s .count < 40 ⌝ }
+    ensures { λ r. ⌜ r ≡ pick test (pushed s o) s ⌝ }
+{
+    if test {
+        return push(s, o);
+    }
+    s
+}
+
+// With what was found.
+fn push_found(s: Sequence, found: Found) -> Sequence
+    requires { ⌜ s .count < 40 ⌝ }
+    ensures { λ r. ⌜ r ≡ joined s found ⌝ }
+{
+    match found {
+        Found::One(o) => push(s, o),
+        Found::Nothing => s,
+    }
+}
+
+// ---- step 1: of equal effective times only the latest issue time stays
 
 // x has the effective time of o and a later issue time.
 fn supersedes(x: validation::Numbered, o: validation::Numbered) -> bool
@@ -92,69 +174,6 @@ fn is_superseded(os: [validation::Numbered; 40], n: usize, o: validation::Number
         i += 1;
     }
     false
-}
-
-// A place that holds none.
-fn no_one() -> validation::Numbered
-    ensures { λ r. ⌜ r ≡ noNumbered ⌝ }
-{
-    let effect = records::Effect::Trip;
-    let meaning = records::Meaning {
-        lag: 0,
-        rank: 0,
-        effect,
-    };
-    let instruction = records::Instruction {
-        effective: 0,
-        issue: 0,
-        meaning,
-        level: 0,
-        up: 0,
-        down: 0,
-    };
-    validation::Numbered {
-        number: 0,
-        instruction,
-    }
-}
-
-fn empty() -> Sequence
-    ensures { λ r. ⌜ r ≡ holding [] ⌝ }
-{
-    let none = no_one();
-    let items = [none; 40];
-    Sequence { items, count: 0 }
-}
-
-fn push(s: Sequence, o: validation::Numbered) -> Sequence
-    requires { ⌜ s .count < 40 ⌝ }
-    ensures { λ r. ⌜ r ≡ pushed s o ⌝ }
-{
-    let at = s.count;
-    let mut next = s;
-    next.items[at] = o;
-    next.count = at + 1;
-    next
-}
-
-fn push_if(s: Sequence, o: validation::Numbered, test: bool) -> Sequence
-    requires { ⌜ s .count < 40 ⌝ }
-    ensures { λ r. ⌜ r ≡ pick test (pushed s o) s ⌝ }
-{
-    if test {
-        return push(s, o);
-    }
-    s
-}
-
-fn push_found(s: Sequence, found: Found) -> Sequence
-    requires { ⌜ s .count < 40 ⌝ }
-    ensures { λ r. ⌜ r ≡ joined s found ⌝ }
-{
-    match found {
-        Found::One(o) => push(s, o),
-        Found::Nothing => s,
-    }
 }
 
 // Left at the effective time t.
@@ -185,6 +204,8 @@ fn group_at(os: [validation::Numbered; 40], n: usize, t: u32) -> Sequence
     out
 }
 
+// ---- step 2: the one that is used of those left at one effective time
+
 // Step 2: x, entered after o, goes before it.
 fn goes_before(x: validation::Numbered, o: validation::Numbered) -> bool
     ensures { λ r. ⌜ r ≡ goesBefore x o ⌝ }
@@ -205,6 +226,7 @@ fn goes_before(x: validation::Numbered, o: validation::Numbered) -> bool
     j.level < i.level
 }
 
+// The one of two that goes before the other; o was entered first.
 fn higher(x: validation::Numbered, o: validation::Numbered) -> validation::Numbered
     ensures { λ r. ⌜ r ≡ pick (goesBefore x o) x o ⌝ }
 {
@@ -278,18 +300,22 @@ fn carrier_of(g: [validation::Numbered; 40], n: usize) -> Found
     }
 }
 
-// o, the highest ranked of the group; a MWOF goes into the carrier, where there is one.
-fn merge(g: [validation::Numbered; 40], n: usize, o: validation::Numbered) -> validation::Numbered
+// The highest ranked of the group; a MWOF goes into the carrier, where there is one.
+fn merge(
+    g: [validation::Numbered; 40],
+    n: usize,
+    highest: validation::Numbered,
+) -> validation::Numbered
     requires { ⌜ n ≤ 40 ⌝ }
-    ensures { λ r. ⌜ r ∷ [] ≡ merged (take n g) o ⌝ }
+    ensures { λ r. ⌜ r ∷ [] ≡ merged (take n g) highest ⌝ }
 {
-    if code_of(o) != MWOF {
-        return o;
+    if code_of(highest) != MWOF {
+        return highest;
     }
     let carrier = carrier_of(g, n);
     match carrier {
-        Found::One(c) => carry(o, c),
-        Found::Nothing => o,
+        Found::One(c) => carry(highest, c),
+        Found::Nothing => highest,
     }
 }
 
@@ -305,6 +331,8 @@ fn used_of(g: [validation::Numbered; 40], n: usize) -> Found
     let u = merge(g, n, o);
     Found::One(u)
 }
+
+// ---- those used, in time order
 
 // The earliest effective time from t on, with o looked at beside the best so far.
 fn earlier(o: validation::Numbered, t: u32, best: u32) -> u32
@@ -335,26 +363,6 @@ fn next_time(os: [validation::Numbered; 40], n: usize, t: u32, end: u32) -> u32
     best
 }
 
-// The instructions with their numbers, from 1 as entered.
-fn number_all(instructions: [records::Instruction; 40], n: usize) -> Sequence
-    requires { ⌜ n ≤ 40 ⌝ }
-    ensures { λ r. ⌜ r ≡ holding (numbered 1 (take n instructions)) ⌝ }
-{
-    let mut out = empty();
-    let mut i: usize = 0;
-    while i < n {
-        let instruction = instructions[i];
-        let number = i as u32 + 1;
-        let o = validation::Numbered {
-            number,
-            instruction,
-        };
-        out = push(out, o);
-        i += 1;
-    }
-    out
-}
-
 // Those used, in the order of their effective times.
 fn used_in(os: [validation::Numbered; 40], n: usize, end: u32) -> Sequence
     requires { ⌜ n ≤ 40 ⌝ }
@@ -378,7 +386,7 @@ fn used_in(os: [validation::Numbered; 40], n: usize, end: u32) -> Sequence
     out
 }
 
-// ---- step 3
+// ---- step 3: in time order, against the last kept one
 
 // The fate of a number; a number that no instruction has is passed over.
 fn put_fate(fates: [u8; 40], number: u32, fate: u8) -> [u8; 40]
@@ -394,6 +402,46 @@ fn put_fate(fates: [u8; 40], number: u32, fate: u8) -> [u8; 40]
     let mut next = fates;
     next[at] = fate;
     next
+}
+
+// With a fate for o.
+fn with_fate(s: Checking, o: validation::Numbered, fate: u8) -> Checking
+    ensures { λ r. ⌜ r ≡ withFate s o fate ⌝ }
+{
+    let kept = s.kept;
+    let before = s.fates;
+    let fates = put_fate(before, o.number, fate);
+    Checking {
+        kept,
+        height: s.height,
+        fates,
+    }
+}
+
+// With o kept, on top.
+fn with_kept(s: Checking, o: validation::Numbered) -> Checking
+    requires { ⌜ s .height < 40 ⌝ }
+    ensures { λ r. ⌜ r ≡ keeping s o ⌝ }
+{
+    let at = s.height;
+    let mut next = s;
+    next.kept[at] = o;
+    next.height = at + 1;
+    next
+}
+
+// Nothing kept, nothing settled.
+fn no_checking() -> Checking
+    ensures { λ r. ⌜ r ≡ noChecking ⌝ }
+{
+    let none = no_one();
+    let kept = [none; 40];
+    let fates = [2u8; 40];
+    Checking {
+        kept,
+        height: 0,
+        fates,
+    }
 }
 
 // o repeats the last kept one: SYNC after SYNC, DESY after DESY, TRIP after TRIP.
@@ -434,17 +482,15 @@ fn latest_sync(kept: [validation::Numbered; 40], height: usize) -> usize
     0
 }
 
-fn with_fate(s: Checking, o: validation::Numbered, fate: u8) -> Checking
-    ensures { λ r. ⌜ r ≡ withFate s o fate ⌝ }
+// The kept one k is at most an hour before o.
+fn within_hour(k: validation::Numbered, o: validation::Numbered) -> bool
+    ensures { λ r. ⌜ r ≡ withinHour k o ⌝ }
 {
-    let kept = s.kept;
-    let before = s.fates;
-    let fates = put_fate(before, o.number, fate);
-    Checking {
-        kept,
-        height: s.height,
-        fates,
-    }
+    let i = k.instruction;
+    let j = o.instruction;
+    let a = i.effective as u64;
+    let b = j.effective as u64;
+    b <= a + 3600
 }
 
 // Fate 4 for those kept from one place on.
@@ -464,29 +510,7 @@ fn void_from(s: Checking, from: usize) -> Checking
     out
 }
 
-// The kept one k is at most an hour before o.
-fn within_hour(k: validation::Numbered, o: validation::Numbered) -> bool
-    ensures { λ r. ⌜ r ≡ withinHour k o ⌝ }
-{
-    let i = k.instruction;
-    let j = o.instruction;
-    let a = i.effective as u64;
-    let b = j.effective as u64;
-    b <= a + 3600
-}
-
-fn with_kept(s: Checking, o: validation::Numbered) -> Checking
-    requires { ⌜ s .height < 40 ⌝ }
-    ensures { λ r. ⌜ r ≡ keeping s o ⌝ }
-{
-    let at = s.height;
-    let mut next = s;
-    next.kept[at] = o;
-    next.height = at + 1;
-    next
-}
-
-// A FAIL.
+// A FAIL: fate 5. Where the latest kept SYNC is within the hour, that SYNC and all kept after it get fate 4 and leave the list.
 fn fail_one(s: Checking, o: validation::Numbered) -> Checking
     requires { ⌜ s .height ≤ 40 ⌝ }
     ensures { λ r. ⌜ (r .height ≤ s .height) × Follows s r (λ (m : Checked). failed m o) ⌝ }
@@ -511,6 +535,7 @@ fn fail_one(s: Checking, o: validation::Numbered) -> Checking
     }
 }
 
+// The next one in time order.
 fn check_one(s: Checking, o: validation::Numbered) -> Checking
     requires { ⌜ s .height < 40 ⌝ }
     ensures { λ r. ⌜ (r .height ≤ s .height + 1) × Follows s r (λ (m : Checked). checkOne m o) ⌝ }
@@ -524,19 +549,6 @@ fn check_one(s: Checking, o: validation::Numbered) -> Checking
         return with_fate(s, o, 3);
     }
     with_kept(s, o)
-}
-
-fn no_checking() -> Checking
-    ensures { λ r. ⌜ r ≡ noChecking ⌝ }
-{
-    let none = no_one();
-    let kept = [none; 40];
-    let fates = [2u8; 40];
-    Checking {
-        kept,
-        height: 0,
-        fates,
-    }
 }
 
 // Step 3 over the first n of those used.
@@ -554,8 +566,19 @@ fn check_all(os: [validation::Numbered; 40], n: usize) -> Checking
     s
 }
 
-// ---- step 4
+// Steps 1 to 3 over the first n.
+fn checked_in(os: [validation::Numbered; 40], n: usize, end: u32) -> Checking
+    requires { ⌜ n ≤ 40 ⌝ }
+    ensures { λ r. ⌜ (r .height ≤ 40) × Tracks r (check noneChecked (used end (take n os))) ⌝ }
+{
+    let s = used_in(os, n, end);
+    let items = s.items;
+    check_all(items, s.count)
+}
 
+// ---- step 4: by acting time
+
+// Effective time and lag. The sum of two numbers of a record may pass 32 bits.
 fn acting_time(o: validation::Numbered) -> u64
     ensures { λ r. ⌜ r ≡ acting o ⌝ }
 {
@@ -588,20 +611,29 @@ fn is_overtaken(
     false
 }
 
-// The fate that step 4 gives the kept one at a place; 0 where it acts.
+// The first fate whose condition holds; 0 where neither does.
+fn first_fate(first: bool, fate: u8, second: bool, other: u8) -> u8
+    ensures { λ r. ⌜ r ≡ pick first fate (pick second other 0) ⌝ }
+{
+    if first {
+        return fate;
+    }
+    if second {
+        return other;
+    }
+    0
+}
+
+// The fate that step 4 gives the kept one at a place: 6 where it is overtaken, else 8 where it acts at the day's end or later; 0 where it acts.
 fn late_fate(kept: [validation::Numbered; 40], n: usize, at: usize, end: u32) -> u8
     requires { ⌜ (at < n) × (n ≤ 40) ⌝ }
     ensures { λ r. ⌜ r ≡ lateFate end (getD kept at noNumbered) (drop (at + 1) (take n kept)) ⌝ }
 {
     let o = kept[at];
-    if is_overtaken(kept, n, at + 1, o) {
-        return 6;
-    }
+    let overtaken = is_overtaken(kept, n, at + 1, o);
     let last = end as u64;
-    if last <= acting_time(o) {
-        return 8;
-    }
-    0
+    let late = last <= acting_time(o);
+    first_fate(overtaken, 6, late, 8)
 }
 
 // Those that act, in time order.
@@ -639,6 +671,7 @@ fn settle(fates: [u8; 40], number: u32, fate: u8) -> [u8; 40]
     next
 }
 
+// With a fate for o where none is settled.
 fn settle_one(s: Checking, o: validation::Numbered, fate: u8) -> Checking
     ensures { λ r. ⌜ r ≡ settling s o fate ⌝ }
 {
@@ -670,6 +703,8 @@ fn settle_late(s: Checking, end: u32) -> Checking
     out
 }
 
+// ---- the four steps together
+
 // Fate 1 where step 1 settles it, else what the later steps say.
 fn final_fate(os: [validation::Numbered; 40], n: usize, o: validation::Numbered, later: u8) -> u8
     requires { ⌜ n ≤ 40 ⌝ }
@@ -695,4 +730,56 @@ fn fates_of(os: [validation::Numbered; 40], n: usize, later: [u8; 40]) -> [u8; 4
         i += 1;
     }
     out
+}
+
+// The instructions with their numbers, from 1 as entered.
+fn number_all(instructions: [records::Instruction; 40], n: usize) -> Sequence
+    requires { ⌜ n ≤ 40 ⌝ }
+    ensures { λ r. ⌜ r ≡ holding (numbered 1 (take n instructions)) ⌝ }
+{
+    let mut out = empty();
+    let mut i: usize = 0;
+    while i < n {
+        let instruction = instructions[i];
+        let number = i as u32 + 1;
+        let o = validation::Numbered {
+            number,
+            instruction,
+        };
+        out = push(out, o);
+        i += 1;
+    }
+    out
+}
+
+// A count above forty reads like forty.
+fn at_most_forty(count: usize) -> usize
+    ensures { λ r. ⌜ r ≡ min count 40 ⌝ }
+{
+    if count < 40 {
+        return count;
+    }
+    40
+}
+
+// Which of the first `count` instructions are kept, in a day of `end` seconds. A count above forty reads like forty.
+pub fn validate(instructions: [records::Instruction; 40], count: usize, end: u32) -> Validation
+    ensures { λ r. ⌜ r ≡ validationOf instructions count end ⌝ }
+{
+    let n = at_most_forty(count);
+    let numbered = number_all(instructions, n);
+    let os = numbered.items;
+    let s = checked_in(os, n, end);
+    let late = settle_late(s, end);
+    let later = late.fates;
+    let fates = fates_of(os, n, later);
+    let kept = s.kept;
+    let height = s.height;
+    let actors = acts_of(kept, height, end);
+    let acts = actors.items;
+    Validation {
+        fates,
+        acts,
+        acting: actors.count,
+    }
 }

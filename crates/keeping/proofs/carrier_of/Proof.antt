@@ -1,34 +1,23 @@
-use mathlib.Core.Path.{_≡_, refl, sym, ap, _∙_}
-use native.Mathlib.Omega.{arith}
 use Rattle.keeping.proofs.Laws.{carrier-sync, carrier-desy}
 use borrow.Author.Needs.{needs}
 use Rattle.keeping.proofs.carrier_of.Statement.{statement}
 use Rattle.keeping.proofs.carrier_of.Tie as tie
-use Rattle.keeping.proofs.carrier_of.Reads as reads
-use Rattle.keeping.proofs.carrier_of.Lts as lts
-use Rattle.keeping.proofs.earliest_of.Reads as earliest-of-reads
 
--- src/lib.rt:265:9
 earliest-of-requires : tie.Need-earliest-of-requires
 earliest-of-requires c κs = search needs
 
--- src/lib.rt:267:20
 enum-known-sync : tie.Need-enum-known-sync
 enum-known-sync c = search needs
 
--- src/lib.rt:268:27
 enum-told : tie.Need-enum-told
 enum-told c = search needs
 
--- src/lib.rt:268:27
 earliest-of-requires-2 : tie.Need-earliest-of-requires-2
 earliest-of-requires-2 c κs = search needs
 
--- src/lib.rt:261:1
 returns : tie.Need-returns
 returns c = carrier-sync _ _ _ (c .before .before .before .earliest-of .ensures) (c .before .sync .given .1)
 
--- src/lib.rt:261:1
 returns-2 : tie.Need-returns-2
 returns-2 c = carrier-desy _ _ (c .earliest-of2 .result) (c .before .before .before .earliest-of .ensures) (c .before .enum-told .given .1) (c .earliest-of2 .ensures)
 

@@ -1,17 +1,13 @@
-use mathlib.Core.Path.{_≡_, refl, sym, ap, _∙_}
+use mathlib.Core.Path.{_≡_}
 use native.Mathlib.Omega.{arith}
-use Prim.Native.Nat.{_≤_, _-_, _+_}
-use lib.ListN.{length, take, drop, getD}
+use Prim.Native.Nat.{_≤_, _-_}
+use lib.ListN.{take}
 use borrow.Author.Needs.{needs}
-use Rattle.validation.specs.Kept.{check, checkOne, Checked}
-use Rattle.keeping.specs.Working.{noNumbered, noChecking, noneChecked, Tracks}
+use Rattle.validation.specs.Kept.{check}
+use Rattle.keeping.specs.Working.{noChecking, noneChecked, Tracks}
 use Rattle.keeping.proofs.Steps.{check-more, check-none}
 use Rattle.keeping.proofs.check_all.Statement.{statement}
 use Rattle.keeping.proofs.check_all.Tie as tie
-use Rattle.keeping.proofs.check_all.Reads as reads
-use Rattle.keeping.proofs.check_all.Lts as lts
-use Rattle.keeping.proofs.check_one.Reads as check-one-reads
-use Rattle.keeping.proofs.no_checking.Reads as no-checking-reads
 
 abbrev Inv-loop : tie.InvT-loop
 Inv-loop n os s₀ i₀ s i = (i ≤ n) × (s .height ≤ i) × Tracks s (check noneChecked (take i os))
@@ -19,38 +15,30 @@ Inv-loop n os s₀ i₀ s i = (i ≤ n) × (s .height ≤ i) × Tracks s (check 
 abbrev μ-loop : tie.MeasureT-loop
 μ-loop n os s₀ i₀ s i = n - i
 
--- src/lib.rt:546:9
 no-checking-requires : tie.Need-no-checking-requires Inv-loop μ-loop
 no-checking-requires c κs = search needs
 
--- src/lib.rt:548:5
 loop-holds : tie.Need-loop-holds Inv-loop μ-loop
 unfolding noChecking
 loop-holds c =
     let e = c .no-checking .ensures in
     (omega arith, rw e (omega arith), rw e check-none)
 
--- src/lib.rt:549:17
 mul-o : tie.Need-mul-o Inv-loop μ-loop
 mul-o c = omega arith
 
--- src/lib.rt:549:17
 array-copy-out-o : tie.Need-array-copy-out-o Inv-loop μ-loop
 array-copy-out-o c = omega arith
 
--- src/lib.rt:550:9
 check-one-requires : tie.Need-check-one-requires Inv-loop μ-loop
 check-one-requires c κs = search needs
 
--- src/lib.rt:551:9
 add-i : tie.Need-add-i Inv-loop μ-loop
 add-i c = omega arith
 
--- src/lib.rt:548:5
 loop-less : tie.Need-loop-less Inv-loop μ-loop
 loop-less c = omega arith
 
--- src/lib.rt:548:5
 loop-again : tie.Need-loop-again Inv-loop μ-loop
 loop-again c =
     let s = c .before .before .before .before .before in
@@ -58,7 +46,6 @@ loop-again c =
     let e = check-more noneChecked (s .args .t1) (l .i) (omega (arith, s .good .0 .1 .0 .1)) in
     (omega arith, omega (arith, c .check-one .ensures .0), rw e (c .check-one .ensures .1 _ (l .inv .2)))
 
--- src/lib.rt:542:1
 returns : tie.Need-returns Inv-loop μ-loop
 returns c =
     let s = c .before .before .before in

@@ -1,7 +1,7 @@
-use mathlib.Core.Path.{_≡_, refl, sym, ap, _∙_}
+use mathlib.Core.Path.{_≡_, sym, ap, _∙_}
 use native.Mathlib.Omega.{arith}
-use Prim.Native.Nat.{_≤_, _-_, _+_}
-use lib.ListN.{length, take, drop, getD}
+use Prim.Native.Nat.{_-_}
+use lib.ListN.{length}
 use Rattle.keeping.proofs.Laws.{map-length}
 use Rattle.keeping.specs.declared.Checking.{Checking}
 use Rattle.keeping.specs.Working.{withFate, keeping}
@@ -9,37 +9,24 @@ use Rattle.keeping.proofs.Steps.{check-fail, check-repeat, check-keep}
 use borrow.Author.Needs.{needs}
 use Rattle.keeping.proofs.check_one.Statement.{statement}
 use Rattle.keeping.proofs.check_one.Tie as tie
-use Rattle.keeping.proofs.check_one.Reads as reads
-use Rattle.keeping.proofs.check_one.Lts as lts
-use Rattle.keeping.proofs.code_of.Reads as code-of-reads
-use Rattle.keeping.proofs.fail_one.Reads as fail-one-reads
-use Rattle.keeping.proofs.is_repeat.Reads as is-repeat-reads
-use Rattle.keeping.proofs.with_fate.Reads as with-fate-reads
-use Rattle.keeping.proofs.with_kept.Reads as with-kept-reads
 
--- src/lib.rt:517:8
 code-of-requires : tie.Need-code-of-requires
 code-of-requires c κs = search needs
 
--- src/lib.rt:518:9
 fail-one-requires : tie.Need-fail-one-requires
 fail-one-requires c κs = search needs
 
--- src/lib.rt:518:9
 returns : tie.Need-returns
 returns c =
     let s = c .before .before .before .args in
     (omega (arith, c .fail-one .ensures .0), check-fail (s .s) (s .o) (sym (c .before .before .code-of .ensures) ∙ c .before .if1 .taken) (c .fail-one .ensures .1))
 
--- src/lib.rt:522:8
 is-repeat-requires : tie.Need-is-repeat-requires
 is-repeat-requires c κs = search needs
 
--- src/lib.rt:523:9
 with-fate-requires : tie.Need-with-fate-requires
 with-fate-requires c κs = search needs
 
--- src/lib.rt:523:9
 returns-2 : tie.Need-returns-2
 unfolding withFate
 returns-2 c =
@@ -47,11 +34,9 @@ returns-2 c =
     let e = c .with-fate .ensures in
     (omega (arith, ap (λ (q : Checking). q .height) e), rw e (check-repeat (s .s) (s .o) (λ q. c .before .before .before .before .if1 .left (c .before .before .before .before .before .code-of .ensures ∙ q)) (sym (c .before .before .is-repeat .ensures) ∙ c .before .if2 .taken)))
 
--- src/lib.rt:525:5
 with-kept-requires : tie.Need-with-kept-requires
 with-kept-requires c κs = search needs
 
--- src/lib.rt:513:1
 returns-3 : tie.Need-returns-3
 unfolding keeping
 returns-3 c =

@@ -2,8 +2,6 @@ use native.Mathlib.Omega.{arith}
 use Rattle.keeping.proofs.Laws.{earlier-past, earlier-less, earlier-not}
 use Rattle.keeping.proofs.earlier.Statement.{statement}
 use Rattle.keeping.proofs.earlier.Tie as tie
-use Rattle.keeping.proofs.earlier.Reads as reads
-use Rattle.keeping.proofs.earlier.Lts as lts
 
 returns : tie.Need-returns
 returns c = earlier-past _ _ _ (omega arith)

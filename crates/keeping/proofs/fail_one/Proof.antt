@@ -1,30 +1,20 @@
-use mathlib.Core.Path.{_≡_, refl, sym, ap, _∙_}
+use mathlib.Core.Path.{sym, ap, _∙_}
 use native.Mathlib.Omega.{arith}
-use Prim.Native.Nat.{_≤_, _-_, _+_}
-use lib.ListN.{length, take, drop, getD}
+use Prim.Native.Nat.{_-_}
 use borrow.Author.Tests.{not-true, not-false}
 use Rattle.keeping.specs.declared.Checking.{Checking}
-use Rattle.keeping.specs.Working.{noNumbered, withFate, voided, withinHour}
+use Rattle.keeping.specs.Working.{withFate}
 use Rattle.keeping.proofs.Steps.{failed-none, failed-late, failed-void}
 use borrow.Author.Needs.{needs}
 use Rattle.keeping.proofs.fail_one.Statement.{statement}
 use Rattle.keeping.proofs.fail_one.Tie as tie
-use Rattle.keeping.proofs.fail_one.Reads as reads
-use Rattle.keeping.proofs.fail_one.Lts as lts
-use Rattle.keeping.proofs.latest_sync.Reads as latest-sync-reads
-use Rattle.keeping.proofs.void_from.Reads as void-from-reads
-use Rattle.keeping.proofs.with_fate.Reads as with-fate-reads
-use Rattle.keeping.proofs.within_hour.Reads as within-hour-reads
 
--- src/lib.rt:495:9
 latest-sync-requires : tie.Need-latest-sync-requires
 latest-sync-requires c κs = search needs
 
--- src/lib.rt:497:9
 with-fate-requires : tie.Need-with-fate-requires
 with-fate-requires c κs = search needs
 
--- src/lib.rt:497:9
 returns : tie.Need-returns
 unfolding withFate
 returns c =
@@ -32,27 +22,21 @@ returns c =
     let e = c .with-fate .ensures in
     (omega (arith, ap (λ (q : Checking). q .height) e), rw e (failed-none (s .s) (s .o) (sym (c .before .before .latest-sync .ensures .0) ∙ c .before .if1 .taken)))
 
--- src/lib.rt:499:21
 sub-sync : tie.Need-sub-sync
 sub-sync c = search needs
 
--- src/lib.rt:499:16
 mul-sync : tie.Need-mul-sync
 mul-sync c = search needs
 
--- src/lib.rt:499:16
 array-copy-out-sync : tie.Need-array-copy-out-sync
 array-copy-out-sync c = search needs
 
--- src/lib.rt:500:9
 within-hour-requires : tie.Need-within-hour-requires
 within-hour-requires c κs = search needs
 
--- src/lib.rt:501:9
 with-fate-requires-2 : tie.Need-with-fate-requires-2
 with-fate-requires-2 c κs = search needs
 
--- src/lib.rt:501:9
 returns-2 : tie.Need-returns-2
 unfolding withFate
 returns-2 c =
@@ -62,23 +46,18 @@ returns-2 c =
     let w = sym (c .before .before .within-hour .ensures) ∙ not-true _ (c .before .if2 .taken) in
     (omega (arith, ap (λ (q : Checking). q .height) e), rw e (failed-late (s .s) (s .o) (omega arith) (rw p at w)))
 
--- src/lib.rt:503:31
 sub-void-from : tie.Need-sub-void-from
 sub-void-from c = search needs
 
--- src/lib.rt:503:9
 void-from-requires : tie.Need-void-from-requires
 void-from-requires c κs = search needs
 
--- src/lib.rt:504:9
 with-fate-requires-3 : tie.Need-with-fate-requires-3
 with-fate-requires-3 c κs = search needs
 
--- src/lib.rt:508:17
 sub-t12 : tie.Need-sub-t12
 sub-t12 c = search needs
 
--- src/lib.rt:489:1
 returns-3 : tie.Need-returns-3
 returns-3 c =
     let s = c .before .before .before .before .before .before .before .before .before .args in

@@ -1,20 +1,17 @@
-use mathlib.Core.Path.{_≡_, refl, sym, ap, _∙_}
+use mathlib.Core.Path.{_≡_, refl, ap, _∙_}
 use native.Mathlib.Omega.{arith}
-use Prim.Native.Nat.{ℕ, _≤_, _-_, _+_}
-use lib.ListN.{length, set, take, drop, getD}
+use Prim.Native.Nat.{ℕ, _≤_, _-_}
+use lib.ListN.{set, take, getD}
 use borrow.Author.Needs.{needs}
 use mathlib.Core.List.{List}
 use Rattle.keeping.proofs.Steps.{fates-more}
 use Rattle.level.specs.Choice.{pick}
 use Rattle.level.specs.Lists.{filled}
 use Rattle.validation.specs.Kept.{superseded}
-use Rattle.keeping.specs.Working.{noNumbered, fatesTo}
-use Rattle.keeping.proofs.Laws.{filled-length}
+use Rattle.keeping.specs.Outcome.{noNumbered}
+use Rattle.keeping.specs.Working.{fatesTo}
 use Rattle.keeping.proofs.fates_of.Statement.{statement}
 use Rattle.keeping.proofs.fates_of.Tie as tie
-use Rattle.keeping.proofs.fates_of.Reads as reads
-use Rattle.keeping.proofs.fates_of.Lts as lts
-use Rattle.keeping.proofs.final_fate.Reads as final-fate-reads
 
 abbrev Inv-loop : tie.InvT-loop
 Inv-loop n os later out₀ i₀ out i = (i ≤ n) × (out ≡ filled 40 0 (fatesTo (take n os) later i))
@@ -22,47 +19,37 @@ Inv-loop n os later out₀ i₀ out i = (i ≤ n) × (out ≡ filled 40 0 (fates
 abbrev μ-loop : tie.MeasureT-loop
 μ-loop n os later out₀ i₀ out i = n - i
 
--- src/lib.rt:668:5
 loop-holds : tie.Need-loop-holds Inv-loop μ-loop
 unfolding filled fatesTo
 loop-holds c = (omega arith, refl)
 
--- src/lib.rt:669:17
 mul-o : tie.Need-mul-o Inv-loop μ-loop
 mul-o c = omega arith
 
--- src/lib.rt:669:17
 array-copy-out-o : tie.Need-array-copy-out-o Inv-loop μ-loop
 array-copy-out-o c = omega arith
 
--- src/lib.rt:670:20
 array-read-fate : tie.Need-array-read-fate Inv-loop μ-loop
 array-read-fate c = omega arith
 
--- src/lib.rt:671:18
 final-fate-requires : tie.Need-final-fate-requires Inv-loop μ-loop
 final-fate-requires c κs = search needs
 
--- src/lib.rt:671:9
 array-write-out : tie.Need-array-write-out Inv-loop μ-loop
 array-write-out c = omega arith
 
--- src/lib.rt:672:9
 add-i : tie.Need-add-i Inv-loop μ-loop
 add-i c = omega arith
 
--- src/lib.rt:668:5
 loop-less : tie.Need-loop-less Inv-loop μ-loop
 loop-less c = omega arith
 
--- src/lib.rt:668:5
 loop-again : tie.Need-loop-again Inv-loop μ-loop
 loop-again c =
     let a = c .before .before .before .before .args in
     let l = c .before .before .before .loop in
     (omega arith, ap (set (l .out) (l .i)) (c .final-fate .ensures) ∙ (ap (λ (q : List ℕ). set q (l .i) (pick (superseded (take (a .n) (a .t1)) (getD (a .t1) (l .i) noNumbered)) 1 (getD (a .t3) (l .i) 0))) (l .inv .1) ∙ fates-more (a .t1) (a .n) (l .i) (a .t3) (omega arith) (omega arith)))
 
--- src/lib.rt:662:1
 returns : tie.Need-returns Inv-loop μ-loop
 returns c =
     let s = c .before .before .args in

@@ -4,31 +4,22 @@ use Rattle.keeping.proofs.Laws.{goes-rank, goes-other, goes-second, goe
 use borrow.Author.Needs.{needs}
 use Rattle.keeping.proofs.goes_before.Statement.{statement}
 use Rattle.keeping.proofs.goes_before.Tie as tie
-use Rattle.keeping.proofs.goes_before.Reads as reads
-use Rattle.keeping.proofs.goes_before.Lts as lts
-use Rattle.keeping.proofs.code_of.Reads as code-of-reads
 
--- src/lib.rt:79:9
 returns : tie.Need-returns
 returns c = goes-rank _ _ (omega arith)
 
--- src/lib.rt:81:8
 code-of-requires : tie.Need-code-of-requires
 code-of-requires c κs = search needs
 
--- src/lib.rt:82:9
 returns-2 : tie.Need-returns-2
 returns-2 c = goes-other _ _ (omega arith) (λ e. c .if2 .taken (c .before .code-of .ensures ∙ e))
 
--- src/lib.rt:84:8
 code-of-requires-2 : tie.Need-code-of-requires-2
 code-of-requires-2 c κs = search needs
 
--- src/lib.rt:85:9
 returns-3 : tie.Need-returns-3
 returns-3 c = goes-second _ _ (omega arith) (sym (c .before .before .before .code-of .ensures) ∙ c .before .before .if2 .left) (λ e. c .if3 .taken (c .before .code-of2 .ensures ∙ e))
 
--- src/lib.rt:71:1
 returns-4 : tie.Need-returns-4
 returns-4 c = goes-level _ _ (omega arith) (sym (c .before .before .before .before .before .code-of .ensures) ∙ c .before .before .before .before .if2 .left) (sym (c .before .before .before .code-of2 .ensures) ∙ c .before .before .if3 .left)
 

@@ -1,21 +1,17 @@
-use Prim.Native.Nat.{_≤_, _-_, _+_}
-use mathlib.Core.Path.{_≡_, refl, sym, ap, _∙_}
+use Prim.Native.Nat.{_≤_, _-_}
+use mathlib.Core.Path.{_≡_, ap, _∙_}
 use native.Mathlib.Omega.{arith}
 use borrow.Author.Needs.{needs}
-use lib.ListN.{length, take, drop, getD}
+use lib.ListN.{take, drop, getD}
 use mathlib.Core.Bool.{Bool}
 use Rattle.level.specs.Choice.{pick}
 use Rattle.validation.specs.Kept.{group}
 use Rattle.level.specs.Lists.{those}
-use Rattle.keeping.specs.Working.{noNumbered, pushed, inGroup, Begun}
+use Rattle.keeping.specs.Outcome.{noNumbered}
+use Rattle.keeping.specs.Working.{pushed, inGroup, Begun}
 use Rattle.keeping.proofs.Laws.{left-none, those-none, begun-none, begun-pick, begun-all, pick-count, group-next}
 use Rattle.keeping.proofs.group_at.Statement.{statement}
 use Rattle.keeping.proofs.group_at.Tie as tie
-use Rattle.keeping.proofs.group_at.Reads as reads
-use Rattle.keeping.proofs.group_at.Lts as lts
-use Rattle.keeping.proofs.empty.Reads as empty-reads
-use Rattle.keeping.proofs.in_group.Reads as in-group-reads
-use Rattle.keeping.proofs.push_if.Reads as push-if-reads
 
 abbrev Inv-loop : tie.InvT-loop
 Inv-loop n t os out₀ i₀ out i = (i ≤ n) × (out .count ≤ i) × Begun out (those (inGroup (take n os) t) (drop i (take n os))) (those (inGroup (take n os) t) (take n os))
@@ -23,42 +19,33 @@ Inv-loop n t os out₀ i₀ out i = (i ≤ n) × (out .count ≤ i) × Begun out
 abbrev μ-loop : tie.MeasureT-loop
 μ-loop n t os out₀ i₀ out i = n - i
 
--- src/lib.rt:168:9
 empty-requires : tie.Need-empty-requires Inv-loop μ-loop
 empty-requires c κs = search needs
 
--- src/lib.rt:170:5
 loop-holds : tie.Need-loop-holds Inv-loop μ-loop
 loop-holds c =
     let s = c .before .args in
     let whole = those (inGroup (take (s .n) (s .t1)) (s .t)) (take (s .n) (s .t1)) in
     (omega arith, rw (c .empty .ensures) (omega arith), rw (c .empty .ensures) (begun-none whole))
 
--- src/lib.rt:171:17
 mul-o : tie.Need-mul-o Inv-loop μ-loop
 mul-o c = omega arith
 
--- src/lib.rt:171:17
 array-copy-out-o : tie.Need-array-copy-out-o Inv-loop μ-loop
 array-copy-out-o c = omega arith
 
--- src/lib.rt:172:13
 in-group-requires : tie.Need-in-group-requires Inv-loop μ-loop
 in-group-requires c κs = search needs
 
--- src/lib.rt:173:9
 push-if-requires : tie.Need-push-if-requires Inv-loop μ-loop
 push-if-requires c κs = search needs
 
--- src/lib.rt:174:9
 add-i : tie.Need-add-i Inv-loop μ-loop
 add-i c = omega arith
 
--- src/lib.rt:170:5
 loop-less : tie.Need-loop-less Inv-loop μ-loop
 loop-less c = omega arith
 
--- src/lib.rt:170:5
 loop-again : tie.Need-loop-again Inv-loop μ-loop
 loop-again c =
     let s = c .before .before .before .before .before .before in
@@ -71,7 +58,6 @@ loop-again c =
     let g = group-next os n noNumbered (omega (arith, s .good .0 .1 .0 .1)) (s .args .t) (l .i) (omega arith) in
     (omega arith, rw e (omega (arith, pick-count test (l .out) o)), rw e (begun-pick test o (omega arith) (rw g at (l .inv .2))))
 
--- src/lib.rt:164:1
 returns : tie.Need-returns Inv-loop μ-loop
 unfolding group inGroup
 returns c =

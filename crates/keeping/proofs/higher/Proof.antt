@@ -3,19 +3,13 @@ use Rattle.keeping.proofs.Laws.{higher-yes, higher-no}
 use borrow.Author.Needs.{needs}
 use Rattle.keeping.proofs.higher.Statement.{statement}
 use Rattle.keeping.proofs.higher.Tie as tie
-use Rattle.keeping.proofs.higher.Reads as reads
-use Rattle.keeping.proofs.higher.Lts as lts
-use Rattle.keeping.proofs.goes_before.Reads as goes-before-reads
 
--- src/lib.rt:202:8
 goes-before-requires : tie.Need-goes-before-requires
 goes-before-requires c κs = search needs
 
--- src/lib.rt:203:9
 returns : tie.Need-returns
 returns c = higher-yes _ _ (sym (c .before .goes-before .ensures) ∙ c .if1 .taken)
 
--- src/lib.rt:199:1
 returns-2 : tie.Need-returns-2
 returns-2 c = higher-no _ _ (sym (c .before .goes-before .ensures) ∙ c .if1 .left)
 

@@ -2,16 +2,13 @@ use Prim.Native.Nat.{_≤_, _-_, _+_}
 use mathlib.Core.Path.{_≡_, refl, sym, ap, _∙_}
 use native.Mathlib.Omega.{arith}
 use borrow.Author.Needs.{needs}
-use lib.ListN.{length, take, drop, getD}
+use lib.ListN.{take, drop, getD}
 use Rattle.validation.specs.declared.Numbered.{Numbered}
 use Rattle.validation.specs.Kept.{highest}
-use Rattle.keeping.specs.Working.{noNumbered}
+use Rattle.keeping.specs.Outcome.{noNumbered}
 use Rattle.keeping.proofs.Laws.{left-none, highest-none, highest-next}
 use Rattle.keeping.proofs.highest_of.Statement.{statement}
 use Rattle.keeping.proofs.highest_of.Tie as tie
-use Rattle.keeping.proofs.highest_of.Reads as reads
-use Rattle.keeping.proofs.highest_of.Lts as lts
-use Rattle.keeping.proofs.higher.Reads as higher-reads
 
 abbrev Inv-loop : tie.InvT-loop
 Inv-loop n g best₀ i₀ best i = (1 ≤ i) × (i ≤ n) × (highest best (drop i (take n g)) ≡ highest (getD g 0 noNumbered) (drop 1 (take n g)))
@@ -19,42 +16,33 @@ Inv-loop n g best₀ i₀ best i = (1 ≤ i) × (i ≤ n) × (highest best (drop
 abbrev μ-loop : tie.MeasureT-loop
 μ-loop n g best₀ i₀ best i = n - i
 
--- src/lib.rt:213:20
 array-copy-out-best : tie.Need-array-copy-out-best Inv-loop μ-loop
 array-copy-out-best c = omega arith
 
--- src/lib.rt:215:5
 loop-holds : tie.Need-loop-holds Inv-loop μ-loop
 loop-holds c = (omega arith, omega arith, refl)
 
--- src/lib.rt:216:17
 mul-x : tie.Need-mul-x Inv-loop μ-loop
 mul-x c = omega arith
 
--- src/lib.rt:216:17
 array-copy-out-x : tie.Need-array-copy-out-x Inv-loop μ-loop
 array-copy-out-x c = omega arith
 
--- src/lib.rt:217:9
 higher-requires : tie.Need-higher-requires Inv-loop μ-loop
 higher-requires c κs = search needs
 
--- src/lib.rt:218:9
 add-i : tie.Need-add-i Inv-loop μ-loop
 add-i c = omega arith
 
--- src/lib.rt:215:5
 loop-less : tie.Need-loop-less Inv-loop μ-loop
 loop-less c = omega arith
 
--- src/lib.rt:215:5
 loop-again : tie.Need-loop-again Inv-loop μ-loop
 loop-again c =
     let s = c .before .before .before .before .before in
     let l = c .before .before .before .loop in
     (omega arith, omega arith, ap (λ (o : Numbered). highest o (drop (l .i + 1) (take (s .args .n) (s .args .t1)))) (c .higher .ensures) ∙ (sym (highest-next (s .args .t1) (s .args .n) noNumbered (omega (arith, s .good .0 .1 .0 .1)) (l .best) (l .i) (omega arith)) ∙ l .inv .2))
 
--- src/lib.rt:209:1
 returns : tie.Need-returns Inv-loop μ-loop
 returns c =
     let s = c .before .before .before in

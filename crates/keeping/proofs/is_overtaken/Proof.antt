@@ -1,17 +1,14 @@
 use mathlib.Core.Path.{_≡_, refl, sym, ap, _∙_}
 use native.Mathlib.Omega.{arith}
-use Prim.Native.Nat.{ℕ, _≤_, _-_, _+_}
-use lib.ListN.{length, take, drop, getD}
+use Prim.Native.Nat.{ℕ, _≤_, _-_}
+use lib.ListN.{take, drop}
 use borrow.Author.Needs.{needs}
-use Rattle.validation.specs.Kept.{acting, overtaken}
-use Rattle.keeping.specs.Working.{noNumbered, overtakenBy}
+use Rattle.validation.specs.Kept.{overtaken}
+use Rattle.keeping.specs.Working.{overtakenBy}
 use Rattle.keeping.proofs.Laws.{left-none}
 use Rattle.keeping.proofs.Steps.{overtaken-here, overtaken-next, overtaken-none}
 use Rattle.keeping.proofs.is_overtaken.Statement.{statement}
 use Rattle.keeping.proofs.is_overtaken.Tie as tie
-use Rattle.keeping.proofs.is_overtaken.Reads as reads
-use Rattle.keeping.proofs.is_overtaken.Lts as lts
-use Rattle.keeping.proofs.acting_time.Reads as acting-time-reads
 
 abbrev Inv-loop : tie.InvT-loop
 Inv-loop n from kept own i₀ i = (from ≤ i) × (i ≤ n) × (overtakenBy own (drop i (take n kept)) ≡ overtakenBy own (drop from (take n kept)))
@@ -19,27 +16,21 @@ Inv-loop n from kept own i₀ i = (from ≤ i) × (i ≤ n) × (overtakenBy own 
 abbrev μ-loop : tie.MeasureT-loop
 μ-loop n from kept own i₀ i = n - i
 
--- src/lib.rt:571:9
 acting-time-requires : tie.Need-acting-time-requires Inv-loop μ-loop
 acting-time-requires c κs = search needs
 
--- src/lib.rt:573:5
 loop-holds : tie.Need-loop-holds Inv-loop μ-loop
 loop-holds c = (omega arith, omega arith, refl)
 
--- src/lib.rt:574:17
 mul-l : tie.Need-mul-l Inv-loop μ-loop
 mul-l c = omega arith
 
--- src/lib.rt:574:17
 array-copy-out-l : tie.Need-array-copy-out-l Inv-loop μ-loop
 array-copy-out-l c = omega arith
 
--- src/lib.rt:575:12
 acting-time-requires-2 : tie.Need-acting-time-requires-2 Inv-loop μ-loop
 acting-time-requires-2 c κs = search needs
 
--- src/lib.rt:576:13
 returns : tie.Need-returns Inv-loop μ-loop
 unfolding overtaken overtakenBy
 returns c =
@@ -49,15 +40,12 @@ returns c =
     sym (overtaken-here (s .args .t1) (s .args .n) (omega (arith, s .good .0 .1 .0 .1)) (own .result) (l .i) (omega arith) (omega (arith, c .before .acting-time2 .ensures)))
     ∙ (l .inv .2 ∙ ap (λ (k : ℕ). overtakenBy k (drop (s .args .from) (take (s .args .n) (s .args .t1)))) (own .ensures))
 
--- src/lib.rt:578:9
 add-i : tie.Need-add-i Inv-loop μ-loop
 add-i c = omega arith
 
--- src/lib.rt:573:5
 loop-less : tie.Need-loop-less Inv-loop μ-loop
 loop-less c = omega arith
 
--- src/lib.rt:573:5
 loop-again : tie.Need-loop-again Inv-loop μ-loop
 loop-again c =
     let s = c .before .before .before .before .before .before in
@@ -65,7 +53,6 @@ loop-again c =
     let own = c .before .before .before .before .before .acting-time in
     (omega arith, omega arith, sym (overtaken-next (s .args .t1) (s .args .n) (omega (arith, s .good .0 .1 .0 .1)) (own .result) (l .i) (omega arith) (omega (arith, c .before .acting-time2 .ensures))) ∙ l .inv .2)
 
--- src/lib.rt:567:1
 returns-2 : tie.Need-returns-2 Inv-loop μ-loop
 unfolding overtaken overtakenBy
 returns-2 c =

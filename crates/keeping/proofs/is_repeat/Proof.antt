@@ -1,52 +1,39 @@
 use Prim.Native.Nat.{ℕ}
 use lib.Dec.{eqb}
-use mathlib.Core.Path.{_≡_, refl, sym, ap, _∙_}
+use mathlib.Core.Path.{sym, ap, _∙_}
 use native.Mathlib.Omega.{arith}
 use Rattle.keeping.proofs.Stack.{repeats-none, repeats-other, repeats-sync, repeats-desy, repeats-trip}
 use borrow.Author.Needs.{needs}
 use Rattle.keeping.proofs.is_repeat.Statement.{statement}
 use Rattle.keeping.proofs.is_repeat.Tie as tie
-use Rattle.keeping.proofs.is_repeat.Reads as reads
-use Rattle.keeping.proofs.is_repeat.Lts as lts
-use Rattle.keeping.proofs.code_of.Reads as code-of-reads
 
--- src/lib.rt:404:9
 returns : tie.Need-returns
 returns c = repeats-none _ _ _ (c .if1 .taken)
 
--- src/lib.rt:406:21
 sub-last : tie.Need-sub-last
 sub-last c = search needs
 
--- src/lib.rt:406:16
 mul-last : tie.Need-mul-last
 mul-last c = search needs
 
--- src/lib.rt:406:16
 array-copy-out-last : tie.Need-array-copy-out-last
 array-copy-out-last c = search needs
 
--- src/lib.rt:407:9
 code-of-requires : tie.Need-code-of-requires
 code-of-requires c κs = search needs
 
--- src/lib.rt:408:16
 code-of-requires-2 : tie.Need-code-of-requires-2
 code-of-requires-2 c κs = search needs
 
--- src/lib.rt:409:9
 returns-2 : tie.Need-returns-2
 returns-2 c = repeats-other _ _ _ (omega arith) (λ e. c .if2 .taken (c .before .before .code-of .ensures ∙ (e ∙ sym (c .before .code-of2 .ensures))))
 
--- src/lib.rt:412:9
 returns-3 : tie.Need-returns-3
 returns-3 c = repeats-sync _ _ _ (omega arith) (sym (c .before .before .before .code-of .ensures) ∙ (c .before .if2 .left ∙ c .before .before .code-of2 .ensures)) (sym (c .before .before .before .code-of .ensures) ∙ c .if3 .taken)
 
--- src/lib.rt:415:9
 returns-4 : tie.Need-returns-4
 returns-4 c = repeats-desy _ _ _ (omega arith) (sym (c .before .before .before .before .code-of .ensures) ∙ (c .before .before .if2 .left ∙ c .before .before .before .code-of2 .ensures)) (λ e. c .before .if3 .left (c .before .before .before .before .code-of .ensures ∙ e)) (sym (c .before .before .before .before .code-of .ensures) ∙ c .if4 .taken)
 
--- src/lib.rt:399:1
 returns-5 : tie.Need-returns-5
 returns-5 c =
     let e = c .before .before .before .before .code-of .ensures in

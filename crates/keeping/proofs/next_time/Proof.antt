@@ -1,16 +1,13 @@
 use Prim.Native.Nat.{_≤_, _+_, _-_}
-use mathlib.Core.Path.{_≡_, refl, sym, ap, _∙_}
+use mathlib.Core.Path.{_≡_, sym, _∙_}
 use native.Mathlib.Omega.{arith}
 use borrow.Author.Needs.{needs}
-use lib.ListN.{length, take, drop}
-use Rattle.keeping.specs.Working.{noNumbered}
+use lib.ListN.{take, drop}
+use Rattle.keeping.specs.Outcome.{noNumbered}
 use Rattle.validation.specs.Kept.{nextTime}
 use Rattle.keeping.proofs.Laws.{left-none, next-none, next-more}
 use Rattle.keeping.proofs.next_time.Statement.{statement}
 use Rattle.keeping.proofs.next_time.Tie as tie
-use Rattle.keeping.proofs.next_time.Reads as reads
-use Rattle.keeping.proofs.next_time.Lts as lts
-use Rattle.keeping.proofs.earlier.Reads as earlier-reads
 
 abbrev Inv-loop : tie.InvT-loop
 Inv-loop n t end os best₀ i₀ best i = (i ≤ n) × (best ≡ nextTime end (drop i (take n os)) t)
@@ -18,31 +15,24 @@ Inv-loop n t end os best₀ i₀ best i = (i ≤ n) × (best ≡ nextTime end (d
 abbrev μ-loop : tie.MeasureT-loop
 μ-loop n t end os best₀ i₀ best i = i
 
--- src/lib.rt:111:5
 loop-holds : tie.Need-loop-holds Inv-loop μ-loop
 loop-holds c = (omega arith, sym (next-none _ _ (left-none (c .args .t1) (c .args .n) (c .args .n) (omega arith))))
 
--- src/lib.rt:112:9
 sub-i : tie.Need-sub-i Inv-loop μ-loop
 sub-i c = omega arith
 
--- src/lib.rt:113:17
 mul-o : tie.Need-mul-o Inv-loop μ-loop
 mul-o c = omega arith
 
--- src/lib.rt:113:17
 array-copy-out-o : tie.Need-array-copy-out-o Inv-loop μ-loop
 array-copy-out-o c = omega arith
 
--- src/lib.rt:114:9
 earlier-requires : tie.Need-earlier-requires Inv-loop μ-loop
 earlier-requires c κs = search needs
 
--- src/lib.rt:111:5
 loop-less : tie.Need-loop-less Inv-loop μ-loop
 loop-less c = omega arith
 
--- src/lib.rt:111:5
 loop-again : tie.Need-loop-again Inv-loop μ-loop
 loop-again c =
     let s = c .before .before .before .before in
@@ -50,7 +40,6 @@ loop-again c =
     let e : l .i - 1 + 1 ≡ l .i = omega arith in
     (omega arith, c .earlier .ensures ∙ (rw (l .inv .1) (rw e at (next-more (s .args .t1) (s .args .n) noNumbered (omega (arith, s .good .0 .1 .0 .1)) (s .args .end) (s .args .t) (l .i - 1) (omega arith)))))
 
--- src/lib.rt:105:1
 returns : tie.Need-returns Inv-loop μ-loop
 returns c =
     let s = c .before .before in

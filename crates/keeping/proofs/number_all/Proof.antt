@@ -1,19 +1,16 @@
-use mathlib.Core.Path.{_≡_, refl, sym, ap, _∙_}
+use mathlib.Core.Path.{ap}
 use native.Mathlib.Omega.{arith}
 use Prim.Native.Nat.{_≤_, _-_, _+_}
-use lib.ListN.{length, take, drop, getD}
+use lib.ListN.{take, drop}
 use borrow.Author.Needs.{needs}
 use Rattle.keeping.specs.declared.Sequence.{Sequence}
 use Rattle.validation.specs.Kept.{numbered}
-use Rattle.keeping.specs.Working.{noNumbered, pushed, Begun}
+use Rattle.keeping.specs.Outcome.{noNumbered}
+use Rattle.keeping.specs.Working.{pushed, Begun}
 use Rattle.keeping.proofs.Laws.{left-none, begun-none, begun-push, begun-all}
 use Rattle.keeping.proofs.Steps.{number-next, number-none}
 use Rattle.keeping.proofs.number_all.Statement.{statement}
 use Rattle.keeping.proofs.number_all.Tie as tie
-use Rattle.keeping.proofs.number_all.Reads as reads
-use Rattle.keeping.proofs.number_all.Lts as lts
-use Rattle.keeping.proofs.empty.Reads as empty-reads
-use Rattle.keeping.proofs.push.Reads as push-reads
 
 abbrev Inv-loop : tie.InvT-loop
 Inv-loop n instructions out₀ i₀ out i = (i ≤ n) × (out .count ≤ i) × Begun out (numbered (i + 1) (drop i (take n instructions))) (numbered 1 (take n instructions))
@@ -21,45 +18,35 @@ Inv-loop n instructions out₀ i₀ out i = (i ≤ n) × (out .count ≤ i) × B
 abbrev μ-loop : tie.MeasureT-loop
 μ-loop n instructions out₀ i₀ out i = n - i
 
--- src/lib.rt:342:9
 empty-requires : tie.Need-empty-requires Inv-loop μ-loop
 empty-requires c κs = search needs
 
--- src/lib.rt:344:5
 loop-holds : tie.Need-loop-holds Inv-loop μ-loop
 loop-holds c =
     let s = c .before .args in
     (omega arith, rw (c .empty .ensures) (omega arith), rw (c .empty .ensures) (begun-none (numbered 1 (take (s .n) (s .t1)))))
 
--- src/lib.rt:345:27
 mul-instruction : tie.Need-mul-instruction Inv-loop μ-loop
 mul-instruction c = omega arith
 
--- src/lib.rt:345:27
 array-copy-out-instruction : tie.Need-array-copy-out-instruction Inv-loop μ-loop
 array-copy-out-instruction c = omega arith
 
--- src/lib.rt:346:22
 cast-number : tie.Need-cast-number Inv-loop μ-loop
 cast-number c = omega arith
 
--- src/lib.rt:346:22
 add-number : tie.Need-add-number Inv-loop μ-loop
 add-number c = omega arith
 
--- src/lib.rt:351:9
 push-requires : tie.Need-push-requires Inv-loop μ-loop
 push-requires c κs = search needs
 
--- src/lib.rt:352:9
 add-i : tie.Need-add-i Inv-loop μ-loop
 add-i c = omega arith
 
--- src/lib.rt:344:5
 loop-less : tie.Need-loop-less Inv-loop μ-loop
 loop-less c = omega arith
 
--- src/lib.rt:344:5
 loop-again : tie.Need-loop-again Inv-loop μ-loop
 unfolding pushed
 loop-again c =
@@ -69,7 +56,6 @@ loop-again c =
     let q = number-next (s .args .t1) (s .args .n) (l .i + 1) (l .i) (noNumbered .instruction) (omega arith) (omega (arith, s .good .0 .1 .0 .1)) in
     (omega arith, omega (arith, ap (λ (q : Sequence). q .count) e), rw e (begun-push _ (omega arith) (rw q at (l .inv .2))))
 
--- src/lib.rt:338:1
 returns : tie.Need-returns Inv-loop μ-loop
 returns c =
     let s = c .before .before .before in

@@ -1,41 +1,30 @@
-use mathlib.Core.Path.{_≡_, refl, sym, ap, _∙_}
 use native.Mathlib.Omega.{arith}
 use Rattle.keeping.proofs.Steps.{settle-zero, settle-large, settle-done, settle-some}
 use borrow.Author.Needs.{needs}
 use Rattle.keeping.proofs.settle.Statement.{statement}
 use Rattle.keeping.proofs.settle.Tie as tie
-use Rattle.keeping.proofs.settle.Reads as reads
-use Rattle.keeping.proofs.settle.Lts as lts
 
--- src/lib.rt:620:9
 returns : tie.Need-returns
 returns c = settle-zero _ _ _ (c .if1 .taken)
 
--- src/lib.rt:623:9
 returns-2 : tie.Need-returns-2
 returns-2 c = settle-large _ _ _ (c .before .before .good .0 .1 .0 .1) (omega arith)
 
--- src/lib.rt:625:15
 sub-at : tie.Need-sub-at
 sub-at c = search needs
 
--- src/lib.rt:625:14
 cast-at : tie.Need-cast-at
 cast-at c = search needs
 
--- src/lib.rt:626:8
 array-read-if3 : tie.Need-array-read-if3
 array-read-if3 c = search needs
 
--- src/lib.rt:627:9
 returns-3 : tie.Need-returns-3
 returns-3 c = settle-done _ _ _ (c .before .before .if1 .left) (c .if3 .taken)
 
--- src/lib.rt:630:5
 array-write-next : tie.Need-array-write-next
 array-write-next c = search needs
 
--- src/lib.rt:616:1
 returns-4 : tie.Need-returns-4
 returns-4 c = settle-some _ _ _ (c .before .before .if1 .left) (c .if3 .left)
 

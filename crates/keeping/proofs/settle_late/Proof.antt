@@ -6,15 +6,12 @@ use borrow.Author.Needs.{needs}
 use Rattle.keeping.specs.declared.Checking.{Checking}
 use mathlib.Core.List.{List}
 use Rattle.validation.specs.Kept.{lateFate, lateMarks}
-use Rattle.keeping.specs.Working.{noNumbered, settling, settleFate, settled}
+use Rattle.keeping.specs.Outcome.{noNumbered}
+use Rattle.keeping.specs.Working.{settling, settleFate, settled}
 use Rattle.keeping.proofs.Laws.{left-none, map-length}
 use Rattle.keeping.proofs.Steps.{settled-next, settled-none}
 use Rattle.keeping.proofs.settle_late.Statement.{statement}
 use Rattle.keeping.proofs.settle_late.Tie as tie
-use Rattle.keeping.proofs.settle_late.Reads as reads
-use Rattle.keeping.proofs.settle_late.Lts as lts
-use Rattle.keeping.proofs.late_fate.Reads as late-fate-reads
-use Rattle.keeping.proofs.settle_one.Reads as settle-one-reads
 
 abbrev Inv-loop : tie.InvT-loop
 Inv-loop end kept height out₀ i₀ out i = (i ≤ height) × (settled (out .fates) (lateMarks end (drop i (take height kept))) ≡ settled (out₀ .fates) (lateMarks end (take height kept)))
@@ -22,35 +19,27 @@ Inv-loop end kept height out₀ i₀ out i = (i ≤ height) × (settled (out .fa
 abbrev μ-loop : tie.MeasureT-loop
 μ-loop end kept height out₀ i₀ out i = height - i
 
--- src/lib.rt:658:5
 loop-holds : tie.Need-loop-holds Inv-loop μ-loop
 loop-holds c = (omega arith, refl)
 
--- src/lib.rt:659:17
 mul-o : tie.Need-mul-o Inv-loop μ-loop
 mul-o c = omega arith
 
--- src/lib.rt:659:17
 array-copy-out-o : tie.Need-array-copy-out-o Inv-loop μ-loop
 array-copy-out-o c = omega arith
 
--- src/lib.rt:660:13
 late-fate-requires : tie.Need-late-fate-requires Inv-loop μ-loop
 late-fate-requires c κs = search needs
 
--- src/lib.rt:661:9
 settle-one-requires : tie.Need-settle-one-requires Inv-loop μ-loop
 settle-one-requires c κs = search needs
 
--- src/lib.rt:662:9
 add-i : tie.Need-add-i Inv-loop μ-loop
 add-i c = omega arith
 
--- src/lib.rt:658:5
 loop-less : tie.Need-loop-less Inv-loop μ-loop
 loop-less c = omega arith
 
--- src/lib.rt:658:5
 loop-again : tie.Need-loop-again Inv-loop μ-loop
 unfolding settling
 loop-again c =
@@ -61,11 +50,11 @@ loop-again c =
     let end = s .args .end in
     let o = getD ks (l .i) noNumbered in
     let g : length ks ≡ 40 = simp map-length at (s .good .0 .1 .1 .0 .1 .0 .1) in
+    let f : c .before .late-fate .result ≡ lateFate end o (drop (l .i + 1) (take n ks)) = c .before .late-fate .ensures in
     let e : c .settle-one .result .fates ≡ settleFate (l .out .fates) (o .number) (lateFate end o (drop (l .i + 1) (take n ks))) =
-    ap (λ (q : Checking). q .fates) (c .settle-one .ensures) ∙ ap (settleFate (l .out .fates) (o .number)) (c .before .late-fate .ensures) in
+    ap (λ (q : Checking). q .fates) (c .settle-one .ensures) ∙ ap (settleFate (l .out .fates) (o .number)) f in
     (omega arith, ap (λ (q : List ℕ). settled q (lateMarks end (drop (l .i + 1) (take n ks)))) e ∙ (sym (settled-next ks n (omega arith) end (l .i) (l .out .fates) (omega arith)) ∙ l .inv .1))
 
--- src/lib.rt:650:1
 returns : tie.Need-returns Inv-loop μ-loop
 returns c =
     let s = c .before .before .before .args in

@@ -2,8 +2,6 @@ use borrow.Author.Tests.{eq-eqb, ne-eqb}
 use Rattle.keeping.specs.Working.{supersedesOf}
 use Rattle.keeping.proofs.supersedes.Statement.{statement}
 use Rattle.keeping.proofs.supersedes.Tie as tie
-use Rattle.keeping.proofs.supersedes.Reads as reads
-use Rattle.keeping.proofs.supersedes.Lts as lts
 
 returns : tie.Need-returns
 unfolding supersedesOf

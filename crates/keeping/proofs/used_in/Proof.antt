@@ -1,23 +1,16 @@
-use mathlib.Core.Path.{_≡_, refl, sym, ap, _∙_}
+use mathlib.Core.Path.{_≡_, sym, ap, _∙_}
 use native.Mathlib.Omega.{arith}
 use Prim.Native.Nat.{ℕ, _≤_, _-_, _+_}
-use lib.ListN.{length, take, drop, getD}
+use lib.ListN.{take}
 use borrow.Author.Needs.{needs}
 use mathlib.Core.List.{List, [], _++_}
 use Rattle.validation.specs.declared.Numbered.{Numbered}
 use Rattle.validation.specs.Kept.{used, usedFrom, usedOf, group, nextTime}
-use Rattle.keeping.specs.Working.{noNumbered, foundList, Begun}
-use Rattle.keeping.proofs.Laws.{left-none, begun-none, begun-found, begun-all, joined-count, held}
+use Rattle.keeping.specs.Working.{foundList, Begun}
+use Rattle.keeping.proofs.Laws.{begun-none, begun-found, begun-all, joined-count, held}
 use Rattle.keeping.proofs.Steps.{used-more, used-stop, used-begins, used-zero}
 use Rattle.keeping.proofs.used_in.Statement.{statement}
 use Rattle.keeping.proofs.used_in.Tie as tie
-use Rattle.keeping.proofs.used_in.Reads as reads
-use Rattle.keeping.proofs.used_in.Lts as lts
-use Rattle.keeping.proofs.empty.Reads as empty-reads
-use Rattle.keeping.proofs.group_at.Reads as group-at-reads
-use Rattle.keeping.proofs.next_time.Reads as next-time-reads
-use Rattle.keeping.proofs.push_found.Reads as push-found-reads
-use Rattle.keeping.proofs.used_of.Reads as used-of-reads
 
 abbrev Inv-loop : tie.InvT-loop
 Inv-loop os n end out₀ t₀ i₀ out t i = (i ≤ n) × (out .count ≤ i) × Begun out (usedFrom end (take n os) (n - i) t) (used end (take n os))
@@ -25,52 +18,41 @@ Inv-loop os n end out₀ t₀ i₀ out t i = (i ≤ n) × (out .count ≤ i) × 
 abbrev μ-loop : tie.MeasureT-loop
 μ-loop os n end out₀ t₀ i₀ out t i = n - i
 
--- src/lib.rt:362:9
 empty-requires : tie.Need-empty-requires Inv-loop μ-loop
 empty-requires c κs = search needs
 
--- src/lib.rt:365:5
 loop-holds : tie.Need-loop-holds Inv-loop μ-loop
 loop-holds c =
     let s = c .before in
     (omega arith, rw (c .empty .ensures) (omega arith), rw (c .empty .ensures, used-begins (s .args .end) (s .args .os) (s .args .n) (omega (arith, s .good .0 .1 .0 .1))) (begun-none (used (s .args .end) (take (s .args .n) (s .args .os)))))
 
--- src/lib.rt:366:13
 next-time-requires : tie.Need-next-time-requires Inv-loop μ-loop
 next-time-requires c κs = search needs
 
--- src/lib.rt:368:13
 returns : tie.Need-returns Inv-loop μ-loop
 returns c =
     let s = c .before .before .before .before .before .args in
     let l = c .before .before .before .loop in
     (begun-all (rw (used-stop (s .end) (take (s .n) (s .os)) (s .n - l .i) (l .t) (omega (arith, c .before .next-time .ensures))) at (l .inv .2)), omega arith)
 
--- src/lib.rt:370:13
 group-at-requires : tie.Need-group-at-requires Inv-loop μ-loop
 group-at-requires c κs = search needs
 
--- src/lib.rt:372:13
 used-of-requires : tie.Need-used-of-requires Inv-loop μ-loop
 used-of-requires c κs = search needs
 
--- src/lib.rt:373:9
 push-found-requires : tie.Need-push-found-requires Inv-loop μ-loop
 push-found-requires c κs = search needs
 
--- src/lib.rt:374:13
 add-t : tie.Need-add-t Inv-loop μ-loop
 add-t c = omega arith
 
--- src/lib.rt:375:9
 add-i : tie.Need-add-i Inv-loop μ-loop
 add-i c = omega arith
 
--- src/lib.rt:365:5
 loop-less : tie.Need-loop-less Inv-loop μ-loop
 loop-less c = omega arith
 
--- src/lib.rt:365:5
 loop-again : tie.Need-loop-again Inv-loop μ-loop
 loop-again c =
     let s = c .before .before .before .before .before .before .before .before .before .args in
@@ -89,7 +71,6 @@ loop-again c =
     let e = c .push-found .ensures in
     (omega arith, rw e (omega (arith, joined-count (l .out) u)), rw e (begun-found u (omega arith) (rw q at (l .inv .2))))
 
--- src/lib.rt:358:1
 returns-2 : tie.Need-returns-2 Inv-loop μ-loop
 returns-2 c =
     let s = c .before .before .before .args in

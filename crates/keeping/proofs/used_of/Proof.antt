@@ -1,31 +1,21 @@
-use mathlib.Core.Path.{_≡_, refl, sym, ap, _∙_}
+use mathlib.Core.Path.{ap, _∙_}
 use native.Mathlib.Omega.{arith}
-use mathlib.Core.List.{[], _∷_}
 use lib.ListN.{take}
-use Rattle.validation.specs.declared.Numbered.{Numbered}
 use Rattle.validation.specs.Kept.{merged}
 use Rattle.keeping.proofs.Laws.{used-empty, used-some}
 use borrow.Author.Needs.{needs}
 use Rattle.keeping.proofs.used_of.Statement.{statement}
 use Rattle.keeping.proofs.used_of.Tie as tie
-use Rattle.keeping.proofs.used_of.Reads as reads
-use Rattle.keeping.proofs.used_of.Lts as lts
-use Rattle.keeping.proofs.highest_of.Reads as highest-of-reads
-use Rattle.keeping.proofs.merge.Reads as merge-reads
 
--- src/lib.rt:293:9
 returns : tie.Need-returns
 returns c = used-empty _ _ (c .if1 .taken)
 
--- src/lib.rt:295:9
 highest-of-requires : tie.Need-highest-of-requires
 highest-of-requires c κs = search needs
 
--- src/lib.rt:296:9
 merge-requires : tie.Need-merge-requires
 merge-requires c κs = search needs
 
--- src/lib.rt:288:1
 returns-2 : tie.Need-returns-2
 returns-2 c =
     let s = c .before .before .before in

@@ -1,16 +1,14 @@
-use mathlib.Core.Path.{_≡_, refl, sym, ap, _∙_}
+use mathlib.Core.Path.{_≡_, sym, ap, _∙_}
 use native.Mathlib.Omega.{arith}
 use Prim.Native.Nat.{ℕ, suc, _≤_, _-_, _+_}
-use lib.ListN.{length, take, drop, getD}
+use lib.ListN.{getD}
 use borrow.Author.Needs.{needs}
-use Rattle.keeping.specs.Working.{noNumbered, withFate, voided}
+use Rattle.keeping.specs.Outcome.{noNumbered}
+use Rattle.keeping.specs.Working.{withFate, voided}
 use Rattle.keeping.specs.declared.Checking.{Checking}
 use Rattle.keeping.proofs.Steps.{voided-more, voided-none}
 use Rattle.keeping.proofs.void_from.Statement.{statement}
 use Rattle.keeping.proofs.void_from.Tie as tie
-use Rattle.keeping.proofs.void_from.Reads as reads
-use Rattle.keeping.proofs.void_from.Lts as lts
-use Rattle.keeping.proofs.with_fate.Reads as with-fate-reads
 
 abbrev Inv-loop : tie.InvT-loop
 Inv-loop from kept height out₀ i₀ out i = (from ≤ i) × (i ≤ height) × (out ≡ voided out₀ from (i - from))
@@ -18,34 +16,27 @@ Inv-loop from kept height out₀ i₀ out i = (from ≤ i) × (i ≤ height) × 
 abbrev μ-loop : tie.MeasureT-loop
 μ-loop from kept height out₀ i₀ out i = height - i
 
--- src/lib.rt:458:5
 loop-holds : tie.Need-loop-holds Inv-loop μ-loop
 loop-holds c =
     let a = c .before .args in
     let e : a .from - a .from ≡ 0 = omega arith in
     (omega arith, omega arith, sym (ap (voided (a .s) (a .from)) e ∙ voided-none (a .s) (a .from)))
 
--- src/lib.rt:459:17
 mul-k : tie.Need-mul-k Inv-loop μ-loop
 mul-k c = omega arith
 
--- src/lib.rt:459:17
 array-copy-out-k : tie.Need-array-copy-out-k Inv-loop μ-loop
 array-copy-out-k c = omega arith
 
--- src/lib.rt:460:9
 with-fate-requires : tie.Need-with-fate-requires Inv-loop μ-loop
 with-fate-requires c κs = search needs
 
--- src/lib.rt:461:9
 add-i : tie.Need-add-i Inv-loop μ-loop
 add-i c = omega arith
 
--- src/lib.rt:458:5
 loop-less : tie.Need-loop-less Inv-loop μ-loop
 loop-less c = omega arith
 
--- src/lib.rt:458:5
 loop-again : tie.Need-loop-again Inv-loop μ-loop
 loop-again c =
     let a = c .before .before .before .before .before .args in
@@ -54,7 +45,6 @@ loop-again c =
     let f : a .from + (l .i - a .from) ≡ l .i = omega arith in
     (omega arith, omega arith, c .with-fate .ensures ∙ (ap (λ (q : Checking). withFate q (getD (a .s .kept) (l .i) noNumbered) 4) (l .inv .2) ∙ (rw f at (voided-more (a .s) (a .from) (l .i - a .from)) ∙ ap (voided (a .s) (a .from)) (sym e))))
 
--- src/lib.rt:450:1
 returns : tie.Need-returns Inv-loop μ-loop
 returns c =
     let a = c .before .before .before .args in
