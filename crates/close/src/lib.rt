@@ -12,6 +12,7 @@ ghost use Rattle.course.specs.Course.{trajectoryOf};
 ghost use Rattle.profile.specs.State.{held, byRule};
 ghost use Rattle.profile.specs.Effects.{stateAt};
 ghost use Rattle.close.specs.Watching.{offStarting, offBetween};
+ghost use Rattle.close.specs.Laying.{laid, laidAll, marksFrom};
 ghost use Rattle.close.specs.Walk.{walkOf, walkAll, wentOn, replacedBy, actedOn};
 ghost use Rattle.day.specs.Day.{noCourse};
 ghost use lib.ListN.{length, take, getD};
@@ -518,4 +519,48 @@ fn follow_all(
         i += 1;
     }
     w
+}
+
+// ---- the fates
+
+// The fates of the first `count` instructions, by number.
+pub struct Fates {
+    pub count: usize,
+    pub fates: [u8; 40],
+}
+
+// One fate laid over: a number that none of the first `count` has, and a fate of 1, change nothing.
+fn lay_fate(s: Fates, number: u32, fate: u8) -> Fates
+    requires { ⌜ s .count ≤ 40 ⌝ }
+    ensures { λ r. ⌜ r ≡ laid s number fate ⌝ }
+{
+    if number == 0 {
+        return s;
+    }
+    let at = (number - 1) as usize;
+    if s.count <= at {
+        return s;
+    }
+    if s.fates[at] == 1 {
+        return s;
+    }
+    let mut next = s;
+    next.fates[at] = fate;
+    next
+}
+
+// The fates of the first n that act laid over, the first of them last.
+fn lay_fates(s: Fates, acts: [validation::Numbered; 40], own: [u8; 40], n: usize) -> Fates
+    requires { ⌜ (s .count ≤ 40) × (n ≤ 40) ⌝ }
+    ensures { λ r. ⌜ r ≡ laidAll s (marksFrom acts own 0 n) ⌝ }
+{
+    let mut out = s;
+    let mut i = n;
+    while 0 < i {
+        let o = acts[i - 1];
+        let fate = own[i - 1];
+        out = lay_fate(out, o.number, fate);
+        i -= 1;
+    }
+    out
 }

@@ -6,7 +6,7 @@ use lib.ListN.{length, take, drop, getD}
 use Rattle.validation.specs.declared.Numbered.{Numbered}
 use Rattle.validation.specs.Kept.{acting}
 use Rattle.close.specs.declared.Walk.{Walk}
-use Rattle.keeping.specs.Working.{noNumbered}
+use Rattle.keeping.specs.Outcome.{noNumbered}
 use Rattle.keeping.proofs.Laws.{left-cons, left-none}
 use Rattle.profile.specs.State.{byRule}
 use Rattle.profile.specs.Effects.{follow}
