@@ -15,9 +15,12 @@ ghost use Rattle.close.specs.Watching.{offStarting, offBetween};
 ghost use Rattle.close.specs.Laying.{laid, laidAll, marksFrom};
 ghost use Rattle.close.specs.Walk.{walkOf, walkAll, wentOn, replacedBy, actedOn};
 ghost use Rattle.day.specs.Day.{noCourse};
-ghost use lib.ListN.{length, take, getD};
+ghost use lib.ListN.{length, take, drop, getD};
 ghost use mathlib.Core.List.{[], _∷_};
-ghost use Rattle.level.specs.Lists.{All};
+ghost use Rattle.level.specs.Lists.{All, listFrom};
+ghost use Rattle.course.specs.declared.Course.{Course};
+ghost use Rattle.course.specs.Pieces.{piecesIn, twiceArea};
+ghost use Rattle.profile.specs.Profile.{beginOf, spansOf, piecesTo, twinTo};
 ghost use Rattle.validation.specs.declared.Numbered.{Numbered};
 
 // ---- what each instruction does at its acting second
@@ -561,6 +564,70 @@ fn lay_fates(s: Fates, acts: [validation::Numbered; 40], own: [u8; 40], n: usize
         let fate = own[i - 1];
         out = lay_fate(out, o.number, fate);
         i -= 1;
+    }
+    out
+}
+
+// ---- twice the recorded area from 06:00 to each half-hour boundary
+
+// The day's seconds, and those of a half-hour.
+const DAY: u32 = 86400;
+
+const HALF_HOUR: u32 = 1800;
+
+// Where the course at a place ends: where the next one begins, else at the day's end.
+fn end_of(courses: [course::Course; 41], n: usize, at: usize) -> u32
+    requires { ⌜ (at < n) × (n ≤ 41) ⌝ }
+    ensures { λ r. ⌜ r ≡ beginOf 86400 (drop (at + 1) (take n courses)) ⌝ }
+{
+    if at + 1 < n {
+        let next = courses[at + 1];
+        return next.begin;
+    }
+    DAY
+}
+
+// Twice the area of a course that lasts to the second `end`, up to the second x.
+fn twice_up_to(u: records::UnitData, c: course::Course, end: u32, x: u32) -> u64
+    requires { ⌜ x ≤ 86400 ⌝ }
+    requires { ⌜ c .start .grains < 274877906944 ⌝ }
+    ensures { λ r. ⌜ (r ≡ twiceArea (piecesIn (trajectoryOf u c) 0 (min end x - c .begin))) × (r ≤ 47498902319923200) ⌝ }
+{
+    let last = smaller(end, x);
+    let to = seconds_from(c.begin, last);
+    trajectory::twice_in(u, c, 0, to)
+}
+
+// Twice the area of the first n courses, up to the second x.
+fn sum_up_to(u: records::UnitData, courses: [course::Course; 41], n: usize, x: u32) -> u64
+    requires { ⌜ (n ≤ 41) × (x ≤ 86400) ⌝ }
+    requires { ⌜ All (λ (c : Course). c .start .grains < 274877906944) (take n courses) ⌝ }
+    ensures { λ r. ⌜ r ≡ piecesTo (spansOf u 86400 (take n courses)) x ⌝ }
+{
+    let mut sum: u64 = 0;
+    let mut i: usize = 0;
+    while i < n {
+        let c = courses[i];
+        let end = end_of(courses, n, i);
+        sum += twice_up_to(u, c, end, x);
+        i += 1;
+    }
+    sum
+}
+
+// The sum up to each of the 49 boundaries.
+fn sums_of(u: records::UnitData, courses: [course::Course; 41], n: usize) -> [u64; 49]
+    requires { ⌜ n ≤ 41 ⌝ }
+    requires { ⌜ All (λ (c : Course). c .start .grains < 274877906944) (take n courses) ⌝ }
+    ensures { λ r. ⌜ r ≡ listFrom (twinTo (spansOf u 86400 (take n courses))) 0 49 ⌝ }
+{
+    let mut out = [0u64; 49];
+    let mut b: usize = 0;
+    let mut x: u32 = 0;
+    while b < 49 {
+        out[b] = sum_up_to(u, courses, n, x);
+        b += 1;
+        x += HALF_HOUR;
     }
     out
 }
