@@ -2,16 +2,22 @@
 -- Assumes nothing.
 use mathlib.Core.Path.{_≡_, refl, ap, sym, _∙_}
 use mathlib.Core.List.{List, [], _∷_, _++_, map}
-use mathlib.Core.Bool.{Bool, true, false, _&&_}
+use mathlib.Core.Bool.{Bool, true, false, _&&_, _||_}
 use Prim.Native.Nat.{ℕ, zero, suc, _+_, _*_, _-_, min, max, _≤_, _<_}
 use native.Mathlib.Omega.{arith}
-use lib.Dec.{eqb}
+use native.Mathlib.Numerals.{add-one}
+use lib.Dec.{eqb, ltb}
+use lib.ListN.{length, getD, List·getD-eq-default}
 use borrow.Author.Tests.{lt-ltb, le-ltb, le-leb, lt-leb, eq-eqb, ne-eqb}
 use Rattle.level.specs.Choice.{pick}
+use Rattle.level.specs.Lists.{some, listFrom}
 use Rattle.records.specs.declared.UnitData.{UnitData}
 use Rattle.course.specs.declared.Course.{Course}
 use Rattle.trajectory.specs.declared.Place.{Place}
 use Rattle.profile.specs.State.{held}
+use Rattle.profile.specs.Profile.{rounded}
+use Rattle.day.specs.Day.{quantityAt}
+use Rattle.close.specs.Finding.{someAbove}
 use Rattle.close.specs.Watching.{offStarting, offBetween}
 use Rattle.profile.specs.Effects.{heatBy, stepped}
 
@@ -80,3 +86,35 @@ module _ (p q : Place) (off : ℕ) where
   pub between-off : p .level ≡ 0 → q .level ≡ 0 → held (off + (q .second - p .second)) ≡ offBetween p q off
   unfolding offBetween
   between-off e f = simp (eq-eqb (p .level) 0 e, eq-eqb (q .level) 0 f)
+
+-- ---- quantities
+
+module _ (sums : List ℕ) (i : ℕ) where
+  pub quantity-past : length sums ≡ 49 → 48 ≤ i → 0 ≡ quantityAt sums i
+  unfolding quantityAt rounded
+  quantity-past e h = omega (arith, List·getD-eq-default sums 0 {n = suc i} (omega arith))
+
+  pub quantity-less : getD sums (i + 1) 0 < getD sums i 0 → 0 ≡ quantityAt sums i
+  unfolding quantityAt rounded
+  quantity-less h = omega (arith, ap (λ (k : ℕ). getD sums k 0) (add-one i))
+
+  pub quantity-more : rounded (getD sums (i + 1) 0 - getD sums i 0) ≡ quantityAt sums i
+  unfolding quantityAt
+  quantity-more = ap (λ (k : ℕ). rounded (getD sums k 0 - getD sums i 0)) (add-one i)
+
+module _ (most : ℕ) (sums : List ℕ) (i : ℕ) where
+  above-one : i < 48 → someAbove most sums i (48 - i) ≡ (ltb most (quantityAt sums i) || someAbove most sums (i + 1) (48 - (i + 1)))
+  unfolding someAbove some listFrom
+  above-one h =
+      ap (λ (n : ℕ). some (λ q. ltb most q) (listFrom (quantityAt sums) i n)) {x = 48 - i} {y = suc (48 - (i + 1))} (omega arith)
+      ∙ ap (λ (k : ℕ). ltb most (quantityAt sums i) || some (λ q. ltb most q) (listFrom (quantityAt sums) k (48 - (i + 1)))) (sym (add-one i))
+
+  pub above-here : i < 48 → most < quantityAt sums i → someAbove most sums i (48 - i) ≡ true
+  above-here h k = above-one h ∙ simp (lt-ltb most (quantityAt sums i) k)
+
+  pub above-next : i < 48 → quantityAt sums i ≤ most → someAbove most sums i (48 - i) ≡ someAbove most sums (i + 1) (48 - (i + 1))
+  above-next h k = above-one h ∙ simp (le-ltb most (quantityAt sums i) k)
+
+  pub above-none : 48 ≤ i → someAbove most sums i (48 - i) ≡ false
+  unfolding someAbove some listFrom
+  above-none h = ap (λ (n : ℕ). some (λ q. ltb most q) (listFrom (quantityAt sums) i n)) {x = 48 - i} {y = 0} (omega arith)

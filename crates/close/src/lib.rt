@@ -14,13 +14,14 @@ ghost use Rattle.profile.specs.Effects.{stateAt};
 ghost use Rattle.close.specs.Watching.{offStarting, offBetween};
 ghost use Rattle.close.specs.Laying.{laid, laidAll, marksFrom};
 ghost use Rattle.close.specs.Walk.{walkOf, walkAll, wentOn, replacedBy, actedOn};
-ghost use Rattle.day.specs.Day.{noCourse};
+ghost use Rattle.day.specs.Day.{noCourse, quantityAt};
 ghost use lib.ListN.{length, take, drop, getD};
 ghost use mathlib.Core.List.{[], _∷_};
 ghost use Rattle.level.specs.Lists.{All, listFrom};
 ghost use Rattle.course.specs.declared.Course.{Course};
 ghost use Rattle.course.specs.Pieces.{piecesIn, twiceArea};
-ghost use Rattle.profile.specs.Profile.{beginOf, spansOf, piecesTo, twinTo};
+ghost use Rattle.profile.specs.Profile.{beginOf, spansOf, piecesTo, twinTo, closingBy, rounded};
+ghost use Rattle.close.specs.Finding.{findingOf, findingBy, someAbove};
 ghost use Rattle.validation.specs.declared.Numbered.{Numbered};
 
 // ---- what each instruction does at its acting second
@@ -630,4 +631,127 @@ fn sums_of(u: records::UnitData, courses: [course::Course; 41], n: usize) -> [u6
         x += HALF_HOUR;
     }
     out
+}
+
+// ---- what close finds
+
+// The fates by number, the courses (`started` of them), twice the recorded area from 06:00 to each half-hour boundary
+// (grain-seconds), and the closing state.
+pub struct Finding {
+    pub fates: [u8; 40],
+    pub started: usize,
+    pub courses: [course::Course; 41],
+    pub sums: [u64; 49],
+    pub closing: profile::Closing,
+}
+
+// The state at the day's end, of the last course.
+fn closing_of(u: records::UnitData, last: profile::UnderWay) -> profile::Closing
+    ensures { λ r. ⌜ r ≡ closingBy last (stateAt byRule u last 86400) ⌝ }
+{
+    let s = state_at(u, last, DAY);
+    let c = last.course;
+    let level = level::Level { grains: s.level };
+    profile::Closing {
+        level,
+        target: c.target,
+        heat: c.heat,
+        off: s.off,
+    }
+}
+
+fn finding_by(u: records::UnitData, w: Walk, f: Fates) -> Finding
+    requires { ⌜ w .started ≤ 41 ⌝ }
+    requires { ⌜ All (λ (c : Course). c .start .grains < 274877906944) (take (w .started) (w .courses)) ⌝ }
+    ensures { λ r. ⌜ r ≡ findingBy u w f ⌝ }
+{
+    let fates = f.fates;
+    let courses = w.courses;
+    let sums = sums_of(u, courses, w.started);
+    let last = w.now;
+    let closing = closing_of(u, last);
+    Finding {
+        fates,
+        started: w.started,
+        courses,
+        sums,
+        closing,
+    }
+}
+
+// A count above forty reads like forty.
+fn at_most_forty(count: usize) -> usize
+    ensures { λ r. ⌜ r ≡ min count 40 ⌝ }
+{
+    if count < 40 {
+        return count;
+    }
+    40
+}
+
+// What close finds from the unit, the opening and the first `count` instructions.
+pub fn find(
+    u: records::UnitData,
+    o: records::Opening,
+    instructions: [records::Instruction; 40],
+    count: usize,
+) -> Finding
+    ensures { λ r. ⌜ r ≡ findingOf u o instructions count ⌝ }
+{
+    let v = keeping::validate(instructions, count, DAY);
+    let acts = v.acts;
+    let now = open_course(u, o);
+    let w = follow_all(u, now, acts, v.acting);
+    let settled = v.fates;
+    let own = w.fates;
+    let given = Fates {
+        count: at_most_forty(count),
+        fates: settled,
+    };
+    let f = lay_fates(given, acts, own, v.acting);
+    finding_by(u, w, f)
+}
+
+// ---- refusal 27
+
+// Twice an area in kW: "the floor of (that + 108,000)/216,000".
+fn round_kw(twice: u64) -> u64
+    ensures { λ r. ⌜ r ≡ rounded twice ⌝ }
+{
+    let whole = twice / 216000;
+    if twice % 216000 < 108000 {
+        return whole;
+    }
+    whole + 1
+}
+
+// The quantity (kW) of the half-hour from the boundary i on; 0 past the day's end.
+pub fn quantity_at(sums: [u64; 49], i: usize) -> u64
+    ensures { λ r. ⌜ r ≡ quantityAt sums i ⌝ }
+{
+    if 48 <= i {
+        return 0;
+    }
+    let before = sums[i];
+    let after = sums[i + 1];
+    if after < before {
+        return 0;
+    }
+    round_kw(after - before)
+}
+
+// A quantity lies above the short-term maximum.
+pub fn quantity_too_high(u: records::UnitData, sums: [u64; 49]) -> bool
+    ensures { λ r. ⌜ r ≡ someAbove (u .maximum) sums 0 48 ⌝ }
+{
+    let most = u.maximum as u64;
+    let mut i: usize = 0;
+    while i < 48 {
+        let kw = quantity_at(sums, i);
+        if most < kw {
+            return true;
+        }
+        i += 1;
+    }
+    false
 }
