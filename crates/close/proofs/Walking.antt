@@ -1,0 +1,160 @@
+-- Following the instructions that act one after another gives what `follow` says.
+-- Assumes nothing.
+use Prim.Native.Nat.{ℕ, zero, suc, _+_, _-_, _≤_, _<_}
+use mathlib.Core.Path.{_≡_, refl, ap, sym, _∙_}
+use mathlib.Core.List.{List, [], _∷_, _++_, map, append-assoc, append-nil}
+use mathlib.Core.Bool.{Bool, true, false}
+use native.Mathlib.Omega.{arith}
+use lib.ListN.{length, take, getD, set, length-append, length-map}
+use lib.Seq.{getD-take, length-take-le}
+use Rattle.level.specs.Choice.{pick}
+use Rattle.level.specs.Lists.{All, filled}
+use Rattle.records.specs.declared.UnitData.{UnitData}
+use Rattle.course.specs.declared.Course.{Course}
+use Rattle.validation.specs.declared.Numbered.{Numbered}
+use Rattle.validation.specs.Kept.{Mark, mark, acting}
+use Rattle.keeping.proofs.Laws.{filled-push}
+use Rattle.profile.specs.declared.UnderWay.{UnderWay}
+use Rattle.profile.specs.declared.State.{State}
+use Rattle.profile.specs.State.{byRule}
+use Rattle.profile.specs.Effects.{Followed, idle, begun, goesOn, replaces, stateAt, follow}
+use Rattle.profile.specs.Profile.{courseOf}
+use Rattle.day.specs.Day.{noCourse}
+use Rattle.close.specs.declared.Walk.{Walk}
+use Rattle.close.specs.Walk.{fateIn, lastOf, walkOf, walkAll, wentOn, replacedBy, actedOn}
+
+-- an array that begins with f of each, and one more
+map-push : {A B : Type 0} (f : A → B) (z : B) (n : ℕ) (xs : List A) (x : A) → length xs < n →
+    set (filled n z (map f xs)) (length xs) (f x) ≡ filled n z (map f (xs ++ (x ∷ [])))
+map-push f z n xs x h =
+    ap (λ (k : ℕ). set (filled n z (map f xs)) k (f x)) (sym (length-map xs f))
+    ∙ filled-push z n (map f xs) (f x) (omega (arith, length-map xs f))
+    ∙ ap (filled n z) (sym (over xs))
+  where
+    over : (ys : List _) → map f (ys ++ (x ∷ [])) ≡ map f ys ++ (f x ∷ [])
+    over [] = refl
+    over (y ∷ ys) = ap (λ (zs : List _). f y ∷ zs) (over ys)
+
+one-more : {A : Type 0} (xs : List A) (x : A) → length xs + 1 ≡ length (xs ++ (x ∷ []))
+one-more xs x = simp length-append
+
+append-one : {A : Type 0} (xs : List A) (x : A) (ys : List A) → (xs ++ (x ∷ [])) ++ ys ≡ xs ++ (x ∷ ys)
+append-one xs x ys = append-assoc xs (x ∷ []) ys
+
+last-one : (c d : UnderWay) (us : List UnderWay) → lastOf c (us ++ (d ∷ [])) ≡ d
+unfolding lastOf
+last-one c d [] = refl
+last-one c d (x ∷ us) = last-one x d us
+
+all-at : {A : Type 0} (P : A → Type 0) (xs : List A) (i : ℕ) (d : A) → i < length xs → All P xs → P (getD xs i d)
+all-at P [] i d h a = absurd (omega arith)
+all-at P (x ∷ xs) zero d h a = a .0
+all-at P (x ∷ xs) (suc i) d h a = all-at P xs i d (omega arith) (a .1)
+
+-- a fact of each of the first n places
+pub all-first : {A : Type 0} (P : A → Type 0) (xs : List A) (n i : ℕ) (d : A) → i < n → n ≤ length xs → All P (take n xs) → P (getD xs i d)
+all-first P xs n i d h k a = rw (getD-take n xs i d h) at (all-at P (take n xs) i d (omega (arith, length-take-le n xs k)) a)
+
+module _ (u : UnitData) where
+  -- the walk holds the beginning of a whole; the rest is what those left give
+  pub record Going (w : Walk) (left : List Numbered) (whole : Followed) : Type 0 where
+    pub us : List UnderWay
+    pub ms : List Mark
+    pub courses : us ++ follow byRule u (w .now) left .courses ≡ whole .courses
+    pub marks : ms ++ follow byRule u (w .now) left .marks ≡ whole .marks
+    pub holds : w ≡ walkOf (w .now) (record { marks = ms; courses = us ++ (w .now ∷ []) })
+
+  pub going-start : (now : UnderWay) (os : List Numbered) → Going (walkOf now (record { marks = []; courses = now ∷ [] })) os (follow byRule u now os)
+  unfolding walkOf
+  going-start now os = record { us = []; ms = []; courses = refl; marks = refl; holds = refl }
+
+  module _ (w : Walk) (o : Numbered) (us : List UnderWay) (ms : List Mark) (e : w ≡ walkOf (w .now) (record { marks = ms; courses = us ++ (w .now ∷ []) })) where
+    fated : (fate : ℕ) → w .acted < 40 → set (w .fates) (w .acted) fate ≡ filled 40 0 (map fateIn (ms ++ (mark fate o ∷ [])))
+    unfolding walkOf
+    fated fate h =
+        ap (λ (x : Walk). set (x .fates) (x .acted) fate) e
+        ∙ map-push fateIn 0 40 ms (mark fate o) (omega (arith, ap (λ (x : Walk). x .acted) e))
+
+    more : (fate : ℕ) → w .acted + 1 ≡ length (ms ++ (mark fate o ∷ []))
+    unfolding walkOf
+    more fate = ap (λ (x : Walk). x .acted + 1) e ∙ one-more ms (mark fate o)
+
+    held-on : w .acted < 40 → wentOn w ≡ walkOf (w .now) (record { marks = ms ++ (mark 7 o ∷ []); courses = us ++ (w .now ∷ []) })
+    unfolding walkOf wentOn
+    held-on h = λ i. record {
+      now = w .now;
+      courses = (ap (λ (x : Walk). x .courses) e) i;
+      started = (ap (λ (x : Walk). x .started) e) i;
+      fates = (fated 7 h) i;
+      acted = (more 7) i;
+    }
+
+    changed : (next : UnderWay) → w .acted < 40 → w .started < 41 →
+        replacedBy w next ≡ walkOf next (record { marks = ms ++ (mark 0 o ∷ []); courses = (us ++ (w .now ∷ [])) ++ (next ∷ []) })
+    unfolding walkOf replacedBy
+    changed next h k = λ i. record {
+      now = next;
+      courses = (
+          ap (λ (x : Walk). set (x .courses) (x .started) (next .course)) e
+          ∙ map-push courseOf noCourse 41 (us ++ (w .now ∷ [])) next (omega (arith, ap (λ (x : Walk). x .started) e))
+          ) i;
+      started = (ap (λ (x : Walk). x .started + 1) e ∙ one-more (us ++ (w .now ∷ [])) next) i;
+      fates = (fated 0 h) i;
+      acted = (more 0) i;
+    }
+
+  pub going-next : (w : Walk) (o : Numbered) (os : List Numbered) (whole : Followed) → w .acted < 40 → w .started < 41 → Going w (o ∷ os) whole → Going (actedOn u w o) os whole
+  unfolding actedOn follow goesOn replaces wentOn replacedBy
+  going-next w o os whole h k g =
+      let s : State = stateAt byRule u (w .now) (acting o) in
+      go (begun u (w .now) o s) (idle (o .instruction .meaning .effect) (o .instruction .level) (s .level) (w .now .maximised)) (g .courses) (g .marks)
+    where
+      go : (next : UnderWay) (b : Bool) →
+          (let f : Followed = elim b [ true ↦ goesOn o (follow byRule u (w .now) os) | false ↦ replaces (w .now) o (follow byRule u next os) ] in g .us ++ f .courses ≡ whole .courses) →
+          (let f : Followed = elim b [ true ↦ goesOn o (follow byRule u (w .now) os) | false ↦ replaces (w .now) o (follow byRule u next os) ] in g .ms ++ f .marks ≡ whole .marks) →
+          Going (pick b (wentOn w) (replacedBy w next)) os whole
+      go next true c m = record {
+        us = g .us;
+        ms = g .ms ++ (mark 7 o ∷ []);
+        courses = c;
+        marks = append-one (g .ms) (mark 7 o) (follow byRule u (w .now) os .marks) ∙ m;
+        holds = held-on w o (g .us) (g .ms) (g .holds) h;
+      }
+      go next false c m = record {
+        us = g .us ++ (w .now ∷ []);
+        ms = g .ms ++ (mark 0 o ∷ []);
+        courses = append-one (g .us) (w .now) (follow byRule u next os .courses) ∙ c;
+        marks = append-one (g .ms) (mark 0 o) (follow byRule u next os .marks) ∙ m;
+        holds = changed w o (g .us) (g .ms) (g .holds) next h k;
+      }
+
+  pub going-end : (now : UnderWay) (w : Walk) (whole : Followed) → Going w [] whole → w ≡ walkOf (lastOf now (whole .courses)) whole
+  unfolding follow
+  going-end now w whole g =
+      let last : w .now ≡ lastOf now (whole .courses) = sym (last-one now (w .now) (g .us)) ∙ ap (lastOf now) (g .courses) in
+      let marks : g .ms ≡ whole .marks = sym (append-nil (g .ms)) ∙ g .marks in
+      g .holds ∙ (λ i. walkOf (last i) (record { marks = marks i; courses = (g .courses) i }))
+
+  -- where nobody is left
+  pub going-out : (now : UnderWay) (w : Walk) (left : List Numbered) (whole : Followed) → left ≡ [] → Going w left whole → w ≡ walkOf (lastOf now (whole .courses)) whole
+  going-out now w left whole e g = going-end now w whole (rw e at g)
+
+  module _ (w : Walk) (o : Numbered) (s : State) (r : Bool) (e : s ≡ stateAt byRule u (w .now) (acting o))
+      (f : r ≡ idle (o .instruction .meaning .effect) (o .instruction .level) (s .level) (w .now .maximised)) where
+    pub acts-idle : r ≡ true → wentOn w ≡ actedOn u w o
+    unfolding actedOn
+    acts-idle t = rw (sym e, sym f, t) refl
+
+    pub acts-new : r ≡ false → replacedBy w (begun u (w .now) o s) ≡ actedOn u w o
+    unfolding actedOn
+    acts-new t = rw (sym e, sym f, t) refl
+
+  module _ (w : Walk) (o : Numbered) where
+    pub acted-more : (actedOn u w o .acted ≡ w .acted + 1) × (actedOn u w o .started ≤ w .started + 1)
+    unfolding actedOn wentOn replacedBy
+    acted-more = go (idle (o .instruction .meaning .effect) (o .instruction .level) (stateAt byRule u (w .now) (acting o) .level) (w .now .maximised))
+      where
+        go : (b : Bool) → (pick b (wentOn w) (replacedBy w (begun u (w .now) o (stateAt byRule u (w .now) (acting o)))) .acted ≡ w .acted + 1)
+            × (pick b (wentOn w) (replacedBy w (begun u (w .now) o (stateAt byRule u (w .now) (acting o)))) .started ≤ w .started + 1)
+        go true = (refl, omega arith)
+        go false = (refl, omega arith)

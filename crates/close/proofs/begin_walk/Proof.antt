@@ -1,0 +1,25 @@
+use mathlib.Core.Path.{_≡_, refl, ap, sym, _∙_}
+use Rattle.close.specs.Walk.{walkOf}
+use Rattle.level.specs.Lists.{filled}
+use borrow.Author.Needs.{needs}
+use Rattle.close.proofs.begin_walk.Statement.{statement}
+use Rattle.close.proofs.begin_walk.Tie as tie
+use Rattle.close.proofs.begin_walk.Reads as reads
+use Rattle.close.proofs.begin_walk.Lts as lts
+use Rattle.close.proofs.no_course.Reads as no-course-reads
+
+-- src/lib.rt:439:9
+no-course-requires : tie.Need-no-course-requires
+no-course-requires c κs = search needs
+
+-- src/lib.rt:442:5
+array-set-from-courses : tie.Need-array-set-from-courses
+array-set-from-courses c = search needs
+
+-- src/lib.rt:436:1
+returns : tie.Need-returns
+unfolding walkOf filled
+returns c = rw (c .before .no-course .ensures) refl
+
+pub begin-walk-spec : {M : Type 1} → statement M
+begin-walk-spec = tie.close (tie.spec no-course-requires array-set-from-courses returns)

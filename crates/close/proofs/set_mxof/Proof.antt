@@ -1,0 +1,19 @@
+use mathlib.Core.Path.{_≡_, refl, ap, sym, _∙_}
+use Rattle.profile.specs.Effects.{setting}
+use borrow.Author.Needs.{needs}
+use Rattle.close.proofs.set_mxof.Statement.{statement}
+use Rattle.close.proofs.set_mxof.Tie as tie
+use Rattle.close.proofs.set_mxof.Reads as reads
+use Rattle.close.proofs.set_mxof.Lts as lts
+
+-- src/lib.rt:178:15
+element-copy-out-t9 : tie.Need-element-copy-out-t9
+element-copy-out-t9 c = search needs
+
+-- src/lib.rt:163:1
+returns : tie.Need-returns
+unfolding setting
+returns c = refl
+
+pub set-mxof-spec : {M : Type 1} → statement M
+set-mxof-spec = tie.close (tie.spec element-copy-out-t9 returns)

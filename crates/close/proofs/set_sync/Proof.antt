@@ -1,0 +1,30 @@
+use mathlib.Core.Path.{_≡_, refl, ap, sym, _∙_}
+use Rattle.profile.specs.Effects.{setting, syncTarget}
+use borrow.Author.Needs.{needs}
+use Rattle.close.proofs.set_sync.Statement.{statement}
+use Rattle.close.proofs.set_sync.Tie as tie
+use Rattle.close.proofs.set_sync.Reads as reads
+use Rattle.close.proofs.set_sync.Lts as lts
+use Rattle.close.proofs.heat_by.Reads as heat-by-reads
+use Rattle.close.proofs.larger.Reads as larger-reads
+use Rattle.close.proofs.smaller.Reads as smaller-reads
+
+-- src/lib.rt:148:9
+larger-requires : tie.Need-larger-requires
+larger-requires c κs = search needs
+
+-- src/lib.rt:149:9
+smaller-requires : tie.Need-smaller-requires
+smaller-requires c κs = search needs
+
+-- src/lib.rt:150:9
+heat-by-requires : tie.Need-heat-by-requires
+heat-by-requires c κs = search needs
+
+-- src/lib.rt:140:1
+returns : tie.Need-returns
+unfolding setting syncTarget
+returns c = rw (c .heat-by .ensures, c .before .smaller .ensures, c .before .before .larger .ensures)
+
+pub set-sync-spec : {M : Type 1} → statement M
+set-sync-spec = tie.close (tie.spec larger-requires smaller-requires heat-by-requires returns)

@@ -1,0 +1,83 @@
+use Prim.Native.Nat.{_≤_, _<_, _-_}
+use mathlib.Core.Path.{_≡_, refl, sym, _∙_}
+use native.Mathlib.Omega.{arith}
+use borrow.Author.Needs.{needs}
+use Rattle.trajectory.proofs.Goes.{Goes}
+use Rattle.trajectory.specs.Ways.{headed, listsIn}
+use Rattle.level.specs.Level.{grains}
+use Rattle.close.proofs.Watching.{Watched, watched-start, watched-goes, watched-on, watched-end}
+use Rattle.close.proofs.state_after.Statement.{statement}
+use Rattle.close.proofs.state_after.Tie as tie
+use Rattle.close.proofs.state_after.Reads as reads
+use Rattle.close.proofs.state_after.Lts as lts
+use Rattle.close.proofs.off_between.Reads as off-between-reads
+use Rattle.close.proofs.off_starting.Reads as off-starting-reads
+use Rattle.trajectory.proofs.begin_at.Reads as begin-at-reads
+use Rattle.trajectory.proofs.is_rising.Reads as is-rising-reads
+use Rattle.trajectory.proofs.walk_on.Reads as walk-on-reads
+
+abbrev Inv-loop : tie.InvT-loop
+Inv-loop u c before k up p₀ off₀ p off = Watched u c before k up p off
+
+abbrev μ-loop : tie.MeasureT-loop
+μ-loop u c before k up p₀ off₀ p off = k - p .second
+
+gone : (c : tie.After-walk-on Inv-loop μ-loop) →
+    let s = c .before .before .before .before .before .before .before in
+    Goes (headed (c .before .before .before .before .before .before .is-rising .result)) (listsIn (s .args .u) (s .args .c)) (grains (s .args .c .target)) (s .args .k) (c .before .before .before .loop .p) (c .walk-on .result)
+gone c = rw (c .walk-on .ensures) (watched-goes _ _ _ _ _ _ _ (c .before .before .before .loop .inv) (c .before .if1 .taken))
+
+-- src/lib.rt:369:9
+is-rising-requires : tie.Need-is-rising-requires Inv-loop μ-loop
+is-rising-requires c κs = search needs
+
+-- src/lib.rt:370:9
+begin-at-requires : tie.Need-begin-at-requires Inv-loop μ-loop
+begin-at-requires c κs = search needs
+
+-- src/lib.rt:371:9
+off-starting-requires : tie.Need-off-starting-requires Inv-loop μ-loop
+off-starting-requires c κs = search needs
+
+-- src/lib.rt:372:5
+loop-holds : tie.Need-loop-holds Inv-loop μ-loop
+loop-holds c =
+    let s = c .before .before .before in
+    rw (c .before .begin-at .ensures, c .off-starting .ensures) (watched-start (s .args .u) (s .args .c) (s .args .before) (s .args .k) _ (c .before .before .is-rising .ensures))
+
+-- src/lib.rt:373:13
+walk-on-requires : tie.Need-walk-on-requires Inv-loop μ-loop
+walk-on-requires c κs = (c .if1 .taken, c .before .before .loop .inv .short)
+
+-- src/lib.rt:374:9
+off-between-requires : tie.Need-off-between-requires Inv-loop μ-loop
+off-between-requires c κs = let g = gone c in omega (arith, g .later)
+
+-- src/lib.rt:372:5
+loop-less : tie.Need-loop-less Inv-loop μ-loop
+loop-less c = let g = gone (c .before) in omega (arith, g .later, g .within)
+
+-- src/lib.rt:372:5
+loop-again : tie.Need-loop-again Inv-loop μ-loop
+loop-again c =
+    watched-on _ _ _ _ _ _ _ (c .before .before .before .before .loop .inv) (c .before .before .if1 .taken) _ _ (c .before .walk-on .ensures) (c .off-between .ensures)
+
+-- src/lib.rt:366:1
+returns : tie.Need-returns Inv-loop μ-loop
+returns c = watched-end _ _ _ _ _ _ _ (c .before .before .loop .inv) (omega arith)
+
+pub state-after-spec : {M : Type 1} → statement M
+state-after-spec =
+    tie.close
+    (tie.spec
+    Inv-loop
+    μ-loop
+    is-rising-requires
+    begin-at-requires
+    off-starting-requires
+    loop-holds
+    walk-on-requires
+    off-between-requires
+    loop-less
+    loop-again
+    returns)

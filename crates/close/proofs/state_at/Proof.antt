@@ -1,0 +1,25 @@
+use mathlib.Core.Path.{_≡_, refl, ap, sym, _∙_}
+use Rattle.profile.specs.Effects.{stateAt}
+use borrow.Author.Needs.{needs}
+use Rattle.close.proofs.state_at.Statement.{statement}
+use Rattle.close.proofs.state_at.Tie as tie
+use Rattle.close.proofs.state_at.Reads as reads
+use Rattle.close.proofs.state_at.Lts as lts
+use Rattle.close.proofs.seconds_from.Reads as seconds-from-reads
+use Rattle.close.proofs.state_after.Reads as state-after-reads
+
+-- src/lib.rt:398:9
+seconds-from-requires : tie.Need-seconds-from-requires
+seconds-from-requires c κs = search needs
+
+-- src/lib.rt:399:5
+state-after-requires : tie.Need-state-after-requires
+state-after-requires c κs = search needs
+
+-- src/lib.rt:394:1
+returns : tie.Need-returns
+unfolding stateAt
+returns c = rw (c .state-after .ensures, c .before .seconds-from .ensures)
+
+pub state-at-spec : {M : Type 1} → statement M
+state-at-spec = tie.close (tie.spec seconds-from-requires state-after-requires returns)

@@ -1,0 +1,4 @@
+pub mod Watching
+pub mod Walk
+pub mod Laying
+pub mod Finding

@@ -1,0 +1,254 @@
+-- The cases of steps 2 to 4, each with its conditions as plain facts.
+-- Assumes nothing.
+use mathlib.Core.Path.{_≡_, refl, sym, ap, _∙_}
+use mathlib.Core.List.{List, [], _∷_, _++_, map}
+use mathlib.Core.Bool.{Bool, true, false}
+use Prim.Native.Nat.{ℕ, zero, suc, _+_, _-_, _≤_, _<_}
+use native.Mathlib.Numerals.{add-one}
+use native.Mathlib.Omega.{arith}
+use lib.Dec.{eqb}
+use lib.ListN.{length, take, drop, getD, set, replicate, length-append, List·getD-eq-default}
+use lib.Seq.{take-suc, set-out, length-take-le, getD-take}
+use borrow.Author.Tests.{lt-ltb, le-ltb, le-leb, lt-leb, eq-eqb, ne-eqb}
+use Rattle.level.specs.Choice.{pick}
+use Rattle.level.specs.Lists.{some, filled}
+use Rattle.records.specs.declared.Instruction.{Instruction}
+use Rattle.records.specs.Codes.{codeNumber}
+use Rattle.validation.specs.declared.Numbered.{Numbered}
+use Rattle.validation.specs.Kept.{effectiveOf, effectOf, numbered, Mark, mark, superseded, group, usedOf, nextTime, usedFrom, used, repeats, syncWithinHour, fromSync, beforeSync, Checked, failed, checkOne, check, acting, overtaken, lateFate, actors, lateMarks}
+use Rattle.keeping.specs.declared.Checking.{Checking}
+use Rattle.keeping.specs.Outcome.{noNumbered}
+use Rattle.keeping.specs.Working.{stackOf, between, syncPlace, withinHour, setFate, marked, withFate, voided, keeping, noChecking, noneChecked, Tracks, Follows, overtakenBy, settleFate, settled, fatesTo}
+use Rattle.keeping.proofs.Laws.{left-cons, filled-push}
+use Rattle.keeping.proofs.Stack.{stack-push, hour-none, hour-some, before-sync, from-sync}
+
+-- ---- numbers
+pub number-next : (is : List Instruction) (n k i : ℕ) (d : Instruction) → i < n → n ≤ length is →
+    numbered k (drop i (take n is)) ≡ record { number = k; instruction = getD is i d } ∷ numbered (k + 1) (drop (i + 1) (take n is))
+unfolding numbered
+number-next is n k i d h f = rw (left-cons is n i d h f, add-one k)
+
+pub number-none : {is : List Instruction} (k : ℕ) → is ≡ [] → numbered k is ≡ []
+unfolding numbered
+number-none k e = rw e
+
+-- ---- those used
+pub used-stop : (end : ℕ) (os : List Numbered) (m t : ℕ) → end ≤ nextTime end os t → usedFrom end os m t ≡ []
+unfolding usedFrom
+used-stop end os zero t h = refl
+used-stop end os (suc m) t h = rw (le-ltb (nextTime end os t) end h, usedFrom)
+
+used-step : (end : ℕ) (os : List Numbered) (m t : ℕ) → nextTime end os t < end →
+    usedFrom end os (suc m) t ≡ usedOf (group os (nextTime end os t)) ++ usedFrom end os m (suc (nextTime end os t))
+unfolding usedFrom
+used-step end os m t h = rw (lt-ltb (nextTime end os t) end h, usedFrom)
+
+pub used-more : (end : ℕ) (os : List Numbered) (m t : ℕ) → 0 < m → nextTime end os t < end →
+    usedFrom end os m t ≡ usedOf (group os (nextTime end os t)) ++ usedFrom end os (m - 1) (nextTime end os t + 1)
+used-more end os zero t p h = absurd (omega arith)
+used-more end os (suc m) t p h =
+    let e : suc m - 1 ≡ m = omega arith in
+    rw (e, add-one (nextTime end os t)) (used-step end os m t h)
+
+pub used-zero : (end : ℕ) (os : List Numbered) (t : ℕ) → usedFrom end os 0 t ≡ []
+unfolding usedFrom
+used-zero end os t = refl
+
+pub used-begins : (end : ℕ) (os : List Numbered) (n : ℕ) → n ≤ length os → usedFrom end (take n os) (n - 0) 0 ≡ used end (take n os)
+unfolding used
+used-begins end os n h =
+    let e : n - 0 ≡ length (take n os) = omega (arith, length-take-le n os h) in
+    ap (λ (k : ℕ). usedFrom end (take n os) k 0) e
+
+-- ---- fates in an array
+module _ (fates : List ℕ) (number fate : ℕ) where
+  pub set-zero : number ≡ 0 → fates ≡ setFate fates number fate
+  unfolding setFate
+  set-zero e = simp (eq-eqb _ _ e)
+
+  pub set-large : length fates ≡ 40 → 40 < number → fates ≡ setFate fates number fate
+  unfolding setFate
+  set-large l h = let n : number ≡ 0 → ⊥ = omega arith in simp (ne-eqb _ _ n) (sym (set-out fates (number - 1) fate (omega arith)))
+
+  pub set-some : (number ≡ 0 → ⊥) → set fates (number - 1) fate ≡ setFate fates number fate
+  unfolding setFate
+  set-some n = simp (ne-eqb _ _ n)
+
+  pub settle-zero : number ≡ 0 → fates ≡ settleFate fates number fate
+  unfolding settleFate
+  settle-zero e = simp (eq-eqb _ _ e)
+
+  pub settle-large : length fates ≡ 40 → 40 < number → fates ≡ settleFate fates number fate
+  unfolding settleFate
+  settle-large l h =
+      let n : number ≡ 0 → ⊥ = omega arith in
+      simp (ne-eqb _ _ n, List·getD-eq-default fates 0 {n = number - 1} (omega arith))
+
+  pub settle-done : (number ≡ 0 → ⊥) → (getD fates (number - 1) 0 ≡ 2 → ⊥) → fates ≡ settleFate fates number fate
+  unfolding settleFate
+  settle-done n d = simp (ne-eqb _ _ n, ne-eqb _ _ d)
+
+  pub settle-some : (number ≡ 0 → ⊥) → getD fates (number - 1) 0 ≡ 2 → set fates (number - 1) fate ≡ settleFate fates number fate
+  unfolding settleFate
+  settle-some n d = simp (ne-eqb _ _ n, eq-eqb _ _ d)
+
+pub marked-append : (fates : List ℕ) (xs ys : List Mark) → marked fates (xs ++ ys) ≡ marked (marked fates ys) xs
+unfolding marked
+marked-append fates [] ys = refl
+marked-append fates (x ∷ xs) ys = ap (λ (l : List ℕ). setFate l (x .number) (x .fate)) (marked-append fates xs ys)
+
+pub voided-more : (s : Checking) (a d : ℕ) → withFate (voided s a d) (getD (s .kept) (a + d) noNumbered) 4 ≡ voided s a (suc d)
+unfolding withFate voided marked between
+voided-more s a d = refl
+
+pub voided-none : (s : Checking) (a : ℕ) → voided s a 0 ≡ s
+unfolding voided marked between
+voided-none s a = refl
+
+-- ---- step 3
+failed-off : (m : Checked) (o : Numbered) → syncWithinHour (effectiveOf o) (m .kept) ≡ false → failed m o ≡ record { kept = m .kept; marks = mark 5 o ∷ m .marks }
+unfolding failed
+failed-off m o e = rw e
+
+failed-on : (m : Checked) (o : Numbered) → syncWithinHour (effectiveOf o) (m .kept) ≡ true →
+    failed m o ≡ record { kept = beforeSync (m .kept); marks = mark 5 o ∷ (map (mark 4) (fromSync (m .kept)) ++ m .marks) }
+unfolding failed
+failed-on m o e = rw e
+
+module _ (s : Checking) (o : Numbered) where
+  tracks-fate : (fate : ℕ) (m : Checked) → Tracks s m → Tracks (withFate s o fate) (record { kept = m .kept; marks = mark fate o ∷ m .marks })
+  unfolding withFate marked
+  tracks-fate fate m t = record { stack = t .stack; settled = ap (λ (l : List ℕ). setFate l (o .number) fate) (t .settled) }
+
+  pub failed-none : syncPlace (s .kept) (s .height) ≡ 0 → Follows s (withFate s o 5) (λ (m : Checked). failed m o)
+  failed-none p m t =
+      let e : syncWithinHour (effectiveOf o) (m .kept) ≡ false = ap (syncWithinHour (effectiveOf o)) (sym (t .stack)) ∙ hour-none (s .kept) (effectiveOf o) (s .height) p in
+      rw (failed-off m o e) (tracks-fate 5 m t)
+
+  pub failed-late : 0 < syncPlace (s .kept) (s .height) → withinHour (getD (s .kept) (syncPlace (s .kept) (s .height) - 1) noNumbered) o ≡ false → Follows s (withFate s o 5) (λ (m : Checked). failed m o)
+  unfolding withinHour
+  failed-late p w m t =
+      let e : syncWithinHour (effectiveOf o) (m .kept) ≡ false = ap (syncWithinHour (effectiveOf o)) (sym (t .stack)) ∙ (hour-some (s .kept) (effectiveOf o) (s .height) p ∙ w) in
+      rw (failed-off m o e) (tracks-fate 5 m t)
+
+  pub failed-void : 0 < syncPlace (s .kept) (s .height) → withinHour (getD (s .kept) (syncPlace (s .kept) (s .height) - 1) noNumbered) o ≡ true →
+      Follows s
+      (record {
+        kept = s .kept;
+        height = syncPlace (s .kept) (s .height) - 1;
+        fates = withFate (voided s (syncPlace (s .kept) (s .height) - 1) (s .height - (syncPlace (s .kept) (s .height) - 1))) o 5 .fates;
+      })
+      (λ (m : Checked). failed m o)
+  unfolding withinHour withFate voided marked
+  failed-void p w m t =
+      let e : syncWithinHour (effectiveOf o) (m .kept) ≡ true = ap (syncWithinHour (effectiveOf o)) (sym (t .stack)) ∙ (hour-some (s .kept) (effectiveOf o) (s .height) p ∙ w) in
+      let voids = between (s .kept) (syncPlace (s .kept) (s .height) - 1) (s .height - (syncPlace (s .kept) (s .height) - 1)) in
+      let f : fromSync (m .kept) ≡ voids = ap fromSync (sym (t .stack)) ∙ from-sync (s .kept) (s .height) p in
+      let g : marked (s .fates) (map (mark 4) voids) ≡ marked (replicate 40 2) (map (mark 4) (fromSync (m .kept)) ++ m .marks) =
+      ap (λ (l : List ℕ). marked l (map (mark 4) voids)) (t .settled)
+      ∙ (sym (marked-append (replicate 40 2) (map (mark 4) voids) (m .marks)) ∙ ap (λ (l : List Numbered). marked (replicate 40 2) (map (mark 4) l ++ m .marks)) (sym f)) in
+      rw (failed-on m o e)
+      (record {
+        stack = sym (before-sync (s .kept) (s .height)) ∙ ap beforeSync (t .stack);
+        settled = ap (λ (l : List ℕ). setFate l (o .number) 5) g;
+      })
+
+  pub check-fail : {r : Checking} → codeNumber (effectOf o) ≡ 7 → Follows s r (λ (m : Checked). failed m o) → Follows s r (λ (m : Checked). checkOne m o)
+  unfolding checkOne
+  check-fail e f m t = let q : checkOne m o ≡ failed m o = simp (eq-eqb _ _ e) in rw q (f m t)
+
+  pub check-repeat : (codeNumber (effectOf o) ≡ 7 → ⊥) → repeats o (stackOf (s .kept) (s .height)) ≡ true → Follows s (withFate s o 3) (λ (m : Checked). checkOne m o)
+  unfolding checkOne
+  check-repeat n r m t =
+      let e : repeats o (m .kept) ≡ true = ap (repeats o) (sym (t .stack)) ∙ r in
+      let q : checkOne m o ≡ record { kept = m .kept; marks = mark 3 o ∷ m .marks } = simp (ne-eqb _ _ n, e) in
+      rw q (tracks-fate 3 m t)
+
+  pub check-keep : s .height < length (s .kept) → (codeNumber (effectOf o) ≡ 7 → ⊥) → repeats o (stackOf (s .kept) (s .height)) ≡ false → Follows s (keeping s o) (λ (m : Checked). checkOne m o)
+  unfolding checkOne keeping
+  check-keep h n r m t =
+      let e : repeats o (m .kept) ≡ false = ap (repeats o) (sym (t .stack)) ∙ r in
+      let q : checkOne m o ≡ record { kept = o ∷ m .kept; marks = m .marks } = simp (ne-eqb _ _ n, e) in
+      rw q (record { stack = stack-push (s .kept) (s .height) o h ∙ ap (λ (l : List Numbered). o ∷ l) (t .stack); settled = t .settled })
+
+check-last : (m : Checked) (xs : List Numbered) (x : Numbered) → check m (xs ++ (x ∷ [])) ≡ checkOne (check m xs) x
+unfolding check
+check-last m [] x = refl
+check-last m (y ∷ ys) x = check-last (checkOne m y) ys x
+
+pub check-none : Tracks noChecking (check noneChecked [])
+unfolding noChecking check stackOf marked
+check-none = record { stack = refl; settled = refl }
+
+pub check-more : (m : Checked) (os : List Numbered) (i : ℕ) → i < length os → check m (take (i + 1) os) ≡ checkOne (check m (take i os)) (getD os i noNumbered)
+check-more m os i h = rw (add-one, take-suc os i noNumbered) (check-last m (take i os) (getD os i noNumbered))
+
+-- ---- step 4
+pub overtaken-none : {os : List Numbered} (own : ℕ) → os ≡ [] → overtakenBy own os ≡ false
+unfolding overtakenBy some
+overtaken-none own e = rw e
+
+module _ (ks : List Numbered) (n : ℕ) (fits : n ≤ length ks) where
+  pub overtaken-here : (own i : ℕ) → i < n → acting (getD ks i noNumbered) ≤ own → overtakenBy own (drop i (take n ks)) ≡ true
+  unfolding overtakenBy some
+  overtaken-here own i h e = rw (left-cons ks n i noNumbered h fits) (simp (le-leb _ _ e))
+
+  pub overtaken-next : (own i : ℕ) → i < n → own < acting (getD ks i noNumbered) → overtakenBy own (drop i (take n ks)) ≡ overtakenBy own (drop (i + 1) (take n ks))
+  unfolding overtakenBy some
+  overtaken-next own i h e = rw (left-cons ks n i noNumbered h fits) (simp (lt-leb _ _ e))
+
+  pub actors-next : (end i : ℕ) → i < n →
+      actors end (drop i (take n ks))
+      ≡ pick (eqb (lateFate end (getD ks i noNumbered) (drop (i + 1) (take n ks))) 0) (getD ks i noNumbered ∷ []) [] ++ actors end (drop (i + 1) (take n ks))
+  unfolding actors
+  actors-next end i h = rw (left-cons ks n i noNumbered h fits) (go (eqb (lateFate end (getD ks i noNumbered) (drop (i + 1) (take n ks))) 0))
+    where
+      go : (b : Bool) → pick b (getD ks i noNumbered ∷ actors end (drop (i + 1) (take n ks))) (actors end (drop (i + 1) (take n ks))) ≡ pick b (getD ks i noNumbered ∷ []) [] ++ actors end (drop (i + 1) (take n ks))
+      go true = refl
+      go false = refl
+
+  pub settled-next : (end i : ℕ) (fates : List ℕ) → i < n →
+      settled fates (lateMarks end (drop i (take n ks)))
+      ≡ settled (settleFate fates (getD ks i noNumbered .number) (lateFate end (getD ks i noNumbered) (drop (i + 1) (take n ks)))) (lateMarks end (drop (i + 1) (take n ks)))
+  unfolding settled lateMarks
+  settled-next end i fates h = rw (left-cons ks n i noNumbered h fits)
+
+-- ---- the fates by number
+fates-count : (os : List Numbered) (later : List ℕ) (i : ℕ) → length (fatesTo os later i) ≡ i
+unfolding fatesTo
+fates-count os later zero = refl
+fates-count os later (suc i) = simp length-append (omega (arith, fates-count os later i))
+
+fates-step : (os : List Numbered) (later : List ℕ) (i : ℕ) → fatesTo os later (i + 1) ≡ fatesTo os later i ++ (pick (superseded os (getD os i noNumbered)) 1 (getD later i 0) ∷ [])
+unfolding fatesTo
+fates-step os later i = rw add-one
+
+pub fates-more : (os : List Numbered) (n i : ℕ) (later : List ℕ) → i < n → i < 40 →
+    set (filled 40 0 (fatesTo (take n os) later i)) i (pick (superseded (take n os) (getD os i noNumbered)) 1 (getD later i 0)) ≡ filled 40 0 (fatesTo (take n os) later (i + 1))
+fates-more os n i later h k =
+    let xs = fatesTo (take n os) later i in
+    let v : ℕ = pick (superseded (take n os) (getD os i noNumbered)) 1 (getD later i 0) in
+    let e : length xs ≡ i = fates-count (take n os) later i in
+    let p : set (filled 40 0 xs) i v ≡ filled 40 0 (xs ++ (v ∷ [])) = ap (λ (j : ℕ). set (filled 40 0 xs) j v) (sym e) ∙ filled-push 0 40 xs v (omega arith) in
+    p ∙ ap (filled 40 0) (ap (λ (o : Numbered). xs ++ (pick (superseded (take n os) o) 1 (getD later i 0) ∷ [])) (sym (getD-take n os i noNumbered h)) ∙ sym (fates-step (take n os) later i))
+
+pub actors-none : {os : List Numbered} (end : ℕ) → os ≡ [] → actors end os ≡ []
+unfolding actors
+actors-none end e = rw e
+
+pub settled-none : {os : List Numbered} (end : ℕ) (fates : List ℕ) → os ≡ [] → settled fates (lateMarks end os) ≡ fates
+unfolding settled lateMarks
+settled-none end fates e = rw e
+
+module _ (end : ℕ) (o : Numbered) (later : List Numbered) where
+  pub late-six : overtaken o later ≡ true → 6 ≡ lateFate end o later
+  unfolding lateFate
+  late-six e = rw e
+
+  pub late-eight : overtaken o later ≡ false → end ≤ acting o → 8 ≡ lateFate end o later
+  unfolding lateFate
+  late-eight e h = simp (e, le-leb _ _ h)
+
+  pub late-acts : overtaken o later ≡ false → acting o < end → 0 ≡ lateFate end o later
+  unfolding lateFate
+  late-acts e h = simp (e, lt-leb _ _ h)

@@ -1,0 +1,21 @@
+use mathlib.Core.Path.{refl}
+use Rattle.keeping.specs.Working.{keeping}
+use borrow.Author.Needs.{needs}
+use Rattle.keeping.proofs.with_kept.Statement.{statement}
+use Rattle.keeping.proofs.with_kept.Tie as tie
+
+mul-o : tie.Need-mul-o
+mul-o c = search needs
+
+element-set-from-o : tie.Need-element-set-from-o
+element-set-from-o c = search needs
+
+add-next : tie.Need-add-next
+add-next c = search needs
+
+returns : tie.Need-returns
+unfolding keeping
+returns c = refl
+
+pub with-kept-spec : {M : Type 1} → statement M
+with-kept-spec = tie.close (tie.spec mul-o element-set-from-o add-next returns)

@@ -1,0 +1,131 @@
+-- What the code of steps 1 to 4 works with, beside the definitions.
+-- Assumes nothing.
+use Prim.Native.Nat.{ℕ, zero, suc, _+_, _-_, min}
+use mathlib.Core.Path.{_≡_}
+use mathlib.Core.List.{List, [], _∷_, _++_, map}
+use mathlib.Core.Bool.{Bool, _&&_, not}
+use lib.Dec.{leb, ltb, eqb}
+use lib.ListN.{length, set, getD, replicate}
+use Rattle.level.specs.Lists.{filled, those, some}
+use Rattle.level.specs.Choice.{pick}
+use Rattle.records.specs.declared.Effect.the-variants.{Sync}
+use Rattle.records.specs.Codes.{codeNumber, same}
+use Rattle.validation.specs.declared.Numbered.{Numbered}
+use Rattle.validation.specs.Kept.{effectiveOf, effectOf, superseded, firstOne, Mark, mark, Checked, acting}
+use Rattle.keeping.specs.Outcome.{noNumbered}
+use Rattle.keeping.specs.declared.Checking.{Checking}
+use Rattle.keeping.specs.declared.Sequence.{Sequence}
+use Rattle.keeping.specs.declared.Found.{Found}
+use Rattle.keeping.specs.declared.Found.the-variants.{One, Nothing}
+
+-- a sequence that holds these; its list; with one more
+abbrev pub holding : List Numbered → Sequence
+holding xs = record { items = filled 40 noNumbered xs; count = length xs }
+
+unfoldable pub pushed : Sequence → Numbered → Sequence
+pushed s o = record { items = set (s .items) (s .count) o; count = s .count + 1 }
+
+-- what was found, as a list
+abbrev pub foundList : Found → List Numbered
+foundList (One o) = o ∷ []
+foundList Nothing = []
+
+unfoldable pub joined : Sequence → Found → Sequence
+joined s (One o) = pushed s o
+joined s Nothing = s
+
+-- a sequence that holds the beginning of a whole; the rest of it is still to come
+pub record Begun (s : Sequence) (rest whole : List Numbered) : Type 0 where
+  pub xs : List Numbered
+  pub holds : s ≡ holding xs
+  pub parts : xs ++ rest ≡ whole
+
+-- the earliest entered of the code with this number, where it is present
+unfoldable pub earliest : ℕ → List Numbered → List Numbered
+earliest code g = firstOne (those (λ (o : Numbered). eqb (codeNumber (effectOf o)) code) g)
+
+-- left at the effective time t
+unfoldable pub inGroup : List Numbered → ℕ → Numbered → Bool
+inGroup os t o = eqb (effectiveOf o) t && not (superseded os o)
+
+-- the least so far, with one more looked at
+unfoldable pub earlierOf : Numbered → ℕ → ℕ → ℕ
+earlierOf o t best = pick (leb t (effectiveOf o)) (min (effectiveOf o) best) best
+
+-- x has the effective time of o and a later issue time
+unfoldable pub supersedesOf : Numbered → Numbered → Bool
+supersedesOf x o = eqb (effectiveOf x) (effectiveOf o) && ltb (o .instruction .issue) (x .instruction .issue)
+
+-- ---- step 3: the kept ones stand in an array, the latest last; fates by number in another, 2 where none is settled
+
+-- the first h places, the latest first
+unfoldable pub stackOf : List Numbered → ℕ → List Numbered
+stackOf ks zero = []
+stackOf ks (suc h) = getD ks h noNumbered ∷ stackOf ks h
+
+-- d places from a on, the latest first
+unfoldable pub between : List Numbered → ℕ → ℕ → List Numbered
+between ks a zero = []
+between ks a (suc d) = getD ks (a + d) noNumbered ∷ between ks a d
+
+-- how many stand up to the latest SYNC; 0 where there is none
+unfoldable pub syncPlace : List Numbered → ℕ → ℕ
+syncPlace ks zero = 0
+syncPlace ks (suc h) = pick (same (effectOf (getD ks h noNumbered)) Sync) (suc h) (syncPlace ks h)
+
+unfoldable pub withinHour : Numbered → Numbered → Bool
+withinHour k o = leb (effectiveOf o) (effectiveOf k + 3600)
+
+-- one fate set; the marks set, the first of them last
+unfoldable pub setFate : List ℕ → ℕ → ℕ → List ℕ
+setFate fates number fate = pick (eqb number 0) fates (set fates (number - 1) fate)
+
+unfoldable pub marked : List ℕ → List Mark → List ℕ
+marked fates [] = fates
+marked fates (m ∷ ms) = setFate (marked fates ms) (m .number) (m .fate)
+
+unfoldable pub withFate : Checking → Numbered → ℕ → Checking
+withFate s o fate = record { kept = s .kept; height = s .height; fates = setFate (s .fates) (o .number) fate }
+
+-- with fate 4 for d of those kept, from a on
+unfoldable pub voided : Checking → ℕ → ℕ → Checking
+voided s a d = record { kept = s .kept; height = s .height; fates = marked (s .fates) (map (mark 4) (between (s .kept) a d)) }
+
+unfoldable pub keeping : Checking → Numbered → Checking
+keeping s o = record { kept = set (s .kept) (s .height) o; height = s .height + 1; fates = s .fates }
+
+unfoldable pub noChecking : Checking
+noChecking = record { kept = replicate 40 noNumbered; height = 0; fates = replicate 40 2 }
+
+abbrev pub noneChecked : Checked
+noneChecked = record { kept = []; marks = [] }
+
+-- the arrays say what the definition's lists say
+pub record Tracks (s : Checking) (m : Checked) : Type 0 where
+  pub stack : stackOf (s .kept) (s .height) ≡ m .kept
+  pub settled : s .fates ≡ marked (replicate 40 2) (m .marks)
+
+abbrev pub Follows : Checking → Checking → (Checked → Checked) → Type 0
+Follows s r f = (m : Checked) → Tracks s m → Tracks r (f m)
+
+-- ---- step 4 and the fates
+
+-- one of these acts at the time own or before
+unfoldable pub overtakenBy : ℕ → List Numbered → Bool
+overtakenBy own later = some (λ (l : Numbered). leb (acting l) own) later
+
+-- a fate where none is settled; the marks in turn
+unfoldable pub settleFate : List ℕ → ℕ → ℕ → List ℕ
+settleFate fates number fate = pick (eqb number 0) fates (pick (eqb (getD fates (number - 1) 0) 2) (set fates (number - 1) fate) fates)
+
+unfoldable pub settling : Checking → Numbered → ℕ → Checking
+settling s o fate = record { kept = s .kept; height = s .height; fates = settleFate (s .fates) (o .number) fate }
+
+unfoldable pub settled : List ℕ → List Mark → List ℕ
+settled fates [] = fates
+settled fates (m ∷ ms) = settled (settleFate fates (m .number) (m .fate)) ms
+
+-- the first i fates, by what the later steps say
+unfoldable pub fatesTo : List Numbered → List ℕ → ℕ → List ℕ
+fatesTo os later zero = []
+fatesTo os later (suc i) = fatesTo os later i ++ (pick (superseded os (getD os i noNumbered)) 1 (getD later i 0) ∷ [])

@@ -1,0 +1,785 @@
+// Which instructions are kept, steps 1 to 4: over up to forty instructions with their numbers.
+ghost use mathlib.Core.Path.{_≡_};
+ghost use Prim.Native.Nat.{ℕ, _+_, _-_, _<_, _≤_, min};
+ghost use mathlib.Core.List.{[], _∷_, map};
+ghost use mathlib.Core.Bool.{Bool};
+ghost use lib.Dec.{eqb};
+ghost use lib.ListN.{length, take, drop, getD};
+ghost use Rattle.level.specs.Lists.{filled};
+ghost use Rattle.level.specs.Choice.{pick};
+ghost use Rattle.records.specs.declared.Effect.the-variants.{Sync, Desy};
+ghost use Rattle.records.specs.Codes.{codeNumber};
+ghost use Rattle.validation.specs.Kept.{effectOf, superseded, group, goesBefore, highest, orElse, present, carrying, merged, usedOf, nextTime, numbered, used, repeats, Checked, mark, failed, checkOne, check, acting, overtaken, lateFate, actors, lateMarks};
+ghost use Rattle.keeping.specs.Outcome.{noNumbered, validationOf};
+ghost use Rattle.keeping.specs.Working.{holding, pushed, foundList, joined, earliest, inGroup, earlierOf, supersedesOf, stackOf, syncPlace, between, setFate, marked, settleFate, settled, voided, settling, withFate, withinHour, keeping, noChecking, noneChecked, Tracks, Follows, fatesTo};
+
+// What steps 1 to 4 come to: the fates by number, those that act in time order, and how many these are.
+pub struct Validation {
+    pub fates: [u8; 40],
+    pub acts: [validation::Numbered; 40],
+    pub acting: usize,
+}
+
+// Some of the instructions, in order: the first `count` places.
+pub struct Sequence {
+    pub items: [validation::Numbered; 40],
+    pub count: usize,
+}
+
+// One of them, or none.
+pub enum Found {
+    One(validation::Numbered),
+    Nothing,
+}
+
+// Step 3 under way: the kept ones, the latest on top, the first `height` places; and the fates by number, 2 where none is settled.
+pub struct Checking {
+    pub kept: [validation::Numbered; 40],
+    pub height: usize,
+    pub fates: [u8; 40],
+}
+
+// The codes that the steps name.
+const TRIP: u8 = 1;
+
+const MWOF: u8 = 2;
+
+const SYNC: u8 = 4;
+
+const DESY: u8 = 6;
+
+const FAIL: u8 = 7;
+
+// ---- codes
+
+// The number of a code.
+fn code_number(e: records::Effect) -> u8
+    ensures { λ r. ⌜ r ≡ codeNumber e ⌝ }
+{
+    match e {
+        records::Effect::Trip => 1,
+        records::Effect::Mwof => 2,
+        records::Effect::Mxon => 3,
+        records::Effect::Sync => 4,
+        records::Effect::Mxof => 5,
+        records::Effect::Desy => 6,
+        records::Effect::Fail => 7,
+    }
+}
+
+// The number of an instruction's code.
+fn code_of(o: validation::Numbered) -> u8
+    ensures { λ r. ⌜ r ≡ codeNumber (effectOf o) ⌝ }
+{
+    let i = o.instruction;
+    let m = i.meaning;
+    let e = m.effect;
+    code_number(e)
+}
+
+// ---- sequences
+
+// A place that holds none.
+fn no_one() -> validation::Numbered
+    ensures { λ r. ⌜ r ≡ noNumbered ⌝ }
+{
+    let effect = records::Effect::Trip;
+    let meaning = records::Meaning {
+        lag: 0,
+        rank: 0,
+        effect,
+    };
+    let instruction = records::Instruction {
+        effective: 0,
+        issue: 0,
+        meaning,
+        level: 0,
+        up: 0,
+        down: 0,
+    };
+    validation::Numbered {
+        number: 0,
+        instruction,
+    }
+}
+
+// None of them.
+fn empty() -> Sequence
+    ensures { λ r. ⌜ r ≡ holding [] ⌝ }
+{
+    let none = no_one();
+    let items = [none; 40];
+    Sequence { items, count: 0 }
+}
+
+// With one more.
+fn push(s: Sequence, o: validation::Numbered) -> Sequence
+    requires { ⌜ s .count < 40 ⌝ }
+    ensures { λ r. ⌜ r ≡ pushed s o ⌝ }
+{
+    let at = s.count;
+    let mut next = s;
+    next.items[at] = o;
+    next.count = at + 1;
+    next
+}
+
+// With one more where the test holds.
+fn push_if(s: Sequence, o: validation::Numbered, test: bool) -> Sequence
+    requires { ⌜ s .count < 40 ⌝ }
+    ensures { λ r. ⌜ r ≡ pick test (pushed s o) s ⌝ }
+{
+    if test {
+        return push(s, o);
+    }
+    s
+}
+
+// With what was found.
+fn push_found(s: Sequence, found: Found) -> Sequence
+    requires { ⌜ s .count < 40 ⌝ }
+    ensures { λ r. ⌜ r ≡ joined s found ⌝ }
+{
+    match found {
+        Found::One(o) => push(s, o),
+        Found::Nothing => s,
+    }
+}
+
+// ---- step 1: of equal effective times only the latest issue time stays
+
+// x has the effective time of o and a later issue time.
+fn supersedes(x: validation::Numbered, o: validation::Numbered) -> bool
+    ensures { λ r. ⌜ r ≡ supersedesOf x o ⌝ }
+{
+    let i = x.instruction;
+    let j = o.instruction;
+    if i.effective == j.effective {
+        return j.issue < i.issue;
+    }
+    false
+}
+
+// Step 1: o is superseded by one of the first n of os.
+fn is_superseded(os: [validation::Numbered; 40], n: usize, o: validation::Numbered) -> bool
+    requires { ⌜ n ≤ 40 ⌝ }
+    ensures { λ r. ⌜ r ≡ superseded (take n os) o ⌝ }
+{
+    let mut i: usize = 0;
+    while i < n {
+        let x = os[i];
+        if supersedes(x, o) {
+            return true;
+        }
+        i += 1;
+    }
+    false
+}
+
+// Left at the effective time t.
+fn in_group(os: [validation::Numbered; 40], n: usize, t: u32, o: validation::Numbered) -> bool
+    requires { ⌜ n ≤ 40 ⌝ }
+    ensures { λ r. ⌜ r ≡ inGroup (take n os) t o ⌝ }
+{
+    let i = o.instruction;
+    if i.effective != t {
+        return false;
+    }
+    !is_superseded(os, n, o)
+}
+
+// Those left at the effective time t.
+fn group_at(os: [validation::Numbered; 40], n: usize, t: u32) -> Sequence
+    requires { ⌜ n ≤ 40 ⌝ }
+    ensures { λ r. ⌜ (r ≡ holding (group (take n os) t)) × (r .count ≤ 40) ⌝ }
+{
+    let mut out = empty();
+    let mut i: usize = 0;
+    while i < n {
+        let o = os[i];
+        let test = in_group(os, n, t, o);
+        out = push_if(out, o, test);
+        i += 1;
+    }
+    out
+}
+
+// ---- step 2: the one that is used of those left at one effective time
+
+// Step 2: x, entered after o, goes before it.
+fn goes_before(x: validation::Numbered, o: validation::Numbered) -> bool
+    ensures { λ r. ⌜ r ≡ goesBefore x o ⌝ }
+{
+    let i = x.instruction;
+    let j = o.instruction;
+    let m = i.meaning;
+    let k = j.meaning;
+    if m.rank < k.rank {
+        return true;
+    }
+    if code_of(x) != MWOF {
+        return false;
+    }
+    if code_of(o) != MWOF {
+        return false;
+    }
+    j.level < i.level
+}
+
+// The one of two that goes before the other; o was entered first.
+fn higher(x: validation::Numbered, o: validation::Numbered) -> validation::Numbered
+    ensures { λ r. ⌜ r ≡ pick (goesBefore x o) x o ⌝ }
+{
+    if goes_before(x, o) {
+        return x;
+    }
+    o
+}
+
+// The highest ranked of a group.
+fn highest_of(g: [validation::Numbered; 40], n: usize) -> validation::Numbered
+    requires { ⌜ (1 ≤ n) × (n ≤ 40) ⌝ }
+    ensures { λ r. ⌜ r ≡ highest (getD g 0 noNumbered) (drop 1 (take n g)) ⌝ }
+{
+    let mut best = g[0];
+    let mut i: usize = 1;
+    while i < n {
+        let x = g[i];
+        best = higher(x, best);
+        i += 1;
+    }
+    best
+}
+
+// The earliest entered of a code.
+fn earliest_of(g: [validation::Numbered; 40], n: usize, code: u8) -> Found
+    requires { ⌜ n ≤ 40 ⌝ }
+    ensures { λ r. ⌜ foundList r ≡ earliest code (take n g) ⌝ }
+{
+    let mut i: usize = 0;
+    while i < n {
+        let o = g[i];
+        if code_of(o) == code {
+            return Found::One(o);
+        }
+        i += 1;
+    }
+    Found::Nothing
+}
+
+// c with the level and the rates of m.
+fn carry(m: validation::Numbered, c: validation::Numbered) -> validation::Numbered
+    ensures { λ r. ⌜ r ≡ carrying m c ⌝ }
+{
+    let i = m.instruction;
+    let j = c.instruction;
+    let meaning = j.meaning;
+    let instruction = records::Instruction {
+        effective: j.effective,
+        issue: j.issue,
+        meaning,
+        level: i.level,
+        up: i.up,
+        down: i.down,
+    };
+    validation::Numbered {
+        number: c.number,
+        instruction,
+    }
+}
+
+// The SYNC of a group, else its DESY.
+fn carrier_of(g: [validation::Numbered; 40], n: usize) -> Found
+    requires { ⌜ n ≤ 40 ⌝ }
+    ensures { λ r. ⌜ foundList r ≡ orElse (present Sync (take n g)) (present Desy (take n g)) ⌝ }
+{
+    let sync = earliest_of(g, n, SYNC);
+    match sync {
+        Found::One(o) => Found::One(o),
+        Found::Nothing => earliest_of(g, n, DESY),
+    }
+}
+
+// The highest ranked of the group; a MWOF goes into the carrier, where there is one.
+fn merge(
+    g: [validation::Numbered; 40],
+    n: usize,
+    highest: validation::Numbered,
+) -> validation::Numbered
+    requires { ⌜ n ≤ 40 ⌝ }
+    ensures { λ r. ⌜ r ∷ [] ≡ merged (take n g) highest ⌝ }
+{
+    if code_of(highest) != MWOF {
+        return highest;
+    }
+    let carrier = carrier_of(g, n);
+    match carrier {
+        Found::One(c) => carry(highest, c),
+        Found::Nothing => highest,
+    }
+}
+
+// The one that is used of a group.
+fn used_of(g: [validation::Numbered; 40], n: usize) -> Found
+    requires { ⌜ n ≤ 40 ⌝ }
+    ensures { λ r. ⌜ foundList r ≡ usedOf (take n g) ⌝ }
+{
+    if n == 0 {
+        return Found::Nothing;
+    }
+    let o = highest_of(g, n);
+    let u = merge(g, n, o);
+    Found::One(u)
+}
+
+// ---- those used, in time order
+
+// The earliest effective time from t on, with o looked at beside the best so far.
+fn earlier(o: validation::Numbered, t: u32, best: u32) -> u32
+    ensures { λ r. ⌜ r ≡ earlierOf o t best ⌝ }
+{
+    let i = o.instruction;
+    if i.effective < t {
+        return best;
+    }
+    if i.effective < best {
+        return i.effective;
+    }
+    best
+}
+
+// The least effective time from t on among the first n of os; the day's end where there is none.
+fn next_time(os: [validation::Numbered; 40], n: usize, t: u32, end: u32) -> u32
+    requires { ⌜ n ≤ 40 ⌝ }
+    ensures { λ r. ⌜ r ≡ nextTime end (take n os) t ⌝ }
+{
+    let mut best = end;
+    let mut i = n;
+    while 0 < i {
+        i -= 1;
+        let o = os[i];
+        best = earlier(o, t, best);
+    }
+    best
+}
+
+// Those used, in the order of their effective times.
+fn used_in(os: [validation::Numbered; 40], n: usize, end: u32) -> Sequence
+    requires { ⌜ n ≤ 40 ⌝ }
+    ensures { λ r. ⌜ (r ≡ holding (used end (take n os))) × (r .count ≤ 40) ⌝ }
+{
+    let mut out = empty();
+    let mut t: u32 = 0;
+    let mut i: usize = 0;
+    while i < n {
+        let next = next_time(os, n, t, end);
+        if end <= next {
+            return out;
+        }
+        let g = group_at(os, n, next);
+        let items = g.items;
+        let u = used_of(items, g.count);
+        out = push_found(out, u);
+        t = next + 1;
+        i += 1;
+    }
+    out
+}
+
+// ---- step 3: in time order, against the last kept one
+
+// The fate of a number; a number that no instruction has is passed over.
+fn put_fate(fates: [u8; 40], number: u32, fate: u8) -> [u8; 40]
+    ensures { λ r. ⌜ r ≡ setFate fates number fate ⌝ }
+{
+    if number == 0 {
+        return fates;
+    }
+    if 40 < number {
+        return fates;
+    }
+    let at = (number - 1) as usize;
+    let mut next = fates;
+    next[at] = fate;
+    next
+}
+
+// With a fate for o.
+fn with_fate(s: Checking, o: validation::Numbered, fate: u8) -> Checking
+    ensures { λ r. ⌜ r ≡ withFate s o fate ⌝ }
+{
+    let kept = s.kept;
+    let before = s.fates;
+    let fates = put_fate(before, o.number, fate);
+    Checking {
+        kept,
+        height: s.height,
+        fates,
+    }
+}
+
+// With o kept, on top.
+fn with_kept(s: Checking, o: validation::Numbered) -> Checking
+    requires { ⌜ s .height < 40 ⌝ }
+    ensures { λ r. ⌜ r ≡ keeping s o ⌝ }
+{
+    let at = s.height;
+    let mut next = s;
+    next.kept[at] = o;
+    next.height = at + 1;
+    next
+}
+
+// Nothing kept, nothing settled.
+fn no_checking() -> Checking
+    ensures { λ r. ⌜ r ≡ noChecking ⌝ }
+{
+    let none = no_one();
+    let kept = [none; 40];
+    let fates = [2u8; 40];
+    Checking {
+        kept,
+        height: 0,
+        fates,
+    }
+}
+
+// o repeats the last kept one: SYNC after SYNC, DESY after DESY, TRIP after TRIP.
+fn is_repeat(kept: [validation::Numbered; 40], height: usize, o: validation::Numbered) -> bool
+    requires { ⌜ height ≤ 40 ⌝ }
+    ensures { λ r. ⌜ r ≡ repeats o (stackOf kept height) ⌝ }
+{
+    if height == 0 {
+        return false;
+    }
+    let last = kept[height - 1];
+    let code = code_of(o);
+    if code != code_of(last) {
+        return false;
+    }
+    if code == SYNC {
+        return true;
+    }
+    if code == DESY {
+        return true;
+    }
+    code == TRIP
+}
+
+// How many are kept up to the latest kept SYNC; 0 where there is none.
+fn latest_sync(kept: [validation::Numbered; 40], height: usize) -> usize
+    requires { ⌜ height ≤ 40 ⌝ }
+    ensures { λ r. ⌜ (r ≡ syncPlace kept height) × (r ≤ height) ⌝ }
+{
+    let mut i = height;
+    while 0 < i {
+        let k = kept[i - 1];
+        if code_of(k) == SYNC {
+            return i;
+        }
+        i -= 1;
+    }
+    0
+}
+
+// The kept one k is at most an hour before o.
+fn within_hour(k: validation::Numbered, o: validation::Numbered) -> bool
+    ensures { λ r. ⌜ r ≡ withinHour k o ⌝ }
+{
+    let i = k.instruction;
+    let j = o.instruction;
+    let a = i.effective as u64;
+    let b = j.effective as u64;
+    b <= a + 3600
+}
+
+// Fate 4 for those kept from one place on.
+fn void_from(s: Checking, from: usize) -> Checking
+    requires { ⌜ (from ≤ s .height) × (s .height ≤ 40) ⌝ }
+    ensures { λ r. ⌜ r ≡ voided s from (s .height - from) ⌝ }
+{
+    let kept = s.kept;
+    let height = s.height;
+    let mut out = s;
+    let mut i = from;
+    while i < height {
+        let k = kept[i];
+        out = with_fate(out, k, 4);
+        i += 1;
+    }
+    out
+}
+
+// A FAIL: fate 5. Where the latest kept SYNC is within the hour, that SYNC and all kept after it get fate 4 and leave the list.
+fn fail_one(s: Checking, o: validation::Numbered) -> Checking
+    requires { ⌜ s .height ≤ 40 ⌝ }
+    ensures { λ r. ⌜ (r .height ≤ s .height) × Follows s r (λ (m : Checked). failed m o) ⌝ }
+{
+    let kept = s.kept;
+    let height = s.height;
+    let place = latest_sync(kept, height);
+    if place == 0 {
+        return with_fate(s, o, 5);
+    }
+    let sync = kept[place - 1];
+    if !within_hour(sync, o) {
+        return with_fate(s, o, 5);
+    }
+    let voided = void_from(s, place - 1);
+    let next = with_fate(voided, o, 5);
+    let fates = next.fates;
+    Checking {
+        kept,
+        height: place - 1,
+        fates,
+    }
+}
+
+// The next one in time order.
+fn check_one(s: Checking, o: validation::Numbered) -> Checking
+    requires { ⌜ s .height < 40 ⌝ }
+    ensures { λ r. ⌜ (r .height ≤ s .height + 1) × Follows s r (λ (m : Checked). checkOne m o) ⌝ }
+{
+    if code_of(o) == FAIL {
+        return fail_one(s, o);
+    }
+    let kept = s.kept;
+    let height = s.height;
+    if is_repeat(kept, height, o) {
+        return with_fate(s, o, 3);
+    }
+    with_kept(s, o)
+}
+
+// Step 3 over the first n of those used.
+fn check_all(os: [validation::Numbered; 40], n: usize) -> Checking
+    requires { ⌜ n ≤ 40 ⌝ }
+    ensures { λ r. ⌜ (r .height ≤ 40) × Tracks r (check noneChecked (take n os)) ⌝ }
+{
+    let mut s = no_checking();
+    let mut i: usize = 0;
+    while i < n {
+        let o = os[i];
+        s = check_one(s, o);
+        i += 1;
+    }
+    s
+}
+
+// Steps 1 to 3 over the first n.
+fn checked_in(os: [validation::Numbered; 40], n: usize, end: u32) -> Checking
+    requires { ⌜ n ≤ 40 ⌝ }
+    ensures { λ r. ⌜ (r .height ≤ 40) × Tracks r (check noneChecked (used end (take n os))) ⌝ }
+{
+    let s = used_in(os, n, end);
+    let items = s.items;
+    check_all(items, s.count)
+}
+
+// ---- step 4: by acting time
+
+// Effective time and lag. The sum of two numbers of a record may pass 32 bits.
+fn acting_time(o: validation::Numbered) -> u64
+    ensures { λ r. ⌜ r ≡ acting o ⌝ }
+{
+    let i = o.instruction;
+    let m = i.meaning;
+    let a = i.effective as u64;
+    let lag = m.lag as u64;
+    a + lag
+}
+
+// One of the kept ones from a place on acts no later than o.
+fn is_overtaken(
+    kept: [validation::Numbered; 40],
+    n: usize,
+    from: usize,
+    o: validation::Numbered,
+) -> bool
+    requires { ⌜ (from ≤ n) × (n ≤ 40) ⌝ }
+    ensures { λ r. ⌜ r ≡ overtaken o (drop from (take n kept)) ⌝ }
+{
+    let own = acting_time(o);
+    let mut i = from;
+    while i < n {
+        let l = kept[i];
+        if acting_time(l) <= own {
+            return true;
+        }
+        i += 1;
+    }
+    false
+}
+
+// The first fate whose condition holds; 0 where neither does.
+fn first_fate(first: bool, fate: u8, second: bool, other: u8) -> u8
+    ensures { λ r. ⌜ r ≡ pick first fate (pick second other 0) ⌝ }
+{
+    if first {
+        return fate;
+    }
+    if second {
+        return other;
+    }
+    0
+}
+
+// The fate that step 4 gives the kept one at a place: 6 where it is overtaken, else 8 where it acts at the day's end or later; 0 where it acts.
+fn late_fate(kept: [validation::Numbered; 40], n: usize, at: usize, end: u32) -> u8
+    requires { ⌜ (at < n) × (n ≤ 40) ⌝ }
+    ensures { λ r. ⌜ r ≡ lateFate end (getD kept at noNumbered) (drop (at + 1) (take n kept)) ⌝ }
+{
+    let o = kept[at];
+    let overtaken = is_overtaken(kept, n, at + 1, o);
+    let last = end as u64;
+    let late = last <= acting_time(o);
+    first_fate(overtaken, 6, late, 8)
+}
+
+// Those that act, in time order.
+fn acts_of(kept: [validation::Numbered; 40], n: usize, end: u32) -> Sequence
+    requires { ⌜ n ≤ 40 ⌝ }
+    ensures { λ r. ⌜ r ≡ holding (actors end (take n kept)) ⌝ }
+{
+    let mut out = empty();
+    let mut i: usize = 0;
+    while i < n {
+        let o = kept[i];
+        let fate = late_fate(kept, n, i, end);
+        out = push_if(out, o, fate == 0);
+        i += 1;
+    }
+    out
+}
+
+// "The first step that settles it counts": a fate that is settled stays.
+fn settle(fates: [u8; 40], number: u32, fate: u8) -> [u8; 40]
+    ensures { λ r. ⌜ r ≡ settleFate fates number fate ⌝ }
+{
+    if number == 0 {
+        return fates;
+    }
+    if 40 < number {
+        return fates;
+    }
+    let at = (number - 1) as usize;
+    if fates[at] != 2 {
+        return fates;
+    }
+    let mut next = fates;
+    next[at] = fate;
+    next
+}
+
+// With a fate for o where none is settled.
+fn settle_one(s: Checking, o: validation::Numbered, fate: u8) -> Checking
+    ensures { λ r. ⌜ r ≡ settling s o fate ⌝ }
+{
+    let kept = s.kept;
+    let before = s.fates;
+    let fates = settle(before, o.number, fate);
+    Checking {
+        kept,
+        height: s.height,
+        fates,
+    }
+}
+
+// The fates with those of step 4.
+fn settle_late(s: Checking, end: u32) -> Checking
+    requires { ⌜ s .height ≤ 40 ⌝ }
+    ensures { λ r. ⌜ r .fates ≡ settled (s .fates) (lateMarks end (take (s .height) (s .kept))) ⌝ }
+{
+    let kept = s.kept;
+    let height = s.height;
+    let mut out = s;
+    let mut i: usize = 0;
+    while i < height {
+        let o = kept[i];
+        let fate = late_fate(kept, height, i, end);
+        out = settle_one(out, o, fate);
+        i += 1;
+    }
+    out
+}
+
+// ---- the four steps together
+
+// Fate 1 where step 1 settles it, else what the later steps say.
+fn final_fate(os: [validation::Numbered; 40], n: usize, o: validation::Numbered, later: u8) -> u8
+    requires { ⌜ n ≤ 40 ⌝ }
+    ensures { λ r. ⌜ r ≡ pick (superseded (take n os) o) 1 later ⌝ }
+{
+    if is_superseded(os, n, o) {
+        return 1;
+    }
+    later
+}
+
+// The fates by number, of the first n.
+fn fates_of(os: [validation::Numbered; 40], n: usize, later: [u8; 40]) -> [u8; 40]
+    requires { ⌜ n ≤ 40 ⌝ }
+    ensures { λ r. ⌜ r ≡ filled 40 0 (fatesTo (take n os) later n) ⌝ }
+{
+    let mut out = [0u8; 40];
+    let mut i: usize = 0;
+    while i < n {
+        let o = os[i];
+        let fate = later[i];
+        out[i] = final_fate(os, n, o, fate);
+        i += 1;
+    }
+    out
+}
+
+// The instructions with their numbers, from 1 as entered.
+fn number_all(instructions: [records::Instruction; 40], n: usize) -> Sequence
+    requires { ⌜ n ≤ 40 ⌝ }
+    ensures { λ r. ⌜ r ≡ holding (numbered 1 (take n instructions)) ⌝ }
+{
+    let mut out = empty();
+    let mut i: usize = 0;
+    while i < n {
+        let instruction = instructions[i];
+        let number = i as u32 + 1;
+        let o = validation::Numbered {
+            number,
+            instruction,
+        };
+        out = push(out, o);
+        i += 1;
+    }
+    out
+}
+
+// A count above forty reads like forty.
+fn at_most_forty(count: usize) -> usize
+    ensures { λ r. ⌜ r ≡ min count 40 ⌝ }
+{
+    if count < 40 {
+        return count;
+    }
+    40
+}
+
+// Which of the first `count` instructions are kept, in a day of `end` seconds. A count above forty reads like forty.
+pub fn validate(instructions: [records::Instruction; 40], count: usize, end: u32) -> Validation
+    ensures { λ r. ⌜ r ≡ validationOf instructions count end ⌝ }
+{
+    let n = at_most_forty(count);
+    let numbered = number_all(instructions, n);
+    let os = numbered.items;
+    let s = checked_in(os, n, end);
+    let late = settle_late(s, end);
+    let later = late.fates;
+    let fates = fates_of(os, n, later);
+    let kept = s.kept;
+    let height = s.height;
+    let actors = acts_of(kept, height, end);
+    let acts = actors.items;
+    Validation {
+        fates,
+        acts,
+        acting: actors.count,
+    }
+}
