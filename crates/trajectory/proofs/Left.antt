@@ -64,15 +64,15 @@ module _ (h : Heading) (l : Lists) (t : ℕ) where
       segments-more h l t n v p some
       ∙ ap (λ (vs : List ℕ). s ∷ segmentsOf h l t w vs) (sym (stops-enough n w (next-past h l t v p .1) (omega (arith, next-fewer h l t v p))))
 
-  from-more : (v : ℕ) → Past h v t → 1 ≤ rateAt h l v → segmentsFrom h l t v ≡ segmentFrom h l t v ∷ segmentsFrom h l t (nextStop h l t v)
+  pub from-more : (v : ℕ) → Past h v t → 1 ≤ rateAt h l v → segmentsFrom h l t v ≡ segmentFrom h l t v ∷ segmentsFrom h l t (nextStop h l t v)
   unfolding segmentsFrom
   from-more v p some = more (length (candidates h l t)) v p some (enough v)
 
-  from-target : (v : ℕ) → v ≡ t → segmentsFrom h l t v ≡ []
+  pub from-target : (v : ℕ) → v ≡ t → segmentsFrom h l t v ≡ []
   unfolding segmentsFrom
   from-target v e = rw e (segments-none h l t (length (candidates h l t)))
 
-  from-stuck : (v : ℕ) → Past h v t → rateAt h l v ≡ 0 → segmentsFrom h l t v ≡ []
+  pub from-stuck : (v : ℕ) → Past h v t → rateAt h l v ≡ 0 → segmentsFrom h l t v ≡ []
   unfolding segmentsFrom
   from-stuck v p z = segments-stuck h l t (length (candidates h l t)) v p z
 
@@ -107,14 +107,14 @@ module _ (s : Segment) (some : 1 ≤ s .rate) where
   abbrev full : ℕ
   full = s .way / s .rate
 
-  full-is : (full * s .rate ≤ s .way) × (s .way < full * s .rate + s .rate)
+  pub full-is : (full * s .rate ≤ s .way) × (s .way < full * s .rate + s .rate)
   full-is = omega (arith, div-add-mod' (s .way) (s .rate), mod-lt (s .way) some)
 
-  exactly : (f : ℕ) → f * s .rate ≡ s .way → seconds s ≡ f
+  pub exactly : (f : ℕ) → f * s .rate ≡ s .way → seconds s ≡ f
   unfolding seconds
   exactly f e = div-eq-of-lt-le {k = f} (s .rate) {m = s .way + (s .rate - 1)} (omega arith) (omega arith)
 
-  one-over : (f : ℕ) → f * s .rate < s .way → s .way < f * s .rate + s .rate → seconds s ≡ f + 1
+  pub one-over : (f : ℕ) → f * s .rate < s .way → s .way < f * s .rate + s .rate → seconds s ≡ f + 1
   unfolding seconds
   one-over f p q = div-eq-of-lt-le {k = f + 1} (s .rate) {m = s .way + (s .rate - 1)} (omega arith) (omega arith)
 

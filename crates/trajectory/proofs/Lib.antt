@@ -8,3 +8,4 @@ pub mod Goes
 pub mod Courses
 pub mod Left
 pub mod Areas
+pub mod Arrivals

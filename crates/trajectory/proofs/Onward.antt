@@ -7,10 +7,11 @@ use native.Mathlib.Decide.{decLe, ℕ-discrete}
 use native.Mathlib.Omega.{arith}
 use native.Mathlib.Nat.{mul-le-mul-right, div-add-mod', div-lt-iff-lt-mul}
 use borrow.Author.Tests.{lt-ltb, le-ltb, eq-eqb, ne-eqb}
+use Rattle.level.specs.Level.{grains}
 use Rattle.segments.specs.declared.Segment.{Segment}
 use Rattle.course.specs.Lists.{Lists}
 use Rattle.course.specs.Course.{Heading, rising, falling, Moment, toward, gap, rateAt, nextStop, holdAt, second, arrived, after}
-use Rattle.course.proofs.Near.{Past, Short, short-past}
+use Rattle.course.proofs.Near.{Past, gap-to}
 use Rattle.course.proofs.Ahead.{next-past}
 use Rattle.trajectory.specs.declared.Place.{Place}
 use Rattle.trajectory.specs.Ways.{headed}
@@ -69,3 +70,11 @@ pub reaches-stop : (h : Heading) (l : Lists) (t v : ℕ) → Past h v t → t �
 unfolding segmentFrom segmentTo gap
 reaches-stop rising l t v p m = let n = next-past rising l t v p in omega arith
 reaches-stop falling l t v p m = let n = next-past falling l t v p in omega arith
+
+pub to-stop : (h : Heading) (l : Lists) (t v : ℕ) → Past h v t → toward h v (segmentFrom h l t v .way) ≡ nextStop h l t v
+unfolding segmentFrom segmentTo
+to-stop h l t v p = gap-to v (nextStop h l t v) h (next-past h l t v p .0)
+
+pub grains-low : (kw : ℕ) → kw < 4294967296 → grains kw ≤ 18446744073709551615
+unfolding grains
+grains-low kw p = omega arith

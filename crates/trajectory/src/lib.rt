@@ -5,12 +5,13 @@ ghost use mathlib.Core.List.{[], _∷_, _++_, map};
 ghost use lib.ListN.{length, getD};
 ghost use lib.Dec.{leb, ltb};
 ghost use Rattle.level.specs.Level.{grains};
-ghost use Rattle.segments.specs.Segments.{area};
+ghost use Rattle.segments.specs.Segments.{seconds, area};
 ghost use Rattle.course.specs.Lists.{placeOf, columnFor, replaced, inGrains, listsOf};
-ghost use Rattle.course.specs.Course.{rising, falling, gap, toward, passed, rateAt, nearest, nextStop, holding, holdAt, trajectoryOf, levelAt};
+ghost use Rattle.course.specs.Course.{rising, falling, gap, toward, passed, rateAt, nearest, nextStop, holding, holdAt, trajectoryOf, levelAt, segments};
 ghost use Rattle.trajectory.specs.Ways.{headed, listsIn, ramping, lower, breaksIn, levelsIn};
 ghost use Rattle.course.proofs.Near.{Short};
-ghost use Rattle.trajectory.specs.Walk.{Reaches, momentOf, segmentTo, segmentFrom, afterHold, afterRest, afterRun, afterShort, along, onward, standing, beginning, pieceBetween, twiceBetween, twiceTo};
+ghost use Rattle.trajectory.specs.Walk.{Reaches, momentOf, segmentTo, segmentFrom, afterHold, afterRest, afterRun, afterShort, along, onward, standing, beginning, pieceBetween, twiceBetween, twiceTo, segmentsFrom};
+ghost use Rattle.trajectory.specs.Arrival.{arrivalOf, resting, pause};
 
 // So many kW in grains.
 fn grains_of(kw: u32) -> u64
@@ -657,4 +658,76 @@ pub fn twice_in(u: records::UnitData, c: course::Course, from: u32, to: u32) -> 
     let p = walk_to(u, c, up, begin, from);
     let s = sum_to(u, c, up, p, to);
     s.twice
+}
+
+// ---- the last stop
+
+// The whole seconds that a segment's way takes.
+fn seconds_of(s: segments::Segment) -> u64
+    requires { ⌜ 1 ≤ s .rate ⌝ }
+    ensures { λ r. ⌜ r ≡ seconds s ⌝ }
+{
+    let full = s.way / s.rate;
+    if full * s.rate == s.way {
+        return full;
+    }
+    full + 1
+}
+
+// Whether the course goes no further from the level v.
+fn rests_at(u: records::UnitData, c: course::Course, up: bool, v: u64) -> bool
+    ensures { λ r. ⌜ r ≡ resting (headed up) (listsIn u c) (grains (c .target)) v ⌝ }
+{
+    let t = grains_of(c.target);
+    let rate = rate_at(u, c, up, v);
+    if v == t {
+        return true;
+    }
+    rate == 0
+}
+
+fn pause_at(u: records::UnitData, c: course::Course, up: bool, v: u64, hold: u64) -> u64
+    ensures { λ r. ⌜ r ≡ pause (headed up) (listsIn u c) (grains (c .target)) v hold ⌝ }
+{
+    if rests_at(u, c, up, v) {
+        return 0;
+    }
+    hold
+}
+
+// The seconds since the last stop was reached, k seconds after the course stood at the level `from`.
+fn since_last_stop(u: records::UnitData, c: course::Course, up: bool, from: u64, k: u32) -> u32
+    requires { ⌜ Short (headed up) (grains (c .target)) from ⌝ }
+    ensures { λ r. ⌜ r ≡ k - arrivalOf (segmentsFrom (headed up) (listsIn u c) (grains (c .target)) from) ⌝ }
+{
+    let mut v = from;
+    let mut left = k;
+    while 0 < left {
+        if rests_at(u, c, up, v) {
+            return left;
+        }
+        let s = segment_from(u, c, up, v);
+        let spent = seconds_of(s);
+        if left as u64 <= spent {
+            return 0;
+        }
+        let w = moved(up, v, s.way);
+        let waits = pause_at(u, c, up, w, s.hold);
+        let rest = left - spent as u32;
+        if rest as u64 <= waits {
+            return 0;
+        }
+        left = rest - waits as u32;
+        v = w;
+    }
+    0
+}
+
+// The seconds since a course reached its last stop, k seconds after it began; 0 before.
+pub fn since_arrival(u: records::UnitData, c: course::Course, k: u32) -> u32
+    ensures { λ r. ⌜ r ≡ k - arrivalOf (segments (trajectoryOf u c)) ⌝ }
+{
+    let up = is_rising(c);
+    let start = c.start;
+    since_last_stop(u, c, up, start.grains, k)
 }
