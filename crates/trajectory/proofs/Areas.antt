@@ -24,7 +24,7 @@ use Rattle.trajectory.specs.Ways.{headed, listsIn}
 use Rattle.trajectory.specs.Walk.{momentOf, beginning, twiceBetween, standing, twiceTo}
 use Rattle.trajectory.proofs.Seconds.{after-add}
 use Rattle.trajectory.proofs.Goes.{Goes}
-use Rattle.trajectory.proofs.Courses.{heading-is, moment-is}
+use Rattle.trajectory.proofs.Courses.{heading-is, moment-is, level-top}
 
 sum-from : (g : ℕ → ℕ) (x i n : ℕ) → sum g (x + i) n ≡ sum (λ j. g (x + j)) i n
 unfolding sum
@@ -113,3 +113,16 @@ module _ (u : UnitData) (c : Course) (up : Bool) (rises : up ≡ ltb (c .start .
       ∙ area-same (λ k. after (headed up) (listsIn u c) (grains (c .target)) k (momentOf (here a m)) .level) (λ j. levelAt (trajectoryOf u c) (x + j))
       (λ j. ap (λ (q : Moment). q .level) (later-is a m j)) 0 (n - m)
       ∙ sym (area-from (levelAt (trajectoryOf u c)) x (n - m))
+
+-- below a bound
+sum-low : (f : ℕ → ℕ) (m : ℕ) → ((j : ℕ) → f j ≤ m) → (a n : ℕ) → sum f a n ≤ n * m
+unfolding sum
+sum-low f m b a zero = omega arith
+sum-low f m b a (suc n) = omega (arith, b a, sum-low f m b (suc a) n)
+
+pub area-low : (u : UnitData) (c : Course) (a n : ℕ) → c .start .grains < 274877906944 → c .target < 4294967296 →
+    area (levelAt (trajectoryOf u c)) a n ≤ n * 549755813888
+unfolding area trajectoryOf grains
+area-low u c a n s t =
+    let f : ℕ → ℕ = levelAt (trajectoryOf u c) in
+    sum-low (λ j. f j + f (suc j)) 549755813888 (λ j. omega (arith, level-top (trajectoryOf u c) j, level-top (trajectoryOf u c) (suc j))) a n

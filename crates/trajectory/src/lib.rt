@@ -4,13 +4,14 @@ ghost use Prim.Native.Nat.{ℕ, _+_, _*_, _-_, _/_, min, max, _<_, _≤_};
 ghost use mathlib.Core.List.{[], _∷_, _++_, map};
 ghost use lib.ListN.{length, getD};
 ghost use lib.Dec.{leb, ltb};
+ghost use Rattle.level.specs.Lists.{listFrom};
 ghost use Rattle.level.specs.Level.{grains};
 ghost use Rattle.segments.specs.Segments.{seconds, area};
 ghost use Rattle.course.specs.Lists.{placeOf, columnFor, replaced, inGrains, listsOf};
 ghost use Rattle.course.specs.Course.{rising, falling, gap, toward, passed, rateAt, nearest, nextStop, holding, holdAt, trajectoryOf, levelAt, segments};
 ghost use Rattle.trajectory.specs.Ways.{headed, listsIn, ramping, lower, breaksIn, levelsIn};
 ghost use Rattle.course.proofs.Near.{Short};
-ghost use Rattle.trajectory.specs.Walk.{Reaches, momentOf, segmentTo, segmentFrom, afterHold, afterRest, afterRun, afterShort, along, onward, standing, beginning, pieceBetween, twiceBetween, twiceTo, segmentsFrom};
+ghost use Rattle.trajectory.specs.Walk.{Reaches, momentOf, segmentTo, segmentFrom, afterHold, afterRest, afterRun, afterShort, along, onward, standing, beginning, pieceBetween, twiceBetween, twiceTo, segmentsFrom, notedAt};
 ghost use Rattle.trajectory.specs.Arrival.{arrivalOf, resting, pause};
 
 // So many kW in grains.
@@ -631,7 +632,7 @@ pub fn sum_to(u: records::UnitData, c: course::Course, up: bool, from: Place, n:
     requires { ⌜ (from .second ≤ n) × (n ≤ 16777216) ⌝ }
     requires { ⌜ Short (headed up) (grains (c .target)) (from .level) ⌝ }
     requires { ⌜ from .level < 274877906944 ⌝ }
-    ensures { λ r. ⌜ (r .place ≡ standing (headed up) (listsIn u c) (grains (c .target)) n from) × (r .twice ≡ twiceTo (headed up) (listsIn u c) (grains (c .target)) n from) × (r .twice ≤ (n - from .second) * 549755813888) ⌝ }
+    ensures { λ r. ⌜ (r .place ≡ standing (headed up) (listsIn u c) (grains (c .target)) n from) × (r .twice ≡ twiceTo (headed up) (listsIn u c) (grains (c .target)) n from) × (r .twice ≤ (n - from .second) * 549755813888) × Short (headed up) (grains (c .target)) (r .place .level) × (r .place .level < 274877906944) ⌝ }
 {
     let mut p = from;
     let mut twice: u64 = 0;
@@ -658,6 +659,50 @@ pub fn twice_in(u: records::UnitData, c: course::Course, from: u32, to: u32) -> 
     let p = walk_to(u, c, up, begin, from);
     let s = sum_to(u, c, up, p, to);
     s.twice
+}
+
+// The course's own second at the half-hour boundary b, or at its end if that comes first; 0 before it began.
+fn own_second(begin: u32, end: u32, b: usize) -> u32
+    requires { ⌜ b ≤ 48 ⌝ }
+    ensures { λ r. ⌜ r ≡ min end (1800 * b) - begin ⌝ }
+{
+    let boundary = (b as u32) * 1800;
+    if boundary < end {
+        return past(begin, boundary);
+    }
+    past(begin, end)
+}
+
+fn past(begin: u32, x: u32) -> u32
+    ensures { λ r. ⌜ r ≡ x - begin ⌝ }
+{
+    if x <= begin {
+        return 0;
+    }
+    x - begin
+}
+
+// Twice the recorded area of a course that lasts to the second `end` of the day, from its beginning to each half-hour
+// boundary, 0 to 48: a running sum, noted there.
+pub fn noted_sums(u: records::UnitData, c: course::Course, end: u32) -> [u64; 49]
+    requires { ⌜ end ≤ 16777216 ⌝ }
+    requires { ⌜ c .start .grains < 274877906944 ⌝ }
+    ensures { λ r. ⌜ r ≡ listFrom (notedAt u c end) 0 49 ⌝ }
+{
+    let up = is_rising(c);
+    let mut p = begin_at(c, 0);
+    let mut total: u64 = 0;
+    let mut out = [0u64; 49];
+    let mut b: usize = 0;
+    while b < 49 {
+        let n = own_second(c.begin, end, b);
+        let s = sum_to(u, c, up, p, n);
+        total += s.twice;
+        p = s.place;
+        out[b] = total;
+        b += 1;
+    }
+    out
 }
 
 // ---- the last stop

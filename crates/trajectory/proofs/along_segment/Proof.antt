@@ -12,33 +12,26 @@ use Rattle.trajectory.proofs.after_run.Reads as after-run-reads
 use Rattle.trajectory.proofs.after_short.Reads as after-short-reads
 use Rattle.trajectory.proofs.run_seconds.Reads as run-seconds-reads
 
--- src/lib.rt:520:9
 after-rest-requires : tie.Need-after-rest-requires
 after-rest-requires c κs = search needs
 
--- src/lib.rt:520:9
 returns : tie.Need-returns
 returns c = c .after-rest .ensures ∙ along-stuck _ _ _ _ (c .before .if1 .taken)
 
--- src/lib.rt:523:9
 after-short-requires : tie.Need-after-short-requires
 after-short-requires c κs = search needs
 
--- src/lib.rt:523:9
 returns-2 : tie.Need-returns-2
 returns-2 c = c .after-short .ensures ∙ along-short _ _ _ _ (c .before .before .before .if1 .left) (c .before .if2 .taken)
 
--- src/lib.rt:525:9
 run-seconds-requires : tie.Need-run-seconds-requires
 run-seconds-requires c κs = search needs
 
--- src/lib.rt:526:5
 after-run-requires : tie.Need-after-run-requires
 after-run-requires c κs =
     let s = c .before .before .before .before .before in
     (omega arith, (full-way _ _ _ (omega arith), s .pre .1))
 
--- src/lib.rt:514:1
 returns-3 : tie.Need-returns-3
 returns-3 c =
     let s = c .before .before .before .before .before .before in

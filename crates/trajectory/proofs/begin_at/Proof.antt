@@ -5,7 +5,6 @@ use Rattle.trajectory.proofs.begin_at.Tie as tie
 use Rattle.trajectory.proofs.begin_at.Reads as reads
 use Rattle.trajectory.proofs.begin_at.Lts as lts
 
--- src/lib.rt:575:1
 returns : tie.Need-returns
 unfolding beginning
 returns c = refl

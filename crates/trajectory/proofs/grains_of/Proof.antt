@@ -13,11 +13,9 @@ use Rattle.trajectory.proofs.grains_of.Reads as reads
 use Rattle.trajectory.proofs.grains_of.Lts as lts
 use Rattle.level.proofs.Level.from_kw.Reads as from-kw-reads
 
--- src/lib.rt:15:9
 from-kw-requires : tie.Need-from-kw-requires
 from-kw-requires c κs = search needs
 
--- src/lib.rt:12:1
 returns : tie.Need-returns
 unfolding fromKw grains
 returns c =

@@ -14,18 +14,15 @@ use Rattle.trajectory.proofs.since_arrival.Lts as lts
 use Rattle.trajectory.proofs.is_rising.Reads as is-rising-reads
 use Rattle.trajectory.proofs.since_last_stop.Reads as since-last-stop-reads
 
--- src/lib.rt:730:9
 is-rising-requires : tie.Need-is-rising-requires
 is-rising-requires c κs = search needs
 
--- src/lib.rt:732:5
 since-last-stop-requires : tie.Need-since-last-stop-requires
 unfolding beginning
 since-last-stop-requires c κs =
     let s = c .before .before in
     begins-short (s .args .u) (s .args .c) (c .before .is-rising .result) (c .before .is-rising .ensures) 0
 
--- src/lib.rt:727:1
 returns : tie.Need-returns
 returns c =
     let s = c .before .before .before in

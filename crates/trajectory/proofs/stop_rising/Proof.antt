@@ -13,39 +13,30 @@ use Rattle.trajectory.proofs.nearer.Reads as nearer-reads
 use Rattle.trajectory.proofs.ramp_breaks.Reads as ramp-breaks-reads
 use Rattle.trajectory.proofs.soak_stops.Reads as soak-stops-reads
 
--- src/lib.rt:337:9
 grains-of-requires : tie.Need-grains-of-requires
 grains-of-requires c κs = search needs
 
--- src/lib.rt:338:9
 grains-of-requires-2 : tie.Need-grains-of-requires-2
 grains-of-requires-2 c κs = search needs
 
--- src/lib.rt:340:9
 dwell-stops-requires : tie.Need-dwell-stops-requires
 dwell-stops-requires c κs = search needs
 
--- src/lib.rt:341:9
 column-for-requires : tie.Need-column-for-requires
 column-for-requires c κs = search needs
 
--- src/lib.rt:343:9
 soak-stops-requires : tie.Need-soak-stops-requires
 soak-stops-requires c κs = search needs
 
--- src/lib.rt:346:9
 ramp-breaks-requires : tie.Need-ramp-breaks-requires
 ramp-breaks-requires c κs = search needs
 
--- src/lib.rt:348:9
 column-breaks-requires : tie.Need-column-breaks-requires
 column-breaks-requires c κs = search needs
 
--- src/lib.rt:349:5
 nearer-requires : tie.Need-nearer-requires
 nearer-requires c κs = search needs
 
--- src/lib.rt:334:1
 returns : tie.Need-returns
 returns c =
     let s = c .before .before .before .before .before .before .before .before .before .before .before .before .before in

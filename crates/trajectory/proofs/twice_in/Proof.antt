@@ -20,28 +20,23 @@ use Rattle.trajectory.proofs.is_rising.Reads as is-rising-reads
 use Rattle.trajectory.proofs.sum_to.Reads as sum-to-reads
 use Rattle.trajectory.proofs.walk_to.Reads as walk-to-reads
 
--- src/lib.rt:653:9
 returns : tie.Need-returns
 returns c =
     let s = c .before in
     (sym (no-area (levelAt (trajectoryOf (s .args .u) (s .args .c))) (s .args .from) (s .args .to - s .args .from) (omega arith)), omega arith)
 
--- src/lib.rt:655:9
 is-rising-requires : tie.Need-is-rising-requires
 is-rising-requires c κs = search needs
 
--- src/lib.rt:656:9
 begin-at-requires : tie.Need-begin-at-requires
 begin-at-requires c κs = search needs
 
--- src/lib.rt:657:9
 walk-to-requires : tie.Need-walk-to-requires
 unfolding beginning
 walk-to-requires c κs =
     let s = c .before .before .before in
     rw (c .begin-at .ensures) (omega arith, begins-short (s .args .u) (s .args .c) (c .before .is-rising .result) (c .before .is-rising .ensures) 0)
 
--- src/lib.rt:658:9
 sum-to-requires : tie.Need-sum-to-requires
 unfolding standing grains beginning
 sum-to-requires c κs =
@@ -51,7 +46,6 @@ sum-to-requires c κs =
     let f : c .before .begin-at .result .level ≡ s .args .c .start .grains = ap (λ (p : Place). p .level) (c .before .begin-at .ensures) in
     ((omega arith, s .pre .0), (c .walk-to .ensures .1, omega (arith, c .walk-to .ensures .2)))
 
--- src/lib.rt:647:1
 returns-2 : tie.Need-returns-2
 unfolding standing
 returns-2 c =

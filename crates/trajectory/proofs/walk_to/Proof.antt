@@ -29,26 +29,21 @@ gone c =
     let l = c .before .before .before .loop in
     rw (c .walk-on .ensures) (onward-goes (headed (s .args .up)) (listsIn (s .args .u) (s .args .c)) (grains (s .args .c .target)) (s .args .n) (l .p) (c .before .if1 .taken) (l .inv .1))
 
--- src/lib.rt:559:5
 loop-holds : tie.Need-loop-holds Inv-loop μ-loop
 loop-holds c = (c .pre .0, c .pre .1, refl, omega arith)
 
--- src/lib.rt:560:9
 walk-on-requires : tie.Need-walk-on-requires Inv-loop μ-loop
 walk-on-requires c κs = (c .if1 .taken, c .before .before .loop .inv .1)
 
--- src/lib.rt:559:5
 loop-less : tie.Need-loop-less Inv-loop μ-loop
 loop-less c = let g = gone c in omega (arith, g .later, g .within)
 
--- src/lib.rt:559:5
 loop-again : tie.Need-loop-again Inv-loop μ-loop
 loop-again c =
     let g = gone c in
     let inv = c .before .before .before .loop .inv in
     (g .within, g .short, standing-on _ _ _ _ _ _ g ∙ inv .2, omega (arith, g .low, inv .3))
 
--- src/lib.rt:553:1
 returns : tie.Need-returns Inv-loop μ-loop
 returns c =
     let l = c .before .before .loop in
