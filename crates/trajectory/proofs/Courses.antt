@@ -1,6 +1,6 @@
 -- A course from its beginning.
 -- Assumes nothing.
-use Prim.Native.Nat.{ℕ, zero, suc, _+_, _-_, max, _≤_, _<_}
+use Prim.Native.Nat.{ℕ, suc, _+_, _-_, max, _≤_}
 use mathlib.Core.Path.{_≡_, refl, ap, sym, _∙_}
 use mathlib.Core.List.{List, [], _∷_}
 use mathlib.Core.Bool.{Bool, true, false}
@@ -18,7 +18,6 @@ use Rattle.course.specs.Course.{Heading, rising, falling, heading, Trajectory, 
 use Rattle.course.proofs.Near.{Short}
 use Rattle.course.proofs.Rule.{at}
 use Rattle.course.proofs.Whole.{short-start, level-up, level-down, ways-within}
-use Rattle.trajectory.specs.declared.Place.{Place}
 use Rattle.trajectory.specs.Ways.{headed, listsIn}
 use Rattle.trajectory.specs.Walk.{momentOf, beginning, standing}
 

@@ -1,13 +1,10 @@
 use Rattle.trajectory.specs.Walk.{afterHold}
-use Rattle.trajectory.specs.declared.Place.{Place}
 use native.Mathlib.Omega.{arith}
 use mathlib.Core.Path.{_≡_}
 use Prim.Native.Nat.{_+_, _-_, min}
 use borrow.Author.Needs.{needs}
 use Rattle.trajectory.proofs.after_hold.Statement.{statement}
 use Rattle.trajectory.proofs.after_hold.Tie as tie
-use Rattle.trajectory.proofs.after_hold.Reads as reads
-use Rattle.trajectory.proofs.after_hold.Lts as lts
 
 sub-room : tie.Need-sub-room
 sub-room c = search needs

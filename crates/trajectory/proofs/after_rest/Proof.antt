@@ -2,8 +2,6 @@ use Rattle.trajectory.specs.Walk.{afterRest}
 use mathlib.Core.Path.{refl}
 use Rattle.trajectory.proofs.after_rest.Statement.{statement}
 use Rattle.trajectory.proofs.after_rest.Tie as tie
-use Rattle.trajectory.proofs.after_rest.Reads as reads
-use Rattle.trajectory.proofs.after_rest.Lts as lts
 
 returns : tie.Need-returns
 unfolding afterRest

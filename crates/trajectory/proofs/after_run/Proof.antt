@@ -2,13 +2,9 @@ use Rattle.trajectory.proofs.Onward.{reaches-less}
 use Rattle.trajectory.specs.Walk.{afterRun}
 use Rattle.trajectory.specs.Ways.{headed}
 use borrow.Author.Tests.{eq-eqb, ne-eqb}
-use native.Mathlib.Omega.{arith}
 use borrow.Author.Needs.{needs}
 use Rattle.trajectory.proofs.after_run.Statement.{statement}
 use Rattle.trajectory.proofs.after_run.Tie as tie
-use Rattle.trajectory.proofs.after_run.Reads as reads
-use Rattle.trajectory.proofs.after_run.Lts as lts
-use Rattle.trajectory.proofs.moved.Reads as moved-reads
 
 mul-m : tie.Need-mul-m
 mul-m c = search needs

@@ -2,9 +2,6 @@ use Rattle.trajectory.specs.Walk.{afterShort}
 use borrow.Author.Needs.{needs}
 use Rattle.trajectory.proofs.after_short.Statement.{statement}
 use Rattle.trajectory.proofs.after_short.Tie as tie
-use Rattle.trajectory.proofs.after_short.Reads as reads
-use Rattle.trajectory.proofs.after_short.Lts as lts
-use Rattle.trajectory.proofs.moved.Reads as moved-reads
 
 moved-requires : tie.Need-moved-requires
 moved-requires c κs = search needs

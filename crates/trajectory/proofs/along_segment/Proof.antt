@@ -1,16 +1,10 @@
 use Rattle.trajectory.proofs.Onward.{along-stuck, along-short, along-run, full-way}
 use Rattle.trajectory.specs.Ways.{headed}
 use native.Mathlib.Omega.{arith}
-use mathlib.Core.Path.{_∙_, sym}
+use mathlib.Core.Path.{_∙_}
 use borrow.Author.Needs.{needs}
 use Rattle.trajectory.proofs.along_segment.Statement.{statement}
 use Rattle.trajectory.proofs.along_segment.Tie as tie
-use Rattle.trajectory.proofs.along_segment.Reads as reads
-use Rattle.trajectory.proofs.along_segment.Lts as lts
-use Rattle.trajectory.proofs.after_rest.Reads as after-rest-reads
-use Rattle.trajectory.proofs.after_run.Reads as after-run-reads
-use Rattle.trajectory.proofs.after_short.Reads as after-short-reads
-use Rattle.trajectory.proofs.run_seconds.Reads as run-seconds-reads
 
 after-rest-requires : tie.Need-after-rest-requires
 after-rest-requires c κs = search needs

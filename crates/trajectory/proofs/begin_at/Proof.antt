@@ -2,8 +2,6 @@ use Rattle.trajectory.specs.Walk.{beginning}
 use mathlib.Core.Path.{refl}
 use Rattle.trajectory.proofs.begin_at.Statement.{statement}
 use Rattle.trajectory.proofs.begin_at.Tie as tie
-use Rattle.trajectory.proofs.begin_at.Reads as reads
-use Rattle.trajectory.proofs.begin_at.Lts as lts
 
 returns : tie.Need-returns
 unfolding beginning

@@ -1,12 +1,9 @@
 use Rattle.trajectory.proofs.Nexts.{two-breaks}
-use Rattle.trajectory.specs.Ways.{headed, lower}
+use Rattle.trajectory.specs.Ways.{lower}
 use Rattle.course.specs.Course.{rising}
 use borrow.Author.Needs.{needs}
 use Rattle.trajectory.proofs.column_breaks.Statement.{statement}
 use Rattle.trajectory.proofs.column_breaks.Tie as tie
-use Rattle.trajectory.proofs.column_breaks.Reads as reads
-use Rattle.trajectory.proofs.column_breaks.Lts as lts
-use Rattle.trajectory.proofs.lower_break.Reads as lower-break-reads
 
 array-read-lower-break : tie.Need-array-read-lower-break
 array-read-lower-break c = search needs

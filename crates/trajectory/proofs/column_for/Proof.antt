@@ -2,9 +2,6 @@ use Rattle.course.specs.Lists.{columnFor}
 use borrow.Author.Needs.{needs}
 use Rattle.trajectory.proofs.column_for.Statement.{statement}
 use Rattle.trajectory.proofs.column_for.Tie as tie
-use Rattle.trajectory.proofs.column_for.Reads as reads
-use Rattle.trajectory.proofs.column_for.Lts as lts
-use Rattle.trajectory.proofs.place_of.Reads as place-of-reads
 
 place-of-requires : tie.Need-place-of-requires
 place-of-requires c κs = search needs

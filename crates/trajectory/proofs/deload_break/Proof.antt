@@ -1,12 +1,9 @@
 use Rattle.trajectory.proofs.Nexts.{one-break}
-use Rattle.trajectory.specs.Ways.{headed, lower}
+use Rattle.trajectory.specs.Ways.{lower}
 use Rattle.course.specs.Course.{falling}
 use borrow.Author.Needs.{needs}
 use Rattle.trajectory.proofs.deload_break.Statement.{statement}
 use Rattle.trajectory.proofs.deload_break.Tie as tie
-use Rattle.trajectory.proofs.deload_break.Reads as reads
-use Rattle.trajectory.proofs.deload_break.Lts as lts
-use Rattle.trajectory.proofs.lower_break.Reads as lower-break-reads
 
 array-read-lower-break : tie.Need-array-read-lower-break
 array-read-lower-break c = search needs

@@ -1,16 +1,10 @@
 use Rattle.trajectory.proofs.Nexts.{level-counts, level-no-minutes, level-out}
-use Rattle.trajectory.specs.Ways.{headed}
 use borrow.Author.Tests.{le-leb, lt-leb}
 use lib.Dec.{leb}
 use mathlib.Core.Path.{_∙_}
-use native.Mathlib.Omega.{arith}
 use borrow.Author.Needs.{needs}
 use Rattle.trajectory.proofs.dwell_stop.Statement.{statement}
 use Rattle.trajectory.proofs.dwell_stop.Tie as tie
-use Rattle.trajectory.proofs.dwell_stop.Reads as reads
-use Rattle.trajectory.proofs.dwell_stop.Lts as lts
-use Rattle.trajectory.proofs.grains_of.Reads as grains-of-reads
-use Rattle.trajectory.proofs.nearer.Reads as nearer-reads
 
 grains-of-requires : tie.Need-grains-of-requires
 grains-of-requires c κs = search needs

@@ -5,9 +5,6 @@ use lib.Dec.{leb}
 use borrow.Author.Needs.{needs}
 use Rattle.trajectory.proofs.dwell_stops.Statement.{statement}
 use Rattle.trajectory.proofs.dwell_stops.Tie as tie
-use Rattle.trajectory.proofs.dwell_stops.Reads as reads
-use Rattle.trajectory.proofs.dwell_stops.Lts as lts
-use Rattle.trajectory.proofs.dwell_stop.Reads as dwell-stop-reads
 
 array-copy-out-dwell-stop : tie.Need-array-copy-out-dwell-stop
 array-copy-out-dwell-stop c = search needs

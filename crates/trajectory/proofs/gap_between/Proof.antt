@@ -3,8 +3,6 @@ use native.Mathlib.Omega.{arith}
 use borrow.Author.Needs.{needs}
 use Rattle.trajectory.proofs.gap_between.Statement.{statement}
 use Rattle.trajectory.proofs.gap_between.Tie as tie
-use Rattle.trajectory.proofs.gap_between.Reads as reads
-use Rattle.trajectory.proofs.gap_between.Lts as lts
 
 sub-result : tie.Need-sub-result
 sub-result c = search needs

@@ -3,9 +3,6 @@ use native.Mathlib.Omega.{arith}
 use borrow.Author.Needs.{needs}
 use Rattle.trajectory.proofs.held_one.Statement.{statement}
 use Rattle.trajectory.proofs.held_one.Tie as tie
-use Rattle.trajectory.proofs.held_one.Reads as reads
-use Rattle.trajectory.proofs.held_one.Lts as lts
-use Rattle.trajectory.proofs.grains_of.Reads as grains-of-reads
 
 grains-of-requires : tie.Need-grains-of-requires
 grains-of-requires c κs = search needs

@@ -4,9 +4,6 @@ use native.Mathlib.Omega.{arith}
 use borrow.Author.Needs.{needs}
 use Rattle.trajectory.proofs.held_three.Statement.{statement}
 use Rattle.trajectory.proofs.held_three.Tie as tie
-use Rattle.trajectory.proofs.held_three.Reads as reads
-use Rattle.trajectory.proofs.held_three.Lts as lts
-use Rattle.trajectory.proofs.held_one.Reads as held-one-reads
 
 array-copy-out-held-one : tie.Need-array-copy-out-held-one
 array-copy-out-held-one c = search needs

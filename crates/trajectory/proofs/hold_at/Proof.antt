@@ -7,11 +7,6 @@ use native.Mathlib.Omega.{arith}
 use borrow.Author.Needs.{needs}
 use Rattle.trajectory.proofs.hold_at.Statement.{statement}
 use Rattle.trajectory.proofs.hold_at.Tie as tie
-use Rattle.trajectory.proofs.hold_at.Reads as reads
-use Rattle.trajectory.proofs.hold_at.Lts as lts
-use Rattle.trajectory.proofs.grains_of.Reads as grains-of-reads
-use Rattle.trajectory.proofs.held_three.Reads as held-three-reads
-use Rattle.trajectory.proofs.soaked.Reads as soaked-reads
 
 grains-of-requires : tie.Need-grains-of-requires
 grains-of-requires c κs = search needs

@@ -1,8 +1,6 @@
 use Rattle.trajectory.specs.Ways.{ramping}
 use Rattle.trajectory.proofs.in_ramp.Statement.{statement}
 use Rattle.trajectory.proofs.in_ramp.Tie as tie
-use Rattle.trajectory.proofs.in_ramp.Reads as reads
-use Rattle.trajectory.proofs.in_ramp.Lts as lts
 
 returns : tie.Need-returns
 unfolding ramping

@@ -1,9 +1,6 @@
 use borrow.Author.Needs.{needs}
 use Rattle.trajectory.proofs.is_rising.Statement.{statement}
 use Rattle.trajectory.proofs.is_rising.Tie as tie
-use Rattle.trajectory.proofs.is_rising.Reads as reads
-use Rattle.trajectory.proofs.is_rising.Lts as lts
-use Rattle.trajectory.proofs.grains_of.Reads as grains-of-reads
 
 grains-of-requires : tie.Need-grains-of-requires
 grains-of-requires c κs = search needs

@@ -1,18 +1,9 @@
 use Rattle.trajectory.proofs.Courses.{begins-short, level-is}
-use Rattle.trajectory.specs.Walk.{beginning, standing}
-use Rattle.trajectory.specs.Ways.{headed, listsIn}
-use Rattle.trajectory.specs.declared.Place.{Place}
-use Rattle.level.specs.Level.{grains}
+use Rattle.trajectory.specs.Walk.{beginning}
 use native.Mathlib.Omega.{arith}
-use mathlib.Core.Path.{_≡_, ap, _∙_}
 use borrow.Author.Needs.{needs}
 use Rattle.trajectory.proofs.level_after.Statement.{statement}
 use Rattle.trajectory.proofs.level_after.Tie as tie
-use Rattle.trajectory.proofs.level_after.Reads as reads
-use Rattle.trajectory.proofs.level_after.Lts as lts
-use Rattle.trajectory.proofs.begin_at.Reads as begin-at-reads
-use Rattle.trajectory.proofs.is_rising.Reads as is-rising-reads
-use Rattle.trajectory.proofs.walk_to.Reads as walk-to-reads
 
 is-rising-requires : tie.Need-is-rising-requires
 is-rising-requires c κs = search needs

@@ -1,14 +1,8 @@
 use Rattle.trajectory.proofs.Nexts.{lower-counts, lower-idles}
-use Rattle.trajectory.specs.Ways.{headed}
 use mathlib.Core.Path.{_∙_}
 use borrow.Author.Needs.{needs}
 use Rattle.trajectory.proofs.lower_break.Statement.{statement}
 use Rattle.trajectory.proofs.lower_break.Tie as tie
-use Rattle.trajectory.proofs.lower_break.Reads as reads
-use Rattle.trajectory.proofs.lower_break.Lts as lts
-use Rattle.trajectory.proofs.grains_of.Reads as grains-of-reads
-use Rattle.trajectory.proofs.in_ramp.Reads as in-ramp-reads
-use Rattle.trajectory.proofs.nearer.Reads as nearer-reads
 
 grains-of-requires : tie.Need-grains-of-requires
 grains-of-requires c κs = search needs

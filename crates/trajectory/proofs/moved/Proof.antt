@@ -1,11 +1,8 @@
 use Rattle.trajectory.proofs.Onward.{room-up, room-down}
 use native.Mathlib.Omega.{arith}
-use mathlib.Core.Path.{refl}
 use Rattle.course.specs.Course.{toward}
 use Rattle.trajectory.proofs.moved.Statement.{statement}
 use Rattle.trajectory.proofs.moved.Tie as tie
-use Rattle.trajectory.proofs.moved.Reads as reads
-use Rattle.trajectory.proofs.moved.Lts as lts
 
 add-result : tie.Need-add-result
 add-result c = omega (arith, room-up _ _ _ (c .if1 .taken) (c .before .pre))

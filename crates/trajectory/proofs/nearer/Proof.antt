@@ -2,8 +2,6 @@ use Rattle.trajectory.proofs.Nexts.{up-behind, up-near, up-far, down-be
 use native.Mathlib.Omega.{arith}
 use Rattle.trajectory.proofs.nearer.Statement.{statement}
 use Rattle.trajectory.proofs.nearer.Tie as tie
-use Rattle.trajectory.proofs.nearer.Reads as reads
-use Rattle.trajectory.proofs.nearer.Lts as lts
 
 returns : tie.Need-returns
 returns c = rw (c .before .if1 .taken) (up-behind _ _ _ (omega arith))

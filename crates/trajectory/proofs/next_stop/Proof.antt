@@ -1,10 +1,6 @@
 use borrow.Author.Needs.{needs}
 use Rattle.trajectory.proofs.next_stop.Statement.{statement}
 use Rattle.trajectory.proofs.next_stop.Tie as tie
-use Rattle.trajectory.proofs.next_stop.Reads as reads
-use Rattle.trajectory.proofs.next_stop.Lts as lts
-use Rattle.trajectory.proofs.stop_falling.Reads as stop-falling-reads
-use Rattle.trajectory.proofs.stop_rising.Reads as stop-rising-reads
 
 stop-rising-requires : tie.Need-stop-rising-requires
 stop-rising-requires c κs = search needs

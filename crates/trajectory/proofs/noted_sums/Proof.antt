@@ -2,20 +2,13 @@ use Rattle.trajectory.proofs.Noted.{Noted, noted-start, noted-on, noted
 use Rattle.trajectory.specs.Walk.{beginning, notedAt}
 use Rattle.level.specs.Lists.{listFrom}
 use lib.Seq.{take-all}
-use lib.ListN.{length, take, set, length-set}
+use lib.ListN.{length, take, length-set}
 use borrow.Author.Needs.{needs}
 use native.Mathlib.Omega.{arith}
-use mathlib.Core.List.{List}
-use mathlib.Core.Path.{_≡_, refl, sym, ap, _∙_}
-use Prim.Native.Nat.{ℕ, _+_, _*_, _-_, min, _≤_, _<_}
+use mathlib.Core.Path.{_≡_, refl, sym, _∙_}
+use Prim.Native.Nat.{_+_, _*_, _-_, min, _≤_, _<_}
 use Rattle.trajectory.proofs.noted_sums.Statement.{statement}
 use Rattle.trajectory.proofs.noted_sums.Tie as tie
-use Rattle.trajectory.proofs.noted_sums.Reads as reads
-use Rattle.trajectory.proofs.noted_sums.Lts as lts
-use Rattle.trajectory.proofs.begin_at.Reads as begin-at-reads
-use Rattle.trajectory.proofs.is_rising.Reads as is-rising-reads
-use Rattle.trajectory.proofs.own_second.Reads as own-second-reads
-use Rattle.trajectory.proofs.sum_to.Reads as sum-to-reads
 
 abbrev Inv-loop : tie.InvT-loop
 Inv-loop u c end up p₀ total₀ out₀ b₀ p total out b = (b ≤ 49) × (length out ≡ 49) × (take b out ≡ listFrom (notedAt u c end) 0 b) × (p .second ≤ min end (1800 * b) - c .begin) × Noted u c up p total

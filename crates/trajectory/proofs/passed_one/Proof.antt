@@ -1,13 +1,9 @@
 use Rattle.trajectory.proofs.Rates.{up-passed, up-ahead, down-passed, down-ahead}
 use mathlib.Core.Path.{sym}
 use native.Mathlib.Omega.{arith}
-use Prim.Native.Nat.{ℕ}
 use borrow.Author.Needs.{needs}
 use Rattle.trajectory.proofs.passed_one.Statement.{statement}
 use Rattle.trajectory.proofs.passed_one.Tie as tie
-use Rattle.trajectory.proofs.passed_one.Reads as reads
-use Rattle.trajectory.proofs.passed_one.Lts as lts
-use Rattle.trajectory.proofs.grains_of.Reads as grains-of-reads
 
 grains-of-requires : tie.Need-grains-of-requires
 grains-of-requires c κs = search needs

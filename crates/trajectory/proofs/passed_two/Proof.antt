@@ -4,9 +4,6 @@ use native.Mathlib.Omega.{arith}
 use borrow.Author.Needs.{needs}
 use Rattle.trajectory.proofs.passed_two.Statement.{statement}
 use Rattle.trajectory.proofs.passed_two.Tie as tie
-use Rattle.trajectory.proofs.passed_two.Reads as reads
-use Rattle.trajectory.proofs.passed_two.Lts as lts
-use Rattle.trajectory.proofs.passed_one.Reads as passed-one-reads
 
 array-read-passed-one : tie.Need-array-read-passed-one
 array-read-passed-one c = search needs

@@ -3,9 +3,6 @@ use mathlib.Core.Path.{sym, _∙_}
 use borrow.Author.Needs.{needs}
 use Rattle.trajectory.proofs.pause_at.Statement.{statement}
 use Rattle.trajectory.proofs.pause_at.Tie as tie
-use Rattle.trajectory.proofs.pause_at.Reads as reads
-use Rattle.trajectory.proofs.pause_at.Lts as lts
-use Rattle.trajectory.proofs.rests_at.Reads as rests-at-reads
 
 rests-at-requires : tie.Need-rests-at-requires
 rests-at-requires c κs = search needs

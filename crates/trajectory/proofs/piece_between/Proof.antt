@@ -2,8 +2,6 @@ use Rattle.trajectory.specs.Walk.{pieceBetween}
 use mathlib.Core.Path.{refl}
 use Rattle.trajectory.proofs.piece_between.Statement.{statement}
 use Rattle.trajectory.proofs.piece_between.Tie as tie
-use Rattle.trajectory.proofs.piece_between.Reads as reads
-use Rattle.trajectory.proofs.piece_between.Lts as lts
 
 returns : tie.Need-returns
 unfolding pieceBetween

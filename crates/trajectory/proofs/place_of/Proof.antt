@@ -4,8 +4,6 @@ use borrow.Author.Tests.{ne-eqb}
 use native.Mathlib.Omega.{arith}
 use Rattle.trajectory.proofs.place_of.Statement.{statement}
 use Rattle.trajectory.proofs.place_of.Tie as tie
-use Rattle.trajectory.proofs.place_of.Reads as reads
-use Rattle.trajectory.proofs.place_of.Lts as lts
 
 returns : tie.Need-returns
 unfolding placeOf

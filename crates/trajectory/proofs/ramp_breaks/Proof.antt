@@ -3,9 +3,6 @@ use Rattle.trajectory.specs.Ways.{headed, ramping}
 use borrow.Author.Needs.{needs}
 use Rattle.trajectory.proofs.ramp_breaks.Statement.{statement}
 use Rattle.trajectory.proofs.ramp_breaks.Tie as tie
-use Rattle.trajectory.proofs.ramp_breaks.Reads as reads
-use Rattle.trajectory.proofs.ramp_breaks.Lts as lts
-use Rattle.trajectory.proofs.ramp_break.Reads as ramp-break-reads
 
 array-read-ramp-break : tie.Need-array-read-ramp-break
 array-read-ramp-break c = search needs

@@ -1,10 +1,6 @@
 use borrow.Author.Needs.{needs}
 use Rattle.trajectory.proofs.rate_at.Statement.{statement}
 use Rattle.trajectory.proofs.rate_at.Tie as tie
-use Rattle.trajectory.proofs.rate_at.Reads as reads
-use Rattle.trajectory.proofs.rate_at.Lts as lts
-use Rattle.trajectory.proofs.rate_falling.Reads as rate-falling-reads
-use Rattle.trajectory.proofs.rate_rising.Reads as rate-rising-reads
 
 rate-rising-requires : tie.Need-rate-rising-requires
 rate-rising-requires c κs = search needs

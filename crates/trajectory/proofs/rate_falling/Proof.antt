@@ -5,12 +5,6 @@ use mathlib.Core.Path.{_∙_}
 use borrow.Author.Needs.{needs}
 use Rattle.trajectory.proofs.rate_falling.Statement.{statement}
 use Rattle.trajectory.proofs.rate_falling.Tie as tie
-use Rattle.trajectory.proofs.rate_falling.Reads as reads
-use Rattle.trajectory.proofs.rate_falling.Lts as lts
-use Rattle.trajectory.proofs.grains_of.Reads as grains-of-reads
-use Rattle.trajectory.proofs.in_ramp.Reads as in-ramp-reads
-use Rattle.trajectory.proofs.rate_of_deload.Reads as rate-of-deload-reads
-use Rattle.trajectory.proofs.rate_of_ramp.Reads as rate-of-ramp-reads
 
 grains-of-requires : tie.Need-grains-of-requires
 grains-of-requires c κs = search needs

@@ -1,9 +1,6 @@
 use borrow.Author.Needs.{needs}
 use Rattle.trajectory.proofs.rate_of_column.Statement.{statement}
 use Rattle.trajectory.proofs.rate_of_column.Tie as tie
-use Rattle.trajectory.proofs.rate_of_column.Reads as reads
-use Rattle.trajectory.proofs.rate_of_column.Lts as lts
-use Rattle.trajectory.proofs.passed_two.Reads as passed-two-reads
 
 passed-two-requires : tie.Need-passed-two-requires
 passed-two-requires c κs = search needs

@@ -1,9 +1,6 @@
 use borrow.Author.Needs.{needs}
 use Rattle.trajectory.proofs.rate_of_deload.Statement.{statement}
 use Rattle.trajectory.proofs.rate_of_deload.Tie as tie
-use Rattle.trajectory.proofs.rate_of_deload.Reads as reads
-use Rattle.trajectory.proofs.rate_of_deload.Lts as lts
-use Rattle.trajectory.proofs.passed_single.Reads as passed-single-reads
 
 passed-single-requires : tie.Need-passed-single-requires
 passed-single-requires c κs = search needs

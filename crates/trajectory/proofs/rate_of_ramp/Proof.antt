@@ -1,10 +1,6 @@
 use borrow.Author.Needs.{needs}
 use Rattle.trajectory.proofs.rate_of_ramp.Statement.{statement}
 use Rattle.trajectory.proofs.rate_of_ramp.Tie as tie
-use Rattle.trajectory.proofs.rate_of_ramp.Reads as reads
-use Rattle.trajectory.proofs.rate_of_ramp.Lts as lts
-use Rattle.trajectory.proofs.passed_four.Reads as passed-four-reads
-use Rattle.trajectory.proofs.replaced_rate.Reads as replaced-rate-reads
 
 passed-four-requires : tie.Need-passed-four-requires
 passed-four-requires c κs = search needs

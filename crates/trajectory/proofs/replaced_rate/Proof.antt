@@ -2,8 +2,6 @@ use Rattle.trajectory.proofs.Rates.{own-rate, given-rate}
 use borrow.Author.Needs.{needs}
 use Rattle.trajectory.proofs.replaced_rate.Statement.{statement}
 use Rattle.trajectory.proofs.replaced_rate.Tie as tie
-use Rattle.trajectory.proofs.replaced_rate.Reads as reads
-use Rattle.trajectory.proofs.replaced_rate.Lts as lts
 
 mul-result : tie.Need-mul-result
 mul-result c = search needs

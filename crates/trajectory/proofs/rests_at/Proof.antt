@@ -2,14 +2,10 @@ use Rattle.trajectory.proofs.Arrivals.{rests-target, rests-rate}
 use Rattle.trajectory.specs.Ways.{headed, listsIn}
 use Rattle.level.specs.Level.{grains}
 use native.Mathlib.Omega.{arith}
-use mathlib.Core.Path.{sym, _∙_}
+use mathlib.Core.Path.{sym}
 use borrow.Author.Needs.{needs}
 use Rattle.trajectory.proofs.rests_at.Statement.{statement}
 use Rattle.trajectory.proofs.rests_at.Tie as tie
-use Rattle.trajectory.proofs.rests_at.Reads as reads
-use Rattle.trajectory.proofs.rests_at.Lts as lts
-use Rattle.trajectory.proofs.grains_of.Reads as grains-of-reads
-use Rattle.trajectory.proofs.rate_at.Reads as rate-at-reads
 
 grains-of-requires : tie.Need-grains-of-requires
 grains-of-requires c κs = search needs

@@ -1,12 +1,9 @@
 use Rattle.trajectory.proofs.Arrivals.{full-seconds, one-second-more, full-below}
-use Prim.Native.Nat.{_*_, _/_, _≤_}
-use native.Mathlib.Nat.{div-mul-le-self, mul-le-mul-left}
+use native.Mathlib.Nat.{div-mul-le-self}
 use native.Mathlib.Omega.{arith}
 use borrow.Author.Needs.{needs}
 use Rattle.trajectory.proofs.seconds_of.Statement.{statement}
 use Rattle.trajectory.proofs.seconds_of.Tie as tie
-use Rattle.trajectory.proofs.seconds_of.Reads as reads
-use Rattle.trajectory.proofs.seconds_of.Lts as lts
 
 div-full : tie.Need-div-full
 div-full c = search needs

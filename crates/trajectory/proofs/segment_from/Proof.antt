@@ -2,10 +2,6 @@ use Rattle.trajectory.specs.Walk.{segmentFrom}
 use borrow.Author.Needs.{needs}
 use Rattle.trajectory.proofs.segment_from.Statement.{statement}
 use Rattle.trajectory.proofs.segment_from.Tie as tie
-use Rattle.trajectory.proofs.segment_from.Reads as reads
-use Rattle.trajectory.proofs.segment_from.Lts as lts
-use Rattle.trajectory.proofs.next_stop.Reads as next-stop-reads
-use Rattle.trajectory.proofs.segment_to.Reads as segment-to-reads
 
 next-stop-requires : tie.Need-next-stop-requires
 next-stop-requires c κs = search needs

@@ -2,11 +2,6 @@ use Rattle.trajectory.specs.Walk.{segmentTo}
 use borrow.Author.Needs.{needs}
 use Rattle.trajectory.proofs.segment_to.Statement.{statement}
 use Rattle.trajectory.proofs.segment_to.Tie as tie
-use Rattle.trajectory.proofs.segment_to.Reads as reads
-use Rattle.trajectory.proofs.segment_to.Lts as lts
-use Rattle.trajectory.proofs.gap_between.Reads as gap-between-reads
-use Rattle.trajectory.proofs.hold_at.Reads as hold-at-reads
-use Rattle.trajectory.proofs.rate_at.Reads as rate-at-reads
 
 gap-between-requires : tie.Need-gap-between-requires
 gap-between-requires c κs = search needs

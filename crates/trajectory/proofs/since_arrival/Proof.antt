@@ -4,15 +4,11 @@ use Rattle.trajectory.specs.Arrival.{arrivalOf}
 use Rattle.trajectory.specs.Walk.{beginning}
 use Rattle.segments.specs.declared.Segment.{Segment}
 use mathlib.Core.List.{List}
-use Prim.Native.Nat.{ℕ, _-_}
+use Prim.Native.Nat.{_-_}
 use mathlib.Core.Path.{ap, _∙_}
 use borrow.Author.Needs.{needs}
 use Rattle.trajectory.proofs.since_arrival.Statement.{statement}
 use Rattle.trajectory.proofs.since_arrival.Tie as tie
-use Rattle.trajectory.proofs.since_arrival.Reads as reads
-use Rattle.trajectory.proofs.since_arrival.Lts as lts
-use Rattle.trajectory.proofs.is_rising.Reads as is-rising-reads
-use Rattle.trajectory.proofs.since_last_stop.Reads as since-last-stop-reads
 
 is-rising-requires : tie.Need-is-rising-requires
 is-rising-requires c κs = search needs

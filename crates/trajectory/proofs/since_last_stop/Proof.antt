@@ -5,24 +5,16 @@ use Rattle.trajectory.specs.Arrival.{arrivalOf, resting, pause}
 use Rattle.trajectory.specs.Walk.{segmentTo, segmentFrom, segmentsFrom}
 use Rattle.trajectory.specs.Ways.{headed, listsIn}
 use Rattle.course.proofs.Ahead.{next-past}
-use Rattle.course.proofs.Near.{Past, Short, short-past, gap-to}
+use Rattle.course.proofs.Near.{Past, Short, short-past}
 use Rattle.course.specs.Course.{toward, nextStop}
-use Rattle.segments.specs.Segments.{seconds}
 use Rattle.level.specs.Level.{grains}
 use borrow.Author.Needs.{needs}
 use native.Mathlib.Omega.{arith}
 use mathlib.Core.Bool.{false}
 use mathlib.Core.Path.{_≡_, refl, sym, ap, _∙_}
-use Prim.Native.Nat.{ℕ, _+_, _-_, _≤_, _<_}
+use Prim.Native.Nat.{_+_, _-_, _≤_}
 use Rattle.trajectory.proofs.since_last_stop.Statement.{statement}
 use Rattle.trajectory.proofs.since_last_stop.Tie as tie
-use Rattle.trajectory.proofs.since_last_stop.Reads as reads
-use Rattle.trajectory.proofs.since_last_stop.Lts as lts
-use Rattle.trajectory.proofs.moved.Reads as moved-reads
-use Rattle.trajectory.proofs.pause_at.Reads as pause-at-reads
-use Rattle.trajectory.proofs.rests_at.Reads as rests-at-reads
-use Rattle.trajectory.proofs.seconds_of.Reads as seconds-of-reads
-use Rattle.trajectory.proofs.segment_from.Reads as segment-from-reads
 
 abbrev Inv-loop : tie.InvT-loop
 Inv-loop u c up from k v₀ left₀ v left =

@@ -1,16 +1,11 @@
 use Rattle.trajectory.proofs.Nexts.{level-counts, level-no-minutes, level-out}
-use Rattle.trajectory.specs.Ways.{headed, lower}
+use Rattle.trajectory.specs.Ways.{lower}
 use Rattle.course.specs.Course.{rising}
 use borrow.Author.Tests.{le-ltb, lt-ltb}
 use mathlib.Core.Path.{_∙_}
-use native.Mathlib.Omega.{arith}
 use borrow.Author.Needs.{needs}
 use Rattle.trajectory.proofs.soak_stop.Statement.{statement}
 use Rattle.trajectory.proofs.soak_stop.Tie as tie
-use Rattle.trajectory.proofs.soak_stop.Reads as reads
-use Rattle.trajectory.proofs.soak_stop.Lts as lts
-use Rattle.trajectory.proofs.grains_of.Reads as grains-of-reads
-use Rattle.trajectory.proofs.nearer.Reads as nearer-reads
 
 grains-of-requires : tie.Need-grains-of-requires
 grains-of-requires c κs = search needs

@@ -1,13 +1,10 @@
 use Rattle.trajectory.proofs.Nexts.{two-levels}
-use Rattle.trajectory.specs.Ways.{headed, lower}
+use Rattle.trajectory.specs.Ways.{lower}
 use Rattle.course.specs.Course.{rising}
 use Rattle.records.specs.declared.Trigger.{Trigger}
 use borrow.Author.Needs.{needs}
 use Rattle.trajectory.proofs.soak_stops.Statement.{statement}
 use Rattle.trajectory.proofs.soak_stops.Tie as tie
-use Rattle.trajectory.proofs.soak_stops.Reads as reads
-use Rattle.trajectory.proofs.soak_stops.Lts as lts
-use Rattle.trajectory.proofs.soak_stop.Reads as soak-stop-reads
 
 array-copy-out-soak-stop : tie.Need-array-copy-out-soak-stop
 array-copy-out-soak-stop c = search needs

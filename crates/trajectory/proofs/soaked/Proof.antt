@@ -7,10 +7,6 @@ use native.Mathlib.Omega.{arith}
 use borrow.Author.Needs.{needs}
 use Rattle.trajectory.proofs.soaked.Statement.{statement}
 use Rattle.trajectory.proofs.soaked.Tie as tie
-use Rattle.trajectory.proofs.soaked.Reads as reads
-use Rattle.trajectory.proofs.soaked.Lts as lts
-use Rattle.trajectory.proofs.column_for.Reads as column-for-reads
-use Rattle.trajectory.proofs.held_two.Reads as held-two-reads
 
 column-for-requires : tie.Need-column-for-requires
 column-for-requires c κs = search needs

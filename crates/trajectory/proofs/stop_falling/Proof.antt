@@ -3,13 +3,6 @@ use Rattle.level.specs.Level.{grains}
 use borrow.Author.Needs.{needs}
 use Rattle.trajectory.proofs.stop_falling.Statement.{statement}
 use Rattle.trajectory.proofs.stop_falling.Tie as tie
-use Rattle.trajectory.proofs.stop_falling.Reads as reads
-use Rattle.trajectory.proofs.stop_falling.Lts as lts
-use Rattle.trajectory.proofs.deload_break.Reads as deload-break-reads
-use Rattle.trajectory.proofs.dwell_stops.Reads as dwell-stops-reads
-use Rattle.trajectory.proofs.grains_of.Reads as grains-of-reads
-use Rattle.trajectory.proofs.nearer.Reads as nearer-reads
-use Rattle.trajectory.proofs.ramp_breaks.Reads as ramp-breaks-reads
 
 grains-of-requires : tie.Need-grains-of-requires
 grains-of-requires c κs = search needs

@@ -3,15 +3,6 @@ use Rattle.level.specs.Level.{grains}
 use borrow.Author.Needs.{needs}
 use Rattle.trajectory.proofs.stop_rising.Statement.{statement}
 use Rattle.trajectory.proofs.stop_rising.Tie as tie
-use Rattle.trajectory.proofs.stop_rising.Reads as reads
-use Rattle.trajectory.proofs.stop_rising.Lts as lts
-use Rattle.trajectory.proofs.column_breaks.Reads as column-breaks-reads
-use Rattle.trajectory.proofs.column_for.Reads as column-for-reads
-use Rattle.trajectory.proofs.dwell_stops.Reads as dwell-stops-reads
-use Rattle.trajectory.proofs.grains_of.Reads as grains-of-reads
-use Rattle.trajectory.proofs.nearer.Reads as nearer-reads
-use Rattle.trajectory.proofs.ramp_breaks.Reads as ramp-breaks-reads
-use Rattle.trajectory.proofs.soak_stops.Reads as soak-stops-reads
 
 grains-of-requires : tie.Need-grains-of-requires
 grains-of-requires c κs = search needs

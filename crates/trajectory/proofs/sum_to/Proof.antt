@@ -1,18 +1,14 @@
 use Rattle.trajectory.proofs.Areas.{twice-on, twice-here}
 use Rattle.trajectory.proofs.Goes.{Goes, onward-goes, standing-on, standing-here}
-use Rattle.trajectory.specs.Walk.{onward, standing, twiceTo}
+use Rattle.trajectory.specs.Walk.{standing, twiceTo}
 use Rattle.trajectory.specs.Ways.{headed, listsIn}
 use Rattle.course.proofs.Near.{Short}
 use Rattle.level.specs.Level.{grains}
 use native.Mathlib.Omega.{arith}
 use Prim.Native.Nat.{_≤_, _<_, _+_, _*_, _-_}
-use mathlib.Core.Path.{_≡_, refl, sym, ap, _∙_}
+use mathlib.Core.Path.{_≡_, refl, sym, _∙_}
 use Rattle.trajectory.proofs.sum_to.Statement.{statement}
 use Rattle.trajectory.proofs.sum_to.Tie as tie
-use Rattle.trajectory.proofs.sum_to.Reads as reads
-use Rattle.trajectory.proofs.sum_to.Lts as lts
-use Rattle.trajectory.proofs.twice_between.Reads as twice-between-reads
-use Rattle.trajectory.proofs.walk_on.Reads as walk-on-reads
 
 abbrev Inv-loop : tie.InvT-loop
 Inv-loop u c up n p₀ twice₀ p twice =

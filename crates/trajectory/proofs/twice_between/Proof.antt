@@ -5,8 +5,6 @@ use native.Mathlib.Omega.{arith}
 use borrow.Author.Needs.{needs}
 use Rattle.trajectory.proofs.twice_between.Statement.{statement}
 use Rattle.trajectory.proofs.twice_between.Tie as tie
-use Rattle.trajectory.proofs.twice_between.Reads as reads
-use Rattle.trajectory.proofs.twice_between.Lts as lts
 
 sub-time : tie.Need-sub-time
 sub-time c = search needs

@@ -1,24 +1,17 @@
 use Rattle.trajectory.proofs.Areas.{no-area, twice-is}
 use Rattle.trajectory.proofs.Courses.{begins-short}
-use Rattle.trajectory.specs.Walk.{beginning, standing, twiceTo}
-use Rattle.trajectory.specs.Ways.{headed, listsIn}
+use Rattle.trajectory.specs.Walk.{beginning, standing}
 use Rattle.trajectory.specs.declared.Place.{Place}
 use Rattle.course.specs.Course.{levelAt, trajectoryOf}
 use Rattle.segments.specs.Segments.{area}
 use Rattle.level.specs.Level.{grains}
 use native.Mathlib.Nat.{sub-zero}
 use native.Mathlib.Omega.{arith}
-use mathlib.Core.Path.{_≡_, refl, sym, ap, _∙_}
-use Prim.Native.Nat.{ℕ, _<_, _≤_, _-_, max}
+use mathlib.Core.Path.{_≡_, sym, ap, _∙_}
+use Prim.Native.Nat.{ℕ, _<_, _-_}
 use borrow.Author.Needs.{needs}
 use Rattle.trajectory.proofs.twice_in.Statement.{statement}
 use Rattle.trajectory.proofs.twice_in.Tie as tie
-use Rattle.trajectory.proofs.twice_in.Reads as reads
-use Rattle.trajectory.proofs.twice_in.Lts as lts
-use Rattle.trajectory.proofs.begin_at.Reads as begin-at-reads
-use Rattle.trajectory.proofs.is_rising.Reads as is-rising-reads
-use Rattle.trajectory.proofs.sum_to.Reads as sum-to-reads
-use Rattle.trajectory.proofs.walk_to.Reads as walk-to-reads
 
 returns : tie.Need-returns
 returns c =

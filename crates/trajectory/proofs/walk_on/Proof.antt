@@ -3,17 +3,10 @@ use Rattle.trajectory.specs.Ways.{headed, listsIn}
 use Rattle.course.proofs.Near.{short-past}
 use Rattle.level.specs.Level.{grains}
 use native.Mathlib.Omega.{arith}
-use mathlib.Core.Path.{_∙_, _≡_, sym}
+use mathlib.Core.Path.{_∙_}
 use borrow.Author.Needs.{needs}
 use Rattle.trajectory.proofs.walk_on.Statement.{statement}
 use Rattle.trajectory.proofs.walk_on.Tie as tie
-use Rattle.trajectory.proofs.walk_on.Reads as reads
-use Rattle.trajectory.proofs.walk_on.Lts as lts
-use Rattle.trajectory.proofs.after_hold.Reads as after-hold-reads
-use Rattle.trajectory.proofs.after_rest.Reads as after-rest-reads
-use Rattle.trajectory.proofs.along_segment.Reads as along-segment-reads
-use Rattle.trajectory.proofs.grains_of.Reads as grains-of-reads
-use Rattle.trajectory.proofs.segment_from.Reads as segment-from-reads
 
 after-hold-requires : tie.Need-after-hold-requires
 after-hold-requires c κs = search needs

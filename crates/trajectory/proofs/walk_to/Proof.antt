@@ -1,6 +1,6 @@
-use Prim.Native.Nat.{_≤_, _<_, _-_, max}
+use Prim.Native.Nat.{_≤_, _-_, max}
 use Rattle.trajectory.proofs.Goes.{Goes, onward-goes, standing-on, standing-here}
-use Rattle.trajectory.specs.Walk.{onward, standing}
+use Rattle.trajectory.specs.Walk.{standing}
 use Rattle.trajectory.specs.Ways.{headed, listsIn}
 use Rattle.course.proofs.Near.{Short}
 use Rattle.level.specs.Level.{grains}
@@ -8,9 +8,6 @@ use native.Mathlib.Omega.{arith}
 use mathlib.Core.Path.{_≡_, refl, sym, _∙_}
 use Rattle.trajectory.proofs.walk_to.Statement.{statement}
 use Rattle.trajectory.proofs.walk_to.Tie as tie
-use Rattle.trajectory.proofs.walk_to.Reads as reads
-use Rattle.trajectory.proofs.walk_to.Lts as lts
-use Rattle.trajectory.proofs.walk_on.Reads as walk-on-reads
 
 abbrev Inv-loop : tie.InvT-loop
 Inv-loop u c up n p₀ p =
