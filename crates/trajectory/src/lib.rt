@@ -556,7 +556,9 @@ pub fn walk_on(u: records::UnitData, c: course::Course, up: bool, p: Place, n: u
 pub fn walk_to(u: records::UnitData, c: course::Course, up: bool, from: Place, n: u32) -> Place
     requires { ⌜ from .second ≤ n ⌝ }
     requires { ⌜ Short (headed up) (grains (c .target)) (from .level) ⌝ }
-    ensures { λ r. ⌜ (r ≡ standing (headed up) (listsIn u c) (grains (c .target)) n from) × Short (headed up) (grains (c .target)) (r .level) × (r .level ≤ max (from .level) (grains (c .target))) ⌝ }
+    ensures { λ r. ⌜ (r ≡ standing (headed up) (listsIn u c) (grains (c .target)) n from)
+        × Short (headed up) (grains (c .target)) (r .level)
+        × (r .level ≤ max (from .level) (grains (c .target))) ⌝ }
 {
     let mut p = from;
     while p.second < n {
@@ -632,7 +634,11 @@ pub fn sum_to(u: records::UnitData, c: course::Course, up: bool, from: Place, n:
     requires { ⌜ (from .second ≤ n) × (n ≤ 16777216) ⌝ }
     requires { ⌜ Short (headed up) (grains (c .target)) (from .level) ⌝ }
     requires { ⌜ from .level < 274877906944 ⌝ }
-    ensures { λ r. ⌜ (r .place ≡ standing (headed up) (listsIn u c) (grains (c .target)) n from) × (r .twice ≡ twiceTo (headed up) (listsIn u c) (grains (c .target)) n from) × (r .twice ≤ (n - from .second) * 549755813888) × Short (headed up) (grains (c .target)) (r .place .level) × (r .place .level < 274877906944) ⌝ }
+    ensures { λ r. ⌜ (r .place ≡ standing (headed up) (listsIn u c) (grains (c .target)) n from)
+        × (r .twice ≡ twiceTo (headed up) (listsIn u c) (grains (c .target)) n from)
+        × (r .twice ≤ (n - from .second) * 549755813888)
+        × Short (headed up) (grains (c .target)) (r .place .level)
+        × (r .place .level < 274877906944) ⌝ }
 {
     let mut p = from;
     let mut twice: u64 = 0;
