@@ -23,7 +23,7 @@ use Rattle.trajectory.specs.Ways.{headed, listsIn}
 use Rattle.trajectory.specs.Walk.{momentOf, beginning, twiceBetween, standing, twiceTo}
 use Rattle.trajectory.proofs.Seconds.{after-add}
 use Rattle.trajectory.proofs.Goes.{Goes}
-use Rattle.trajectory.proofs.Courses.{heading-is, moment-is, level-top}
+use Rattle.trajectory.proofs.Courses.{heading-is, moment-is, level-low}
 
 sum-from : (g : ℕ → ℕ) (x i n : ℕ) → sum g (x + i) n ≡ sum (λ j. g (x + j)) i n
 unfolding sum
@@ -121,7 +121,7 @@ sum-low f m b a (suc n) = omega (arith, b a, sum-low f m b (suc a) n)
 
 pub area-low : (u : UnitData) (c : Course) (a n : ℕ) → c .start .grains < 274877906944 → c .target < 4294967296 →
     area (levelAt (trajectoryOf u c)) a n ≤ n * 549755813888
-unfolding area trajectoryOf grains
+unfolding area
 area-low u c a n s t =
     let f : ℕ → ℕ = levelAt (trajectoryOf u c) in
-    sum-low (λ j. f j + f (suc j)) 549755813888 (λ j. omega (arith, level-top (trajectoryOf u c) j, level-top (trajectoryOf u c) (suc j))) a n
+    sum-low (λ j. f j + f (suc j)) 549755813888 (λ j. omega (arith, level-low u c j s t, level-low u c (suc j) s t)) a n

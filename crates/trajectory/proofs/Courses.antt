@@ -1,6 +1,6 @@
 -- A course from its beginning.
 -- Assumes nothing.
-use Prim.Native.Nat.{ℕ, suc, _+_, _-_, max, _≤_}
+use Prim.Native.Nat.{ℕ, suc, _+_, _-_, max, _≤_, _<_}
 use mathlib.Core.Path.{_≡_, refl, ap, sym, _∙_}
 use mathlib.Core.List.{List, [], _∷_}
 use mathlib.Core.Bool.{Bool, true, false}
@@ -56,3 +56,8 @@ level-top c k = elim (decLe (suc (c .start)) (c .target)) [
   | yes p ↦ omega (arith, level-up c p k, recorded-top (segments c) k, ways-within c)
   | no p ↦ omega (arith, level-down c (omega arith) k)
 ]
+
+-- below the levels of 32 bits of kW, if it starts there
+pub level-low : (u : UnitData) (c : Course) (k : ℕ) → c .start .grains < 274877906944 → c .target < 4294967296 → levelAt (trajectoryOf u c) k < 274877906944
+unfolding trajectoryOf grains
+level-low u c k s t = omega (arith, level-top (trajectoryOf u c) k)

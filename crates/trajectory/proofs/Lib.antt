@@ -10,3 +10,4 @@ pub mod Left
 pub mod Areas
 pub mod Arrivals
 pub mod Noted
+pub mod Pieced

@@ -1,4 +1,6 @@
 // A course in code: its rate, next stop and hold at a level, and what follows from them at any second.
+// Others use `level_after`, `since_arrival`, `noted_sums` and `twice_in`; and, to go along a course piece by piece,
+// `is_rising`, `begin_at`, `walk_on` and `piece_between`, whose laws for a loop are in proofs/Pieced.antt.
 ghost use mathlib.Core.Path.{_≡_};
 ghost use Prim.Native.Nat.{ℕ, _+_, _*_, _-_, _/_, min, max, _<_, _≤_};
 ghost use mathlib.Core.List.{[], _∷_, _++_, map};
@@ -106,6 +108,7 @@ fn replaced_rate(rates: [u32; 5], r: u32, n: usize) -> u64
     r as u64
 }
 
+// The rate at the level v by a ramp list.
 fn rate_of_ramp(l: records::Ramp, r: u32, up: bool, v: u64) -> u64
     ensures { λ x. ⌜ x ≡ getD (replaced r (l .rates)) (passed (headed up) v (map grains (l .breaks))) 0 ⌝ }
 {
@@ -115,6 +118,7 @@ fn rate_of_ramp(l: records::Ramp, r: u32, up: bool, v: u64) -> u64
     replaced_rate(rs, r, n)
 }
 
+// By a start-up column, rising.
 fn rate_of_column(l: records::Column, v: u64) -> u64
     ensures { λ x. ⌜ x ≡ getD (l .rates) (passed rising v (map grains (l .breaks))) 0 ⌝ }
 {
@@ -123,6 +127,7 @@ fn rate_of_column(l: records::Column, v: u64) -> u64
     l.rates[n] as u64
 }
 
+// By deload, falling.
 fn rate_of_deload(l: records::Deload, v: u64) -> u64
     ensures { λ x. ⌜ x ≡ getD (l .rates) (passed falling v (map grains (l .breaks))) 0 ⌝ }
 {
@@ -131,6 +136,7 @@ fn rate_of_deload(l: records::Deload, v: u64) -> u64
     l.rates[n] as u64
 }
 
+// "Rising below MSG uses the column, otherwise ramp-up."
 fn rate_rising(u: records::UnitData, c: course::Course, v: u64) -> u64
     ensures { λ x. ⌜ x ≡ rateAt rising (listsIn u c) v ⌝ }
 {
@@ -143,6 +149,7 @@ fn rate_rising(u: records::UnitData, c: course::Course, v: u64) -> u64
     rate_of_column(l, v)
 }
 
+// "Falling above MSG uses ramp-down, otherwise deload."
 fn rate_falling(u: records::UnitData, c: course::Course, v: u64) -> u64
     ensures { λ x. ⌜ x ≡ rateAt falling (listsIn u c) v ⌝ }
 {
@@ -178,6 +185,7 @@ fn held_one(w: u64, g: records::Trigger) -> u64
     0
 }
 
+// Added where triggers coincide.
 fn held_three(w: u64, gs: [records::Trigger; 3]) -> u64
     ensures { λ r. ⌜ (r ≡ holding w (map inGrains gs)) × (r ≤ 773094113280) ⌝ }
 {
@@ -336,6 +344,7 @@ fn soak_stops(v: u64, msg: u64, gs: [records::Trigger; 2], n: u64) -> u64
     soak_stop(v, msg, gs[0], b)
 }
 
+// Every candidate in turn, the nearest so far going along; the target is the furthest.
 fn stop_rising(u: records::UnitData, c: course::Course, v: u64) -> u64
     ensures { λ r. ⌜ r ≡ nextStop rising (listsIn u c) (grains (c .target)) v ⌝ }
 {
@@ -520,6 +529,7 @@ fn run_seconds(p: Place, s: segments::Segment, n: u32) -> u32
     room
 }
 
+// The straight piece that a segment begins with.
 fn along_segment(up: bool, p: Place, s: segments::Segment, n: u32) -> Place
     requires { ⌜ p .second < n ⌝ }
     requires { ⌜ Reaches (headed up) (p .level) (s .way) ⌝ }
@@ -679,6 +689,7 @@ fn own_second(begin: u32, end: u32, b: usize) -> u32
     past(begin, end)
 }
 
+// The seconds from `begin` to x, 0 if x comes first.
 fn past(begin: u32, x: u32) -> u32
     ensures { λ r. ⌜ r ≡ x - begin ⌝ }
 {
@@ -737,6 +748,7 @@ fn rests_at(u: records::UnitData, c: course::Course, up: bool, v: u64) -> bool
     rate == 0
 }
 
+// What counts of the hold at the level v.
 fn pause_at(u: records::UnitData, c: course::Course, up: bool, v: u64, hold: u64) -> u64
     ensures { λ r. ⌜ r ≡ pause (headed up) (listsIn u c) (grains (c .target)) v hold ⌝ }
 {
