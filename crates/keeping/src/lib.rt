@@ -519,16 +519,17 @@ fn fail_one(s: Checking, o: validation::Numbered) -> Checking
     if place == 0 {
         return with_fate(s, o, 5);
     }
-    let sync = kept[place - 1];
+    let below = place - 1;
+    let sync = kept[below];
     if !within_hour(sync, o) {
         return with_fate(s, o, 5);
     }
-    let voided = void_from(s, place - 1);
+    let voided = void_from(s, below);
     let next = with_fate(voided, o, 5);
     let fates = next.fates;
     Checking {
         kept,
-        height: place - 1,
+        height: below,
         fates,
     }
 }
