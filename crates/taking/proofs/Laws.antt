@@ -21,13 +21,15 @@ use Rattle.records.specs.declared.Refusal.the-variants.{UnknownKind, TooFewByte
 use Rattle.records.specs.Answers.{accepted, refusing, firstRefusal}
 use Rattle.records.specs.Records.{sizeOf, numbers, unitOf, openingOf, instructionOf}
 use Rattle.records.specs.Fields.{unitAnswer, openingAnswer, instructionAnswer}
-use Rattle.profile.specs.Profile.{Found}
+use Rattle.profile.specs.Profile.{Found, paper}
 use Rattle.day.specs.declared.Day.{Day}
 use Rattle.day.specs.declared.Stepped.{Stepped}
-use Rattle.day.specs.Day.{daySeconds, withUnit, withOpening, withInstruction, closedWith}
+use Rattle.day.specs.Day.{daySeconds, entered, withUnit, withOpening, withInstruction, closedWith, foundIn}
+use Rattle.close.specs.Finding.{arraysOf, findingOf, someAbove}
+use Rattle.close.proofs.Whole.{too-high-is}
 use Rattle.day.specs.Step.{kindOf, bodyOf, noBytes, unknownKind, tooFew, secondOne, beforeUnit, tooMany, notReady, fieldAnswer, tooHigh, quantityTooHigh, answerBy, dayWith, stepBy}
 use Rattle.day.proofs.Passed.{by-bool, is-accepted, passed}
-use Rattle.taking.specs.Kinds.{refuse, accept, onAnswer, unitStep, openingTaken, openingStep, instructionStep, closeStep}
+use Rattle.taking.specs.Kinds.{refuse, accept, onAnswer, unitStep, openingTaken, openingStep, instructionStep, closedBy, closeStep}
 
 -- what an answer makes of a day: as it stands, or taken
 settle : Answer → Day → Stepped → Stepped
@@ -303,3 +305,31 @@ module _ (d : Day) (o : Opening) where
   pub taken-low : tooHigh (d .unit) o ≡ false → accept (withOpening d o) 17 ≡ openingTaken d o
   unfolding openingTaken
   taken-low e = simp e
+
+-- ---- a close
+module _ (d : Day) where
+  -- with what was found as arrays, it is the day that the definition closes
+  pub closed-is : closedBy d (arraysOf (foundIn paper d)) ≡ closedWith d (foundIn paper d)
+  unfolding closedBy closedWith arraysOf
+  closed-is = refl
+
+  pub finding-is : findingOf (d .unit) (d .opening) (d .instructions) (d .count) ≡ arraysOf (foundIn paper d)
+  unfolding findingOf foundIn entered
+  finding-is = refl
+
+  -- a quantity too high, by the sums
+  pub high-is : someAbove (d .unit .maximum) (arraysOf (foundIn paper d) .sums) 0 48 ≡ quantityTooHigh (d .unit) (foundIn paper d)
+  unfolding foundIn entered findingOf
+  high-is = too-high-is (d .unit) (d .opening) (d .instructions) (d .count)
+
+  pub close-unready : d .hasOpening ≡ false → refuse NotReady d ≡ closeStep (foundIn paper) d
+  unfolding closeStep
+  close-unready o = simp o
+
+  pub close-high : d .hasOpening ≡ true → quantityTooHigh (d .unit) (foundIn paper d) ≡ true → refuse QuantityTooHigh d ≡ closeStep (foundIn paper) d
+  unfolding closeStep
+  close-high o q = simp (o, q)
+
+  pub close-taken : d .hasOpening ≡ true → quantityTooHigh (d .unit) (foundIn paper d) ≡ false → accept (closedWith d (foundIn paper d)) 1 ≡ closeStep (foundIn paper) d
+  unfolding closeStep
+  close-taken o q = simp (o, q)

@@ -17,6 +17,7 @@ use Rattle.day.specs.declared.Day.{Day}
 use Rattle.day.specs.declared.Stepped.{Stepped}
 use Rattle.day.specs.Day.{daySeconds, withUnit, withOpening, withInstruction, closedWith}
 use Rattle.day.specs.Step.{tooHigh, quantityTooHigh}
+use Rattle.close.specs.declared.Finding.{Finding}
 
 -- a refusal: its number, the same day, nothing used
 abbrev pub refuse : Refusal → Day → Stepped
@@ -50,6 +51,23 @@ instructionStep d b =
     (pick (leb 40 (d .count)) (refuse TooManyInstructions d)
     (onAnswer (instructionAnswer daySeconds b) d
     (accept (withInstruction d (instructionOf b)) 22)))
+
+-- closed, with what was found as arrays
+unfoldable pub closedBy : Day → Finding → Day
+closedBy d f = record {
+  hasUnit = d .hasUnit;
+  unit = d .unit;
+  hasOpening = d .hasOpening;
+  opening = d .opening;
+  count = d .count;
+  instructions = d .instructions;
+  closed = true;
+  fates = f .fates;
+  started = f .started;
+  courses = f .courses;
+  sums = f .sums;
+  closing = f .closing;
+}
 
 unfoldable pub closeStep : (Day → Found) → Day → Stepped
 closeStep find d =
