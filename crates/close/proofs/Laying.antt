@@ -7,7 +7,7 @@ use mathlib.Core.Bool.{Bool, true, false, true≢false}
 use native.Mathlib.Decide.{decLe, ℕ-discrete}
 use native.Mathlib.Omega.{arith}
 use lib.Dec.{leb, eqb}
-use lib.ListN.{length, take, getD, set, replicate, length-append, length-map, List·getD-append, List·getD-map}
+use lib.ListN.{length, take, getD, set, replicate, length-map, List·getD-append, List·getD-map}
 use lib.Seq.{getD-take, take-set-lt, set-append-left}
 use borrow.Author.Tests.{le-leb, lt-leb, eq-eqb, ne-eqb}
 use Rattle.level.specs.Choice.{pick}

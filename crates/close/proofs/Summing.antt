@@ -1,7 +1,7 @@
 -- The areas of a day's courses, added up.
 -- Assumes nothing.
 use Prim.Native.Nat.{ℕ, zero, suc, _+_, _*_, _-_, min, _≤_, _<_}
-use mathlib.Core.Path.{_≡_, refl, ap, sym, _∙_}
+use mathlib.Core.Path.{_≡_, ap, sym, _∙_}
 use mathlib.Core.List.{List, [], _∷_, _++_}
 use native.Mathlib.Nat.{mul-le-mul-right}
 use native.Mathlib.Numerals.{add-one}
@@ -16,7 +16,7 @@ use Rattle.course.specs.Course.{trajectoryOf, levelAt}
 use Rattle.course.specs.Pieces.{piecesIn, twiceArea}
 use Rattle.course.proofs.Pieces.{pieces-area}
 use Rattle.keeping.proofs.Laws.{left-cons, left-none}
-use Rattle.profile.specs.Profile.{Span, beginOf, spansOf, piecesTo, twinTo}
+use Rattle.profile.specs.Profile.{beginOf, spansOf, piecesTo}
 use Rattle.day.specs.Day.{noCourse}
 
 module _ (end : ℕ) (cs : List Course) (n : ℕ) where

@@ -10,7 +10,6 @@ use lib.Seq.{getD-take, length-take-le}
 use Rattle.level.specs.Choice.{pick}
 use Rattle.level.specs.Lists.{All, filled}
 use Rattle.records.specs.declared.UnitData.{UnitData}
-use Rattle.course.specs.declared.Course.{Course}
 use Rattle.validation.specs.declared.Numbered.{Numbered}
 use Rattle.validation.specs.Kept.{Mark, mark, acting}
 use Rattle.keeping.proofs.Laws.{filled-push}
@@ -21,7 +20,7 @@ use Rattle.profile.specs.Effects.{Followed, idle, begun, goesOn, replaces, stat
 use Rattle.profile.specs.Profile.{courseOf}
 use Rattle.day.specs.Day.{noCourse}
 use Rattle.close.specs.declared.Walk.{Walk}
-use Rattle.close.specs.Walk.{fateIn, lastOf, walkOf, walkAll, wentOn, replacedBy, actedOn}
+use Rattle.close.specs.Walk.{fateIn, lastOf, walkOf, wentOn, replacedBy, actedOn}
 
 -- an array that begins with f of each, and one more
 map-push : {A B : Type 0} (f : A → B) (z : B) (n : ℕ) (xs : List A) (x : A) → length xs < n →

@@ -3,10 +3,9 @@
 use Prim.Native.Nat.{ℕ, zero, suc, _+_, _*_, _-_, min, _≤_, _<_}
 use mathlib.Core.Path.{_≡_, refl, ap, sym, _∙_}
 use mathlib.Core.Logic.{_≢_}
-use mathlib.Core.List.{List, [], _∷_}
 use mathlib.Core.Bool.{Bool, true, false, _&&_}
 use native.Mathlib.Nat.{mul-le-mul-right}
-use native.Mathlib.Decide.{decLe, ℕ-discrete}
+use native.Mathlib.Decide.{ℕ-discrete}
 use native.Mathlib.Omega.{arith}
 use lib.Dec.{eqb, ltb}
 use borrow.Author.Tests.{eq-eqb, ne-eqb, lt-ltb}
@@ -14,7 +13,6 @@ use Rattle.level.specs.Choice.{pick}
 use Rattle.level.specs.Level.{grains}
 use Rattle.records.specs.declared.UnitData.{UnitData}
 use Rattle.course.specs.declared.Course.{Course}
-use Rattle.course.specs.declared.Piece.{Piece}
 use Rattle.course.specs.Course.{Trajectory, Heading, rising, falling, Moment, heading, second, after, momentAt, levelAt, trajectoryOf}
 use Rattle.course.specs.Pieces.{piece}
 use Rattle.course.proofs.Near.{Short}
@@ -25,8 +23,7 @@ use Rattle.trajectory.specs.Walk.{momentOf, beginning, onward}
 use Rattle.trajectory.proofs.Seconds.{after-add}
 use Rattle.trajectory.proofs.Goes.{Goes, onward-goes}
 use Rattle.trajectory.proofs.Courses.{heading-is, begins-short}
-use Rattle.profile.specs.State.{held, Watch, watchNext, watch, byRule}
-use Rattle.profile.specs.declared.State.{State}
+use Rattle.profile.specs.State.{held, watchNext, watch, byRule}
 use Rattle.close.specs.Watching.{offStarting, offBetween}
 
 -- the one piece of a straight part

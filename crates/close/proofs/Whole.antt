@@ -1,11 +1,11 @@
 -- The walk over those that act, the fates laid over and the sums are together what close finds.
 -- Assumes nothing.
-use Prim.Native.Nat.{ℕ, zero, suc, _+_, _*_, _-_, _^_, min, _≤_, _<_}
+use Prim.Native.Nat.{ℕ, suc, _-_, min, _≤_, _<_}
 use mathlib.Core.Path.{_≡_, refl, ap, sym, _∙_}
-use mathlib.Core.List.{List, [], _∷_, _++_, map}
+use mathlib.Core.List.{List, [], _∷_, map}
 use mathlib.Core.Bool.{Bool, true, false}
 use native.Mathlib.Omega.{arith}
-use lib.ListN.{length, take, getD, length-take, length-map}
+use lib.ListN.{length, take, length-take, length-map}
 use Rattle.level.specs.Level.{grains}
 use lib.Dec.{ltb}
 use Rattle.level.specs.Lists.{All, some, filled, listFrom}
@@ -14,14 +14,13 @@ use Rattle.records.specs.declared.Opening.{Opening}
 use Rattle.records.specs.declared.Instruction.{Instruction}
 use Rattle.course.specs.declared.Course.{Course}
 use Rattle.validation.specs.declared.Numbered.{Numbered}
-use Rattle.validation.specs.Kept.{acting, numbered, validated, fatesOf}
+use Rattle.validation.specs.Kept.{acting, numbered, validated}
 use Rattle.validation.proofs.Acting.{acting-rise}
 use Rattle.validation.proofs.Few.{numbered-length, acts-few}
 use Rattle.keeping.specs.declared.Validation.{Validation}
 use Rattle.keeping.specs.Outcome.{noNumbered, outcomeOf, validationOf}
 use Rattle.keeping.proofs.Laws.{filled-listed}
 use Rattle.profile.specs.declared.UnderWay.{UnderWay}
-use Rattle.profile.specs.declared.Closing.{Closing}
 use Rattle.profile.specs.declared.State.{State}
 use Rattle.profile.specs.State.{byRule}
 use Rattle.profile.specs.Effects.{Followed, idle, begun, opened, goesOn, replaces, stateAt, follow}
@@ -36,11 +35,10 @@ use Rattle.day.specs.Day.{halfHours, noCourse, quantityAt}
 use Rattle.day.specs.Step.{quantityTooHigh}
 use Rattle.close.specs.declared.Walk.{Walk}
 use Rattle.close.specs.declared.Fates.{Fates}
-use Rattle.close.specs.declared.Finding.{Finding}
 use Rattle.close.specs.Walk.{fateIn, lastOf, walkOf, walkAll}
 use Rattle.close.specs.Laying.{overAll, laidAll, marksFrom}
 use Rattle.close.specs.Finding.{arraysOf, findingOf, findingBy, someAbove}
-use Rattle.close.proofs.Laying.{follow-marks, own-marks, fates-found}
+use Rattle.close.proofs.Laying.{own-marks, fates-found}
 
 -- ---- the last course
 module _ (u : UnitData) (end : ℕ) where

@@ -1,8 +1,8 @@
 -- What close finds, as arrays; and whether a quantity lies above the short-term maximum.
 -- Assumes nothing.
-use Prim.Native.Nat.{ℕ, suc, _-_}
-use mathlib.Core.List.{List, [], _∷_}
-use mathlib.Core.Bool.{Bool, true, false}
+use Prim.Native.Nat.{ℕ, suc}
+use mathlib.Core.List.{List}
+use mathlib.Core.Bool.{Bool}
 use lib.Dec.{ltb}
 use lib.ListN.{length, take}
 use Rattle.level.specs.Lists.{filled, some, listFrom}

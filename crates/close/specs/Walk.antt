@@ -1,9 +1,7 @@
 -- The walk over the instructions that act, as arrays: what `follow` says, one instruction after another.
 -- Assumes nothing.
-use Prim.Native.Nat.{ℕ, zero, suc, _+_}
-use mathlib.Core.Path.{_≡_}
-use mathlib.Core.List.{List, [], _∷_, _++_, map}
-use mathlib.Core.Bool.{Bool, true, false}
+use Prim.Native.Nat.{ℕ, _+_}
+use mathlib.Core.List.{List, [], _∷_, map}
 use lib.ListN.{length, set}
 use Rattle.level.specs.Choice.{pick}
 use Rattle.level.specs.Lists.{filled}

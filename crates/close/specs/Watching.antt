@@ -1,7 +1,7 @@
 -- The seconds off, from one straight piece of a course to the next.
 -- Assumes nothing.
 use Prim.Native.Nat.{ℕ, _+_, _-_}
-use mathlib.Core.Bool.{Bool, true, false, _&&_}
+use mathlib.Core.Bool.{_&&_}
 use lib.Dec.{eqb}
 use Rattle.level.specs.Choice.{pick}
 use Rattle.course.specs.declared.Course.{Course}

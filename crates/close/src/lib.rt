@@ -1,28 +1,25 @@
 // What close does: which instructions start a course, the fates, the sums at the half-hour boundaries, the closing state.
 ghost use mathlib.Core.Path.{_≡_};
-ghost use Prim.Native.Nat.{ℕ, _+_, _*_, _-_, min, max, _<_, _≤_};
+ghost use mathlib.Core.List.{[], _∷_};
+ghost use Prim.Native.Nat.{_+_, _-_, min, max, _<_, _≤_};
 ghost use lib.Dec.{eqb};
+ghost use lib.ListN.{take, drop};
 ghost use Rattle.level.specs.Choice.{pick};
-ghost use Rattle.records.specs.declared.Effect.the-variants.{Trip, Mwof, Mxon, Sync, Mxof, Desy, Fail};
-ghost use Rattle.profile.specs.Effects.{idle, heatBy, mwofTarget, syncTarget, setting, stepped, courseFrom, underWay, opened, begun};
-ghost use Rattle.validation.specs.Kept.{acting};
-ghost use Rattle.level.specs.Level.{grains};
-ghost use Rattle.course.specs.Lists.{columnFor};
+ghost use Rattle.level.specs.Lists.{All, listFrom};
+ghost use Rattle.records.specs.declared.Effect.the-variants.{Trip, Mwof, Mxon, Sync, Mxof, Desy};
 ghost use Rattle.course.specs.Course.{trajectoryOf};
+ghost use Rattle.course.specs.Pieces.{piecesIn, twiceArea};
+ghost use Rattle.course.specs.declared.Course.{Course};
+ghost use Rattle.validation.specs.Kept.{acting};
+ghost use Rattle.validation.specs.declared.Numbered.{Numbered};
+ghost use Rattle.profile.specs.Effects.{idle, heatBy, setting, stepped, courseFrom, underWay, opened, begun, stateAt};
+ghost use Rattle.profile.specs.Profile.{beginOf, spansOf, piecesTo, twinTo, closingBy, rounded};
 ghost use Rattle.profile.specs.State.{held, byRule};
-ghost use Rattle.profile.specs.Effects.{stateAt};
-ghost use Rattle.close.specs.Watching.{offStarting, offBetween};
+ghost use Rattle.day.specs.Day.{noCourse, quantityAt};
+ghost use Rattle.close.specs.Finding.{findingOf, findingBy, someAbove};
 ghost use Rattle.close.specs.Laying.{laid, laidAll, marksFrom};
 ghost use Rattle.close.specs.Walk.{walkOf, walkAll, wentOn, replacedBy, actedOn};
-ghost use Rattle.day.specs.Day.{noCourse, quantityAt};
-ghost use lib.ListN.{length, take, drop, getD};
-ghost use mathlib.Core.List.{[], _∷_};
-ghost use Rattle.level.specs.Lists.{All, listFrom};
-ghost use Rattle.course.specs.declared.Course.{Course};
-ghost use Rattle.course.specs.Pieces.{piecesIn, twiceArea};
-ghost use Rattle.profile.specs.Profile.{beginOf, spansOf, piecesTo, twinTo, closingBy, rounded};
-ghost use Rattle.close.specs.Finding.{findingOf, findingBy, someAbove};
-ghost use Rattle.validation.specs.declared.Numbered.{Numbered};
+ghost use Rattle.close.specs.Watching.{offStarting, offBetween};
 
 // ---- what each instruction does at its acting second
 
@@ -218,7 +215,7 @@ fn set_desy(
 }
 
 // What an instruction sets, read with the state just before.
-pub fn setting_of(
+fn setting_of(
     u: records::UnitData,
     now: profile::UnderWay,
     i: records::Instruction,

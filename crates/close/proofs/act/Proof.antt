@@ -1,8 +1,7 @@
 use Rattle.profile.specs.State.{byRule}
 use Rattle.profile.specs.Effects.{stateAt}
 use Rattle.close.proofs.Walking.{acts-idle, acts-new}
-use mathlib.Core.Path.{_≡_, refl, ap, sym, _∙_}
-use Rattle.close.specs.Walk.{actedOn}
+use mathlib.Core.Path.{ap, _∙_}
 use borrow.Author.Needs.{needs}
 use Rattle.close.proofs.act.Statement.{statement}
 use Rattle.close.proofs.act.Tie as tie

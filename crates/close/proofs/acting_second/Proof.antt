@@ -1,4 +1,4 @@
-use mathlib.Core.Path.{_≡_, refl, ap, sym, _∙_}
+use mathlib.Core.Path.{refl}
 use native.Mathlib.Omega.{arith}
 use Rattle.validation.specs.Kept.{acting}
 use Rattle.close.proofs.acting_second.Statement.{statement}

@@ -1,4 +1,3 @@
-use mathlib.Core.Path.{_≡_, refl, ap, sym, _∙_}
 use Rattle.profile.specs.Effects.{begun}
 use borrow.Author.Needs.{needs}
 use Rattle.close.proofs.begin_course.Statement.{statement}

@@ -1,4 +1,4 @@
-use mathlib.Core.Path.{_≡_, refl, ap, sym, _∙_}
+use mathlib.Core.Path.{refl}
 use Rattle.close.specs.Walk.{walkOf}
 use Rattle.level.specs.Lists.{filled}
 use borrow.Author.Needs.{needs}

@@ -1,4 +1,4 @@
-use mathlib.Core.Path.{_≡_, refl, ap, sym, _∙_}
+use mathlib.Core.Path.{ap}
 use Rattle.profile.specs.Profile.{closingBy}
 use borrow.Author.Needs.{needs}
 use Rattle.close.proofs.closing_of.Statement.{statement}

@@ -1,5 +1,5 @@
 use Rattle.level.specs.Level.{fromKw}
-use mathlib.Core.Path.{_≡_, refl, ap, sym, _∙_}
+use mathlib.Core.Path.{refl}
 use Rattle.profile.specs.Effects.{courseFrom}
 use borrow.Author.Needs.{needs}
 use Rattle.close.proofs.course_from.Statement.{statement}

@@ -1,4 +1,3 @@
-use mathlib.Core.Path.{_≡_, refl, ap, sym, _∙_}
 use native.Mathlib.Omega.{arith}
 use Rattle.close.proofs.Whole.{acting-few, acting-fits, started-few, starts-fit, find-is}
 use borrow.Author.Needs.{needs}

@@ -1,8 +1,8 @@
-use Prim.Native.Nat.{ℕ, _≤_, _<_, _-_, _+_}
-use mathlib.Core.Path.{_≡_, refl, sym, ap, _∙_}
+use Prim.Native.Nat.{_≤_, _<_, _-_, _+_}
+use mathlib.Core.Path.{_≡_, refl, ap}
 use native.Mathlib.Omega.{arith}
 use borrow.Author.Needs.{needs}
-use lib.ListN.{length, take, drop, getD}
+use lib.ListN.{take, drop, getD}
 use Rattle.validation.specs.declared.Numbered.{Numbered}
 use Rattle.validation.specs.Kept.{acting}
 use Rattle.close.specs.declared.Walk.{Walk}
@@ -19,6 +19,7 @@ use Rattle.close.proofs.follow_all.Lts as lts
 use Rattle.close.proofs.act.Reads as act-reads
 use Rattle.close.proofs.begin_walk.Reads as begin-walk-reads
 
+-- the walk so far, with what those left give, is the whole
 abbrev Inv-loop : tie.InvT-loop
 Inv-loop u n acts w₀ i₀ w i =
     (i ≤ n) × (w .acted ≡ i) × (w .started ≤ i + 1) × Going u w (drop i (take n acts)) (follow byRule u (w₀ .now) (take n acts))

@@ -1,4 +1,3 @@
-use mathlib.Core.Path.{_≡_, refl, ap, sym, _∙_}
 use native.Mathlib.Omega.{arith}
 use Rattle.close.proofs.Laying.{laid-none, laid-out, laid-one, laid-set}
 use borrow.Author.Needs.{needs}

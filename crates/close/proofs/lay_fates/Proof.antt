@@ -1,10 +1,7 @@
 use Rattle.close.proofs.Laying.{laid-end}
-use mathlib.Core.Path.{_≡_, refl, ap, sym, _∙_}
+use mathlib.Core.Path.{_≡_, _∙_}
 use native.Mathlib.Omega.{arith}
-use Prim.Native.Nat.{ℕ, _≤_, _<_, _-_, _+_}
-use lib.ListN.{getD}
-use borrow.Author.Needs.{needs}
-use Rattle.close.specs.declared.Fates.{Fates}
+use Prim.Native.Nat.{_≤_, _-_}
 use Rattle.close.specs.Laying.{laid, laidAll, marksFrom}
 use Rattle.close.proofs.Laying.{laid-start, laid-back}
 use Rattle.close.proofs.lay_fates.Statement.{statement}
@@ -13,6 +10,7 @@ use Rattle.close.proofs.lay_fates.Reads as reads
 use Rattle.close.proofs.lay_fates.Lts as lts
 use Rattle.close.proofs.lay_fate.Reads as lay-fate-reads
 
+-- the fates of those from the place i on are laid over
 abbrev Inv-loop : tie.InvT-loop
 Inv-loop n acts own out₀ i₀ out i = (i ≤ n) × (out .count ≤ 40) × (out ≡ laidAll out₀ (marksFrom acts own i (n - i)))
 

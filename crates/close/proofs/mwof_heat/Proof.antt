@@ -1,5 +1,4 @@
 use borrow.Author.Tests.{eq-eqb, ne-eqb}
-use native.Mathlib.Omega.{arith}
 use Rattle.close.proofs.mwof_heat.Statement.{statement}
 use Rattle.close.proofs.mwof_heat.Tie as tie
 use Rattle.close.proofs.mwof_heat.Reads as reads

@@ -1,4 +1,4 @@
-use mathlib.Core.Path.{_≡_, refl, ap, sym, _∙_}
+use mathlib.Core.Path.{_∙_}
 use native.Mathlib.Omega.{arith}
 use Rattle.close.proofs.Laws.{between-from, between-to, between-off}
 use borrow.Author.Needs.{needs}

@@ -1,5 +1,4 @@
-use mathlib.Core.Path.{_≡_, refl, ap, sym, _∙_}
-use native.Mathlib.Omega.{arith}
+use mathlib.Core.Path.{_∙_}
 use Rattle.close.proofs.Laws.{starting-off, starting-on}
 use borrow.Author.Needs.{needs}
 use Rattle.close.proofs.off_starting.Statement.{statement}

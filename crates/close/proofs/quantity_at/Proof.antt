@@ -1,4 +1,4 @@
-use mathlib.Core.Path.{_≡_, refl, ap, sym, _∙_}
+use mathlib.Core.Path.{_∙_}
 use native.Mathlib.Omega.{arith}
 use Rattle.close.proofs.Laws.{quantity-past, quantity-less, quantity-more}
 use borrow.Author.Needs.{needs}

@@ -1,6 +1,6 @@
-use mathlib.Core.Path.{_≡_, refl, ap, sym, _∙_}
+use mathlib.Core.Path.{_≡_, refl, sym, _∙_}
 use native.Mathlib.Omega.{arith}
-use Prim.Native.Nat.{ℕ, _≤_, _<_, _-_, _+_}
+use Prim.Native.Nat.{_≤_, _-_}
 use borrow.Author.Needs.{needs}
 use Rattle.close.specs.Finding.{someAbove}
 use Rattle.close.proofs.Laws.{above-here, above-next, above-none}
@@ -10,6 +10,7 @@ use Rattle.close.proofs.quantity_too_high.Reads as reads
 use Rattle.close.proofs.quantity_too_high.Lts as lts
 use Rattle.close.proofs.quantity_at.Reads as quantity-at-reads
 
+-- what is left says the same as the whole
 abbrev Inv-loop : tie.InvT-loop
 Inv-loop sums most i₀ i = (i ≤ 48) × (someAbove most sums i (48 - i) ≡ someAbove most sums 0 48)
 

@@ -1,4 +1,4 @@
-use mathlib.Core.Path.{_≡_, refl, ap, sym, _∙_}
+use mathlib.Core.Path.{ap, sym, _∙_}
 use Rattle.profile.specs.Effects.{setting}
 use borrow.Author.Needs.{needs}
 use Rattle.close.proofs.setting_of.Statement.{statement}

@@ -1,5 +1,4 @@
-use Prim.Native.Nat.{_≤_, _<_, _-_}
-use mathlib.Core.Path.{_≡_, refl, sym, _∙_}
+use Prim.Native.Nat.{_-_}
 use native.Mathlib.Omega.{arith}
 use borrow.Author.Needs.{needs}
 use Rattle.trajectory.proofs.Goes.{Goes}
@@ -16,6 +15,7 @@ use Rattle.trajectory.proofs.begin_at.Reads as begin-at-reads
 use Rattle.trajectory.proofs.is_rising.Reads as is-rising-reads
 use Rattle.trajectory.proofs.walk_on.Reads as walk-on-reads
 
+-- the place and the seconds off so far are what the rule of one second comes to
 abbrev Inv-loop : tie.InvT-loop
 Inv-loop u c before k up p₀ off₀ p off = Watched u c before k up p off
 

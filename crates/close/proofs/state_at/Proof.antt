@@ -1,4 +1,3 @@
-use mathlib.Core.Path.{_≡_, refl, ap, sym, _∙_}
 use Rattle.profile.specs.Effects.{stateAt}
 use borrow.Author.Needs.{needs}
 use Rattle.close.proofs.state_at.Statement.{statement}

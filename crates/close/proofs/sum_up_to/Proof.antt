@@ -1,10 +1,9 @@
-use mathlib.Core.Path.{_≡_, refl, ap, sym, _∙_}
+use mathlib.Core.Path.{_≡_, ap, _∙_}
 use native.Mathlib.Omega.{arith}
 use Prim.Native.Nat.{ℕ, _+_, _*_, _-_, min, _≤_, _<_}
 use Rattle.course.specs.Course.{trajectoryOf}
 use Rattle.course.specs.Pieces.{piecesIn, twiceArea}
-use borrow.Author.Needs.{needs}
-use lib.ListN.{length, take, drop, getD}
+use lib.ListN.{take, drop, getD}
 use Rattle.course.specs.declared.Course.{Course}
 use Rattle.profile.specs.Profile.{spansOf, piecesTo}
 use Rattle.day.specs.Day.{noCourse}
@@ -17,6 +16,7 @@ use Rattle.close.proofs.sum_up_to.Lts as lts
 use Rattle.close.proofs.end_of.Reads as end-of-reads
 use Rattle.close.proofs.twice_up_to.Reads as twice-up-to-reads
 
+-- what is added up, with what is left, is the whole
 abbrev Inv-loop : tie.InvT-loop
 Inv-loop u n x courses sum₀ i₀ sum i =
     (i ≤ n) × (sum + piecesTo (spansOf u 86400 (drop i (take n courses))) x ≡ piecesTo (spansOf u 86400 (take n courses)) x)

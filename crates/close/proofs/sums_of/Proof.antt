@@ -1,10 +1,9 @@
 use Rattle.profile.specs.Profile.{piecesTo}
 use mathlib.Core.Path.{_≡_, refl, ap, sym, _∙_}
 use native.Mathlib.Omega.{arith}
-use Prim.Native.Nat.{ℕ, _+_, _*_, _-_, _≤_, _<_}
-use borrow.Author.Needs.{needs}
-use lib.ListN.{length, take, set, length-set}
-use lib.Seq.{take-suc-set, take-all}
+use Prim.Native.Nat.{_*_, _-_, _≤_}
+use lib.ListN.{length, take, length-set}
+use lib.Seq.{take-all}
 use Rattle.level.specs.Lists.{listFrom}
 use Rattle.profile.specs.Profile.{spansOf, twinTo}
 use Rattle.close.proofs.Summing.{list-set}
@@ -14,6 +13,7 @@ use Rattle.close.proofs.sums_of.Reads as reads
 use Rattle.close.proofs.sums_of.Lts as lts
 use Rattle.close.proofs.sum_up_to.Reads as sum-up-to-reads
 
+-- the first b places are the first b sums
 abbrev Inv-loop : tie.InvT-loop
 Inv-loop u courses n out₀ b₀ x₀ out b x =
     (b ≤ 49) × (x ≡ 1800 * b) × (length out ≡ 49) × (take b out ≡ listFrom (twinTo (spansOf u 86400 (take n courses))) 0 b)

@@ -1,7 +1,7 @@
-use mathlib.Core.Path.{_≡_, refl, ap, sym, _∙_}
+use mathlib.Core.Path.{ap, _∙_}
 use native.Mathlib.Omega.{arith}
 use Rattle.close.proofs.Summing.{course-area, area-low}
-use Prim.Native.Nat.{ℕ, _-_, min, _≤_}
+use Prim.Native.Nat.{ℕ, _-_}
 use Rattle.course.specs.Course.{trajectoryOf}
 use Rattle.course.specs.Pieces.{piecesIn, twiceArea}
 use borrow.Author.Needs.{needs}

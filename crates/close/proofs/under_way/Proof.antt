@@ -1,4 +1,3 @@
-use mathlib.Core.Path.{_≡_, refl, ap, sym, _∙_}
 use Rattle.profile.specs.Effects.{underWay}
 use borrow.Author.Needs.{needs}
 use Rattle.close.proofs.under_way.Statement.{statement}
