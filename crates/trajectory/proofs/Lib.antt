@@ -1,0 +1,10 @@
+pub mod Arrays
+pub mod Rates
+pub mod Holds
+pub mod Nexts
+pub mod Onward
+pub mod Seconds
+pub mod Goes
+pub mod Courses
+pub mod Left
+pub mod Areas

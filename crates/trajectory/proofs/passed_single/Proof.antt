@@ -1,0 +1,26 @@
+use Rattle.trajectory.proofs.Rates.{passed-single}
+use Rattle.trajectory.specs.Ways.{headed}
+use native.Mathlib.Omega.{arith}
+use borrow.Author.Needs.{needs}
+use Rattle.trajectory.proofs.passed_single.Statement.{statement}
+use Rattle.trajectory.proofs.passed_single.Tie as tie
+use Rattle.trajectory.proofs.passed_single.Reads as reads
+use Rattle.trajectory.proofs.passed_single.Lts as lts
+use Rattle.trajectory.proofs.passed_one.Reads as passed-one-reads
+
+-- src/lib.rt:90:23
+array-read-passed-one : tie.Need-array-read-passed-one
+array-read-passed-one c = search needs
+
+-- src/lib.rt:90:5
+passed-one-requires : tie.Need-passed-one-requires
+passed-one-requires c κs = search needs
+
+-- src/lib.rt:87:1
+returns : tie.Need-returns
+returns c =
+    let s = c .before in
+    omega (arith, passed-single (headed (s .args .up)) (s .args .v) (s .args .t3) (s .good .1 .1 .0 .1 .0 .1))
+
+pub passed-single-spec : {M : Type 1} → statement M
+passed-single-spec = tie.close (tie.spec array-read-passed-one passed-one-requires returns)

@@ -1,0 +1,660 @@
+// A course in code: its rate, next stop and hold at a level, and what follows from them at any second.
+ghost use mathlib.Core.Path.{_≡_};
+ghost use Prim.Native.Nat.{ℕ, _+_, _*_, _-_, _/_, min, max, _<_, _≤_};
+ghost use mathlib.Core.List.{[], _∷_, _++_, map};
+ghost use lib.ListN.{length, getD};
+ghost use lib.Dec.{leb, ltb};
+ghost use Rattle.level.specs.Level.{grains};
+ghost use Rattle.segments.specs.Segments.{area};
+ghost use Rattle.course.specs.Lists.{placeOf, columnFor, replaced, inGrains, listsOf};
+ghost use Rattle.course.specs.Course.{rising, falling, gap, toward, passed, rateAt, nearest, nextStop, holding, holdAt, trajectoryOf, levelAt};
+ghost use Rattle.trajectory.specs.Ways.{headed, listsIn, ramping, lower, breaksIn, levelsIn};
+ghost use Rattle.course.proofs.Near.{Short};
+ghost use Rattle.trajectory.specs.Walk.{Reaches, momentOf, segmentTo, segmentFrom, afterHold, afterRest, afterRun, afterShort, along, onward, standing, beginning, pieceBetween, twiceBetween, twiceTo};
+
+// So many kW in grains.
+fn grains_of(kw: u32) -> u64
+    ensures { λ r. ⌜ (r ≡ grains kw) × (r < 274877906944) ⌝ }
+{
+    let l = level::Level::from_kw(kw);
+    l.grains
+}
+
+// The place of a heat's column.
+fn place_of(heat: u32) -> usize
+    ensures { λ r. ⌜ (r ≡ placeOf heat) × (r < 3) ⌝ }
+{
+    match heat {
+        1 => 0,
+        2 => 1,
+        _ => 2,
+    }
+}
+
+// The start-up column of a heat.
+pub fn column_for(u: records::UnitData, heat: u32) -> records::Column
+    ensures { λ r. ⌜ r ≡ columnFor u heat ⌝ }
+{
+    let at = place_of(heat);
+    u.columns[at]
+}
+
+// Whether ramp-up (rising) or ramp-down (falling) is in use at the level v.
+fn in_ramp(up: bool, msg: u64, v: u64) -> bool
+    ensures { λ r. ⌜ r ≡ ramping (headed up) msg v ⌝ }
+{
+    if up {
+        return msg <= v;
+    }
+    msg < v
+}
+
+// ---- the rate at a level
+
+// 1 where the level v has passed a break: at or below it when rising, strictly below when falling.
+fn passed_one(up: bool, v: u64, b: u32) -> usize
+    ensures { λ r. ⌜ (r ≡ passed (headed up) v (grains b ∷ [])) × (r ≤ 1) ⌝ }
+{
+    let w = grains_of(b);
+    if up {
+        if w <= v {
+            return 1;
+        }
+        return 0;
+    }
+    if w < v {
+        return 1;
+    }
+    0
+}
+
+// The count of breaks that the level v has passed.
+fn passed_four(up: bool, v: u64, bs: [u32; 4]) -> usize
+    ensures { λ r. ⌜ (r ≡ passed (headed up) v (map grains bs)) × (r ≤ 4) ⌝ }
+{
+    let a = passed_one(up, v, bs[0]);
+    let b = passed_one(up, v, bs[1]);
+    let c = passed_one(up, v, bs[2]);
+    let d = passed_one(up, v, bs[3]);
+    a + b + c + d
+}
+
+fn passed_two(up: bool, v: u64, bs: [u32; 2]) -> usize
+    ensures { λ r. ⌜ (r ≡ passed (headed up) v (map grains bs)) × (r ≤ 2) ⌝ }
+{
+    let a = passed_one(up, v, bs[0]);
+    let b = passed_one(up, v, bs[1]);
+    a + b
+}
+
+fn passed_single(up: bool, v: u64, bs: [u32; 1]) -> usize
+    ensures { λ r. ⌜ (r ≡ passed (headed up) v (map grains bs)) × (r ≤ 1) ⌝ }
+{
+    passed_one(up, v, bs[0])
+}
+
+// The rate at place n of a ramp list, where r replaces all five unless it is 0.
+fn replaced_rate(rates: [u32; 5], r: u32, n: usize) -> u64
+    requires { ⌜ n ≤ 4 ⌝ }
+    ensures { λ x. ⌜ x ≡ getD (replaced r rates) n 0 ⌝ }
+{
+    if r == 0 {
+        return rates[n] as u64;
+    }
+    r as u64
+}
+
+fn rate_of_ramp(l: records::Ramp, r: u32, up: bool, v: u64) -> u64
+    ensures { λ x. ⌜ x ≡ getD (replaced r (l .rates)) (passed (headed up) v (map grains (l .breaks))) 0 ⌝ }
+{
+    let bs = l.breaks;
+    let n = passed_four(up, v, bs);
+    let rs = l.rates;
+    replaced_rate(rs, r, n)
+}
+
+fn rate_of_column(l: records::Column, v: u64) -> u64
+    ensures { λ x. ⌜ x ≡ getD (l .rates) (passed rising v (map grains (l .breaks))) 0 ⌝ }
+{
+    let bs = l.breaks;
+    let n = passed_two(true, v, bs);
+    l.rates[n] as u64
+}
+
+fn rate_of_deload(l: records::Deload, v: u64) -> u64
+    ensures { λ x. ⌜ x ≡ getD (l .rates) (passed falling v (map grains (l .breaks))) 0 ⌝ }
+{
+    let bs = l.breaks;
+    let n = passed_single(false, v, bs);
+    l.rates[n] as u64
+}
+
+fn rate_rising(u: records::UnitData, c: course::Course, v: u64) -> u64
+    ensures { λ x. ⌜ x ≡ rateAt rising (listsIn u c) v ⌝ }
+{
+    let msg = grains_of(u.msg);
+    if in_ramp(true, msg, v) {
+        let l = u.up;
+        return rate_of_ramp(l, c.up, true, v);
+    }
+    let l = column_for(u, c.heat);
+    rate_of_column(l, v)
+}
+
+fn rate_falling(u: records::UnitData, c: course::Course, v: u64) -> u64
+    ensures { λ x. ⌜ x ≡ rateAt falling (listsIn u c) v ⌝ }
+{
+    let msg = grains_of(u.msg);
+    if in_ramp(false, msg, v) {
+        let l = u.down;
+        return rate_of_ramp(l, c.down, false, v);
+    }
+    let l = u.deload;
+    rate_of_deload(l, v)
+}
+
+// The rate (grains a second) at the level v.
+pub fn rate_at(u: records::UnitData, c: course::Course, up: bool, v: u64) -> u64
+    ensures { λ x. ⌜ x ≡ rateAt (headed up) (listsIn u c) v ⌝ }
+{
+    if up {
+        return rate_rising(u, c, v);
+    }
+    rate_falling(u, c, v)
+}
+
+// ---- the hold at a level
+
+// The seconds for which a trigger holds the level w.
+fn held_one(w: u64, g: records::Trigger) -> u64
+    ensures { λ r. ⌜ (r ≡ holding w (inGrains g ∷ [])) × (r ≤ 257698037760) ⌝ }
+{
+    let at = grains_of(g.level);
+    if at == w {
+        return (g.minutes as u64) * 60;
+    }
+    0
+}
+
+fn held_three(w: u64, gs: [records::Trigger; 3]) -> u64
+    ensures { λ r. ⌜ (r ≡ holding w (map inGrains gs)) × (r ≤ 773094113280) ⌝ }
+{
+    let a = held_one(w, gs[0]);
+    let b = held_one(w, gs[1]);
+    let c = held_one(w, gs[2]);
+    a + b + c
+}
+
+fn held_two(w: u64, gs: [records::Trigger; 2]) -> u64
+    ensures { λ r. ⌜ (r ≡ holding w (map inGrains gs)) × (r ≤ 773094113280) ⌝ }
+{
+    let a = held_one(w, gs[0]);
+    let b = held_one(w, gs[1]);
+    a + b
+}
+
+// Below MSG only soaks hold, and only a rising level.
+fn soaked(u: records::UnitData, c: course::Course, up: bool, w: u64) -> u64
+    requires { ⌜ w < grains (u .msg) ⌝ }
+    requires { ⌜ (w ≡ grains (c .target) → ⊥) ⌝ }
+    ensures { λ r. ⌜ (r ≡ holdAt (headed up) (listsIn u c) (grains (c .target)) w) × (r ≤ 773094113280) ⌝ }
+{
+    if up {
+        let l = column_for(u, c.heat);
+        let gs = l.soaks;
+        return held_two(w, gs);
+    }
+    0
+}
+
+// The hold (seconds) at the stop w.
+pub fn hold_at(u: records::UnitData, c: course::Course, up: bool, w: u64) -> u64
+    ensures { λ r. ⌜ (r ≡ holdAt (headed up) (listsIn u c) (grains (c .target)) w) × (r ≤ 773094113280) ⌝ }
+{
+    let t = grains_of(c.target);
+    if w == t {
+        return 0;
+    }
+    let msg = grains_of(u.msg);
+    if w < msg {
+        return soaked(u, c, up, w);
+    }
+    let gs = u.dwells;
+    held_three(w, gs)
+}
+
+// ---- the next stop
+
+// The level w, where it lies past v and before n; else n.
+fn nearer(up: bool, v: u64, w: u64, n: u64) -> u64
+    ensures { λ r. ⌜ r ≡ nearest (headed up) v n (w ∷ []) ⌝ }
+{
+    if up {
+        if w <= v {
+            return n;
+        }
+        if w < n {
+            return w;
+        }
+        return n;
+    }
+    if v <= w {
+        return n;
+    }
+    if n < w {
+        return w;
+    }
+    n
+}
+
+// With a ramp's break, which counts where the ramp is in use.
+fn ramp_break(up: bool, v: u64, msg: u64, b: u32, n: u64) -> u64
+    ensures { λ r. ⌜ r ≡ nearest (headed up) v n (breaksIn (ramping (headed up) msg) (b ∷ [])) ⌝ }
+{
+    let w = grains_of(b);
+    if in_ramp(up, msg, w) {
+        return nearer(up, v, w, n);
+    }
+    n
+}
+
+fn ramp_breaks(up: bool, v: u64, msg: u64, bs: [u32; 4], n: u64) -> u64
+    ensures { λ r. ⌜ r ≡ nearest (headed up) v n (breaksIn (ramping (headed up) msg) bs) ⌝ }
+{
+    let d = ramp_break(up, v, msg, bs[3], n);
+    let c = ramp_break(up, v, msg, bs[2], d);
+    let b = ramp_break(up, v, msg, bs[1], c);
+    ramp_break(up, v, msg, bs[0], b)
+}
+
+// With a break of the column or of deload, which counts where no ramp is in use.
+fn lower_break(up: bool, v: u64, msg: u64, b: u32, n: u64) -> u64
+    ensures { λ r. ⌜ r ≡ nearest (headed up) v n (breaksIn (lower (headed up) msg) (b ∷ [])) ⌝ }
+{
+    let w = grains_of(b);
+    if in_ramp(up, msg, w) {
+        return n;
+    }
+    nearer(up, v, w, n)
+}
+
+fn column_breaks(v: u64, msg: u64, bs: [u32; 2], n: u64) -> u64
+    ensures { λ r. ⌜ r ≡ nearest rising v n (breaksIn (lower rising msg) bs) ⌝ }
+{
+    let b = lower_break(true, v, msg, bs[1], n);
+    lower_break(true, v, msg, bs[0], b)
+}
+
+fn deload_break(v: u64, msg: u64, bs: [u32; 1], n: u64) -> u64
+    ensures { λ r. ⌜ r ≡ nearest falling v n (breaksIn (lower falling msg) bs) ⌝ }
+{
+    lower_break(false, v, msg, bs[0], n)
+}
+
+// With a dwell trigger, which counts at or above MSG.
+fn dwell_stop(up: bool, v: u64, msg: u64, g: records::Trigger, n: u64) -> u64
+    ensures { λ r. ⌜ r ≡ nearest (headed up) v n (levelsIn (leb msg) (g ∷ [])) ⌝ }
+{
+    let w = grains_of(g.level);
+    if g.minutes == 0 {
+        return n;
+    }
+    if w < msg {
+        return n;
+    }
+    nearer(up, v, w, n)
+}
+
+fn dwell_stops(up: bool, v: u64, msg: u64, gs: [records::Trigger; 3], n: u64) -> u64
+    ensures { λ r. ⌜ r ≡ nearest (headed up) v n (levelsIn (leb msg) gs) ⌝ }
+{
+    let c = dwell_stop(up, v, msg, gs[2], n);
+    let b = dwell_stop(up, v, msg, gs[1], c);
+    dwell_stop(up, v, msg, gs[0], b)
+}
+
+// With a soak trigger, which counts below MSG when rising.
+fn soak_stop(v: u64, msg: u64, g: records::Trigger, n: u64) -> u64
+    ensures { λ r. ⌜ r ≡ nearest rising v n (levelsIn (lower rising msg) (g ∷ [])) ⌝ }
+{
+    let w = grains_of(g.level);
+    if g.minutes == 0 {
+        return n;
+    }
+    if msg <= w {
+        return n;
+    }
+    nearer(true, v, w, n)
+}
+
+fn soak_stops(v: u64, msg: u64, gs: [records::Trigger; 2], n: u64) -> u64
+    ensures { λ r. ⌜ r ≡ nearest rising v n (levelsIn (lower rising msg) gs) ⌝ }
+{
+    let b = soak_stop(v, msg, gs[1], n);
+    soak_stop(v, msg, gs[0], b)
+}
+
+fn stop_rising(u: records::UnitData, c: course::Course, v: u64) -> u64
+    ensures { λ r. ⌜ r ≡ nextStop rising (listsIn u c) (grains (c .target)) v ⌝ }
+{
+    let t = grains_of(c.target);
+    let msg = grains_of(u.msg);
+    let dwells = u.dwells;
+    let d = dwell_stops(true, v, msg, dwells, t);
+    let column = column_for(u, c.heat);
+    let soaks = column.soaks;
+    let s = soak_stops(v, msg, soaks, d);
+    let ramp = u.up;
+    let bs = ramp.breaks;
+    let r = ramp_breaks(true, v, msg, bs, s);
+    let cs = column.breaks;
+    let q = column_breaks(v, msg, cs, r);
+    nearer(true, v, msg, q)
+}
+
+fn stop_falling(u: records::UnitData, c: course::Course, v: u64) -> u64
+    ensures { λ r. ⌜ r ≡ nextStop falling (listsIn u c) (grains (c .target)) v ⌝ }
+{
+    let t = grains_of(c.target);
+    let msg = grains_of(u.msg);
+    let dwells = u.dwells;
+    let d = dwell_stops(false, v, msg, dwells, t);
+    let deload = u.deload;
+    let cs = deload.breaks;
+    let q = deload_break(v, msg, cs, d);
+    let ramp = u.down;
+    let bs = ramp.breaks;
+    let r = ramp_breaks(false, v, msg, bs, q);
+    nearer(false, v, msg, r)
+}
+
+// The next stop past the level v, and the target where nothing stops the course before.
+pub fn next_stop(u: records::UnitData, c: course::Course, up: bool, v: u64) -> u64
+    ensures { λ r. ⌜ r ≡ nextStop (headed up) (listsIn u c) (grains (c .target)) v ⌝ }
+{
+    if up {
+        return stop_rising(u, c, v);
+    }
+    stop_falling(u, c, v)
+}
+
+// ---- segments
+
+// The unsigned difference of two levels.
+fn gap_between(v: u64, w: u64) -> u64
+    ensures { λ r. ⌜ r ≡ gap v w ⌝ }
+{
+    if v < w {
+        return w - v;
+    }
+    v - w
+}
+
+// The segment from the level v to the stop w.
+fn segment_to(
+    u: records::UnitData,
+    c: course::Course,
+    up: bool,
+    v: u64,
+    w: u64,
+) -> segments::Segment
+    ensures { λ r. ⌜ r ≡ segmentTo (headed up) (listsIn u c) (grains (c .target)) v w ⌝ }
+{
+    let way = gap_between(v, w);
+    let rate = rate_at(u, c, up, v);
+    let hold = hold_at(u, c, up, w);
+    segments::Segment { way, rate, hold }
+}
+
+// The segment from the level v to the next stop: way, rate and hold.
+pub fn segment_from(u: records::UnitData, c: course::Course, up: bool, v: u64) -> segments::Segment
+    ensures { λ r. ⌜ r ≡ segmentFrom (headed up) (listsIn u c) (grains (c .target)) v ⌝ }
+{
+    let w = next_stop(u, c, up, v);
+    segment_to(u, c, up, v, w)
+}
+
+// ---- going along a course
+
+// Where a course stands at a second: its level, and the seconds left of a hold.
+pub struct Place {
+    pub second: u32,
+    pub level: u64,
+    pub left: u64,
+}
+
+// The level v moved by m in the heading's direction.
+fn moved(up: bool, v: u64, m: u64) -> u64
+    requires { ⌜ Reaches (headed up) v m ⌝ }
+    ensures { λ r. ⌜ r ≡ toward (headed up) v m ⌝ }
+{
+    if up {
+        return v + m;
+    }
+    v - m
+}
+
+// To the end of a hold, or to the second n.
+fn after_hold(p: Place, n: u32) -> Place
+    requires { ⌜ p .second < n ⌝ }
+    ensures { λ r. ⌜ r ≡ afterHold n p ⌝ }
+{
+    let room = n - p.second;
+    let wide = room as u64;
+    if wide < p.left {
+        return Place {
+            second: n,
+            level: p.level,
+            left: p.left - wide,
+        };
+    }
+    let held = p.left as u32;
+    Place {
+        second: p.second + held,
+        level: p.level,
+        left: 0,
+    }
+}
+
+// At rest to the second n.
+fn after_rest(p: Place, n: u32) -> Place
+    ensures { λ r. ⌜ r ≡ afterRest n p ⌝ }
+{
+    Place {
+        second: n,
+        level: p.level,
+        left: 0,
+    }
+}
+
+// A second to the stop of a segment.
+fn after_short(up: bool, p: Place, s: segments::Segment) -> Place
+    requires { ⌜ p .second < 4294967295 ⌝ }
+    requires { ⌜ Reaches (headed up) (p .level) (s .way) ⌝ }
+    ensures { λ r. ⌜ r ≡ afterShort (headed up) p s ⌝ }
+{
+    let level = moved(up, p.level, s.way);
+    Place {
+        second: p.second + 1,
+        level,
+        left: s.hold,
+    }
+}
+
+// f seconds at the full rate of a segment.
+fn after_run(up: bool, p: Place, s: segments::Segment, f: u32) -> Place
+    requires { ⌜ p .second + f ≤ 4294967295 ⌝ }
+    requires { ⌜ f * s .rate ≤ s .way ⌝ }
+    requires { ⌜ Reaches (headed up) (p .level) (s .way) ⌝ }
+    ensures { λ r. ⌜ r ≡ afterRun (headed up) f p s ⌝ }
+{
+    let m = (f as u64) * s.rate;
+    let level = moved(up, p.level, m);
+    if m == s.way {
+        return Place {
+            second: p.second + f,
+            level,
+            left: s.hold,
+        };
+    }
+    Place {
+        second: p.second + f,
+        level,
+        left: 0,
+    }
+}
+
+// The whole seconds at full rate before the stop of a segment, or before the second n.
+fn run_seconds(p: Place, s: segments::Segment, n: u32) -> u32
+    requires { ⌜ p .second < n ⌝ }
+    requires { ⌜ 1 ≤ s .rate ⌝ }
+    ensures { λ r. ⌜ r ≡ min (s .way / s .rate) (n - p .second) ⌝ }
+{
+    let room = n - p.second;
+    let full = s.way / s.rate;
+    if full < room as u64 {
+        return full as u32;
+    }
+    room
+}
+
+fn along_segment(up: bool, p: Place, s: segments::Segment, n: u32) -> Place
+    requires { ⌜ p .second < n ⌝ }
+    requires { ⌜ Reaches (headed up) (p .level) (s .way) ⌝ }
+    ensures { λ r. ⌜ r ≡ along (headed up) n p s ⌝ }
+{
+    if s.rate == 0 {
+        return after_rest(p, n);
+    }
+    if s.way < s.rate {
+        return after_short(up, p, s);
+    }
+    let f = run_seconds(p, s, n);
+    after_run(up, p, s, f)
+}
+
+// To the end of the straight piece that begins at p, and no further than the second n.
+pub fn walk_on(u: records::UnitData, c: course::Course, up: bool, p: Place, n: u32) -> Place
+    requires { ⌜ p .second < n ⌝ }
+    requires { ⌜ Short (headed up) (grains (c .target)) (p .level) ⌝ }
+    ensures { λ r. ⌜ r ≡ onward (headed up) (listsIn u c) (grains (c .target)) n p ⌝ }
+{
+    if 0 < p.left {
+        return after_hold(p, n);
+    }
+    let t = grains_of(c.target);
+    if p.level == t {
+        return after_rest(p, n);
+    }
+    let s = segment_from(u, c, up, p.level);
+    along_segment(up, p, s, n)
+}
+
+// Along the course to the second n.
+pub fn walk_to(u: records::UnitData, c: course::Course, up: bool, from: Place, n: u32) -> Place
+    requires { ⌜ from .second ≤ n ⌝ }
+    requires { ⌜ Short (headed up) (grains (c .target)) (from .level) ⌝ }
+    ensures { λ r. ⌜ (r ≡ standing (headed up) (listsIn u c) (grains (c .target)) n from) × Short (headed up) (grains (c .target)) (r .level) × (r .level ≤ max (from .level) (grains (c .target))) ⌝ }
+{
+    let mut p = from;
+    while p.second < n {
+        p = walk_on(u, c, up, p, n);
+    }
+    p
+}
+
+// The straight piece from p to q.
+pub fn piece_between(p: Place, q: Place) -> course::Piece
+    ensures { λ r. ⌜ r ≡ pieceBetween p q ⌝ }
+{
+    course::Piece {
+        from: p.second,
+        to: q.second,
+        enter: p.level,
+        leave: q.level,
+    }
+}
+
+// Whether a course rises.
+pub fn is_rising(c: course::Course) -> bool
+    ensures { λ r. ⌜ r ≡ ltb (c .start .grains) (grains (c .target)) ⌝ }
+{
+    let t = grains_of(c.target);
+    let start = c.start;
+    start.grains < t
+}
+
+// Where a course begins, at the second a.
+pub fn begin_at(c: course::Course, a: u32) -> Place
+    ensures { λ r. ⌜ r ≡ beginning c a ⌝ }
+{
+    let start = c.start;
+    Place {
+        second: a,
+        level: start.grains,
+        left: 0,
+    }
+}
+
+// The level k seconds after a course began.
+pub fn level_after(u: records::UnitData, c: course::Course, k: u32) -> u64
+    ensures { λ r. ⌜ r ≡ levelAt (trajectoryOf u c) k ⌝ }
+{
+    let up = is_rising(c);
+    let from = begin_at(c, 0);
+    let p = walk_to(u, c, up, from, k);
+    p.level
+}
+
+// ---- areas
+
+// Twice the area from p to q, straight.
+fn twice_between(p: Place, q: Place) -> u64
+    requires { ⌜ (p .second ≤ q .second) × (q .second ≤ 16777216) ⌝ }
+    requires { ⌜ (p .level < 274877906944) × (q .level < 274877906944) ⌝ }
+    ensures { λ r. ⌜ (r ≡ twiceBetween p q) × (r ≤ (q .second - p .second) * 549755813888) ⌝ }
+{
+    let time = q.second - p.second;
+    let wide = time as u64;
+    wide * (p.level + q.level)
+}
+
+// Where a sum over seconds has come to.
+pub struct Summed {
+    pub place: Place,
+    pub twice: u64,
+}
+
+// Along the course to the second n, with twice the area on the way. Levels are below those of 32 bits of kW.
+pub fn sum_to(u: records::UnitData, c: course::Course, up: bool, from: Place, n: u32) -> Summed
+    requires { ⌜ (from .second ≤ n) × (n ≤ 16777216) ⌝ }
+    requires { ⌜ Short (headed up) (grains (c .target)) (from .level) ⌝ }
+    requires { ⌜ from .level < 274877906944 ⌝ }
+    ensures { λ r. ⌜ (r .place ≡ standing (headed up) (listsIn u c) (grains (c .target)) n from) × (r .twice ≡ twiceTo (headed up) (listsIn u c) (grains (c .target)) n from) × (r .twice ≤ (n - from .second) * 549755813888) ⌝ }
+{
+    let mut p = from;
+    let mut twice: u64 = 0;
+    while p.second < n {
+        let q = walk_on(u, c, up, p, n);
+        twice += twice_between(p, q);
+        p = q;
+    }
+    Summed { place: p, twice }
+}
+
+// Twice the recorded area of a course from its second `from` to its second `to`: the sum over seconds of the levels at
+// start and end.
+pub fn twice_in(u: records::UnitData, c: course::Course, from: u32, to: u32) -> u64
+    requires { ⌜ to ≤ 16777216 ⌝ }
+    requires { ⌜ c .start .grains < 274877906944 ⌝ }
+    ensures { λ r. ⌜ (r ≡ area (levelAt (trajectoryOf u c)) from (to - from)) × (r ≤ (to - from) * 549755813888) ⌝ }
+{
+    if to <= from {
+        return 0;
+    }
+    let up = is_rising(c);
+    let begin = begin_at(c, 0);
+    let p = walk_to(u, c, up, begin, from);
+    let s = sum_to(u, c, up, p, to);
+    s.twice
+}
