@@ -1,6 +1,6 @@
 -- Laying lines one after another, and what is left to lay.
 -- Assumes nothing.
-use Prim.Native.Nat.{ℕ, zero, suc, _+_, _*_, _-_, min, _≤_, _<_}
+use Prim.Native.Nat.{ℕ, zero, suc, _+_, _*_, _-_, _/_, _%_, min, _≤_, _<_}
 use mathlib.Core.Path.{_≡_, refl, sym, ap, _∙_}
 use mathlib.Core.List.{List, [], _∷_, _++_, append-assoc, append-nil}
 use mathlib.Core.Bool.{Bool, true, false}
@@ -8,9 +8,29 @@ use native.Mathlib.Omega.{arith}
 use native.Mathlib.Numerals.{add-one}
 use lib.ListN.{length, getD, take, drop, length-append, length-drop, length-take, drop-of-length-le}
 use lib.Seq.{drop-cons, take-all, length-take-le, getD-take}
-use Rattle.lines.specs.Text.{fLine, laid}
+use Rattle.lines.specs.Text.{fLine, sLine, qLine, laid}
 use Rattle.lines.proofs.Laws.{laid-part, laid-length, part-length}
-use Rattle.listing.specs.Listing.{fLines}
+use lib.Dec.{ltb}
+use Rattle.level.specs.Level.{grains}
+use Rattle.records.specs.declared.UnitData.{UnitData}
+use Rattle.course.specs.declared.Course.{Course}
+use Rattle.course.specs.declared.Piece.{Piece}
+use Rattle.course.specs.Lists.{Lists}
+use Rattle.course.specs.Course.{Heading, trajectoryOf}
+use Rattle.course.specs.Pieces.{piecesIn}
+use Rattle.course.proofs.Near.{Short}
+use Rattle.trajectory.specs.declared.Place.{Place}
+use Rattle.trajectory.specs.Ways.{headed, listsIn}
+use Rattle.trajectory.specs.Walk.{beginning, pieceBetween, onward, piecesLeft}
+use Rattle.trajectory.proofs.Left.{left-none, onward-first, all-left}
+use Rattle.listing.specs.Listing.{fLines, sLines, runLines, qLines}
+use Rattle.profile.specs.Profile.{beginOf, spansOf, dayPieces, rounded}
+use Rattle.day.specs.Day.{daySeconds, noCourse, quantityAt}
+use lib.Dec.{eqb}
+use borrow.Author.Tests.{eq-eqb, ne-eqb}
+use Rattle.level.specs.Choice.{pick}
+use Rattle.level.specs.Lists.{listFrom}
+use Rattle.printing.specs.Rest.{pieceLine, coursesLines, runsFrom, runEnd}
 
 -- what is left, by x and the rest
 pub left-shorter : (left x rest : List ℕ) → left ≡ x ++ rest → length left ≡ length x + length rest
@@ -77,3 +97,148 @@ module _ (fs : List ℕ) (n i : ℕ) where
   pub fates-none : n ≤ i → fates-left fs n i ≡ []
   unfolding fLines
   fates-none h = ap (fLines (i + 1)) (drop-of-length-le (take n fs) {i = i} (omega (arith, length-take n fs)))
+
+-- ---- S lines of a course
+
+-- those of the pieces from the place p on, up to the second n
+abbrev pub pieces-left : UnitData → Course → Bool → ℕ → Place → List ℕ
+pieces-left u c up n p = sLines (piecesLeft (headed up) (listsIn u c) (grains (c .target)) n p)
+
+module _ (u : UnitData) (c : Course) (up : Bool) (n : ℕ) where
+  pub pieces-more : (p q : Place) → p .second < n → Short (headed up) (grains (c .target)) (p .level) → q ≡ onward (headed up) (listsIn u c) (grains (c .target)) n p →
+      pieces-left u c up n p ≡ pieceLine p q ++ pieces-left u c up n q
+  unfolding sLines pieceLine pieceBetween
+  pieces-more p q h sh e = rw e (ap sLines (onward-first (headed up) (listsIn u c) (grains (c .target)) n p h sh))
+
+  pub pieces-none : (p : Place) → n ≤ p .second → pieces-left u c up n p ≡ []
+  unfolding sLines
+  pieces-none p h = ap sLines (left-none (headed up) (listsIn u c) (grains (c .target)) n p h)
+
+  -- from the beginning: those of the course
+  pub pieces-all : up ≡ ltb (c .start .grains) (grains (c .target)) → (p : Place) → p ≡ beginning c (c .begin) →
+      pieces-left u c up n p ≡ sLines (piecesIn (trajectoryOf u c) (c .begin) n)
+  pieces-all rises p e = rw e (ap sLines (all-left u c up rises (c .begin) n))
+
+-- ---- S lines of courses
+s-append : (ps qs : List Piece) → sLines (ps ++ qs) ≡ sLines ps ++ sLines qs
+unfolding sLines
+s-append [] qs = refl
+s-append (p ∷ ps) qs =
+    let x : List ℕ = sLine (p .from) (p .to) (p .enter) (p .leave) in
+    ap (λ (l : List ℕ). x ++ l) (s-append ps qs) ∙ sym (append-assoc x (sLines ps) (sLines qs))
+
+-- where the next course begins, else the day's end
+pub end-next : (cs : List Course) (n i : ℕ) → i < n → n ≤ length cs → getD cs i noCourse .begin ≡ beginOf daySeconds (drop i (take n cs))
+unfolding beginOf
+end-next cs n i h le =
+    let ds : List Course = take n cs in
+    let ld : length ds ≡ n = length-take-le n cs le in
+    sym (ap (beginOf daySeconds) (drop-cons ds i noCourse (omega arith)) ∙ ap (λ (c : Course). c .begin) (getD-take n cs i noCourse h))
+
+pub end-last : (cs : List Course) (n i : ℕ) → n ≤ i → 86400 ≡ beginOf daySeconds (drop i (take n cs))
+unfolding beginOf
+end-last cs n i h = sym (ap (beginOf daySeconds) (drop-of-length-le (take n cs) {i = i} (omega (arith, length-take n cs))))
+
+-- those of the courses from the place i on, n courses in all
+abbrev pub courses-left : UnitData → List Course → ℕ → ℕ → List ℕ
+courses-left u cs n i = coursesLines u (drop i (take n cs))
+
+module _ (u : UnitData) (cs : List Course) (n i : ℕ) where
+  pub courses-more : (end : ℕ) → i < n → n ≤ length cs → end ≡ beginOf daySeconds (drop (i + 1) (take n cs)) →
+      courses-left u cs n i ≡ sLines (piecesIn (trajectoryOf u (getD cs i noCourse)) (getD cs i noCourse .begin) end) ++ courses-left u cs n (i + 1)
+  unfolding coursesLines spansOf dayPieces
+  courses-more end h le e =
+      let ds : List Course = take n cs in
+      let ld : length ds ≡ n = length-take-le n cs le in
+      let c : Course = getD cs i noCourse in
+      let first : drop i ds ≡ c ∷ drop (i + 1) ds =
+      drop-cons ds i noCourse (omega arith) ∙ (λ j. getD-take n cs i noCourse h j ∷ drop (sym (add-one i) j) ds) in
+      rw e (ap (coursesLines u) first
+      ∙ s-append (piecesIn (trajectoryOf u c) (c .begin) (beginOf daySeconds (drop (i + 1) ds))) (dayPieces (spansOf u daySeconds (drop (i + 1) ds))))
+
+  pub courses-none : n ≤ i → courses-left u cs n i ≡ []
+  unfolding coursesLines spansOf dayPieces sLines
+  courses-none h = ap (coursesLines u) (drop-of-length-le (take n cs) {i = i} (omega (arith, length-take n cs)))
+
+-- ---- Q lines
+
+-- a rounded quotient as the sum of two quotients
+pub by-parts : (x : ℕ) → x / 216000 + (x % 216000 + 108000) / 216000 ≡ (x + 108000) / 216000
+by-parts x = omega arith
+
+-- the quantity of a half-hour, where the sum falls or stays, and where it grows
+pub quantity-none : (sums : List ℕ) (i : ℕ) → getD sums (i + 1) 0 ≤ getD sums i 0 → 0 ≡ quantityAt sums i
+unfolding quantityAt rounded
+quantity-none sums i h = omega (arith, ap (λ (k : ℕ). getD sums k 0) (add-one i))
+
+pub quantity-some : (sums : List ℕ) (i : ℕ) → rounded (getD sums (i + 1) 0 - getD sums i 0) ≡ quantityAt sums i
+unfolding quantityAt
+quantity-some sums i = ap (λ (k : ℕ). rounded (getD sums k 0 - getD sums i 0)) (add-one i)
+
+by-bool : {P : Type 0} (b : Bool) → (b ≡ true → P) → (b ≡ false → P) → P
+by-bool true t f = t refl
+by-bool false t f = f refl
+
+module _ (f : ℕ → ℕ) where
+  -- the run of k goes on up to its end, and there the others begin
+  run-line : (first k i n : ℕ) → runLines first i k (listFrom f i n) ≡ qLine first (runEnd f k i n) k ++ runsFrom f (runEnd f k i n) (i + n - runEnd f k i n)
+  unfolding runLines listFrom runEnd runsFrom
+  run-line first k i zero = sym (ap (λ (m : ℕ). qLine first i k ++ runsFrom f i m) {x = i + 0 - i} {y = 0} (omega arith) ∙ append-nil (qLine first i k))
+  run-line first k i (suc n) =
+      let e : ℕ = runEnd f k (suc i) n in
+      by-bool (eqb (f i) k)
+      (λ b. simp b (run-line first k (suc i) n ∙ ap (λ (m : ℕ). qLine first e k ++ runsFrom f e m) {x = suc i + n - e} {y = i + suc n - e} (omega arith)))
+      (λ b. simp b (ap (λ (m : ℕ). qLine first i k ++ runsFrom f i m) {x = suc n} {y = i + suc n - i} (omega arith)))
+
+  -- those of the half-hours from the boundary i on
+  abbrev pub quantities-left : ℕ → List ℕ
+  quantities-left i = runsFrom f i (48 - i)
+
+  runs-first : (i n e : ℕ) → 0 < n → e ≡ runEnd f (f i) (i + 1) (n - 1) → runsFrom f i n ≡ qLine (i + 1) e (f i) ++ runsFrom f e (i + n - e)
+  unfolding runsFrom
+  runs-first i zero e h is = absurd (omega arith)
+  runs-first i (suc n) e h is =
+      let k : ℕ = f i in
+      let d : ℕ = runEnd f k (suc i) n in
+      let same : d ≡ e = sym (is ∙ (λ j. runEnd f k (add-one i j) (less j))) in
+      run-line (suc i) k (suc i) n ∙ (λ j. qLine (sym (add-one i) j) (same j) k ++ runsFrom f (same j) (count (same j) j))
+    where
+      less : suc n - 1 ≡ n
+      less = omega arith
+      count : (d : ℕ) → suc i + n - d ≡ i + suc n - d
+      count d = omega arith
+
+  pub quantities-more : (i k e : ℕ) → i < 48 → k ≡ f i → e ≡ runEnd f k (i + 1) (48 - (i + 1)) → quantities-left i ≡ qLine (i + 1) e k ++ quantities-left e
+  quantities-more i k e h q is =
+      rw q (runs-first i (48 - i) e (omega arith) (is ∙ (λ j. runEnd f (q j) (i + 1) (count j)))
+      ∙ ap (λ (m : ℕ). qLine (i + 1) e (f i) ++ runsFrom f e m) {x = i + (48 - i) - e} {y = 48 - e} (omega arith))
+    where
+      count : 48 - (i + 1) ≡ 48 - i - 1
+      count = omega arith
+
+  pub quantities-none : (i : ℕ) → 48 ≤ i → quantities-left i ≡ []
+  unfolding runsFrom
+  quantities-none i h = ap (runsFrom f i) {x = 48 - i} {y = 0} (omega arith)
+
+  pub quantities-all : quantities-left 0 ≡ qLines (listFrom f 0 48)
+  unfolding runsFrom qLines listFrom
+  quantities-all = refl
+
+  -- where a run ends
+  pub end-on : (k i n : ℕ) → 0 < n → f i ≡ k → runEnd f k i n ≡ runEnd f k (i + 1) (n - 1)
+  unfolding runEnd
+  end-on k i zero h e = absurd (omega arith)
+  end-on k i (suc n) h e = simp (eq-eqb (f i) k e) (λ j. runEnd f k (sym (add-one i) j) (less j))
+    where
+      less : n ≡ suc n - 1
+      less = omega arith
+
+  pub end-here : (k i n : ℕ) → 0 < n → (f i ≡ k → ⊥) → runEnd f k i n ≡ i
+  unfolding runEnd
+  end-here k i zero h e = absurd (omega arith)
+  end-here k i (suc n) h e = simp (ne-eqb (f i) k e)
+
+  pub end-none : (k i n : ℕ) → n ≤ 0 → runEnd f k i n ≡ i
+  unfolding runEnd
+  end-none k i zero h = refl
+  end-none k i (suc n) h = absurd (omega arith)

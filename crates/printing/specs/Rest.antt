@@ -6,7 +6,21 @@ use mathlib.Core.Bool.{Bool, true, false}
 use lib.Dec.{eqb}
 use Rattle.level.specs.Choice.{pick}
 use Rattle.level.specs.Lists.{listFrom}
-use Rattle.listing.specs.Listing.{runLines}
+use Rattle.lines.specs.Text.{sLine}
+use Rattle.trajectory.specs.declared.Place.{Place}
+use Rattle.listing.specs.Listing.{sLines, runLines}
+use Rattle.records.specs.declared.UnitData.{UnitData}
+use Rattle.course.specs.declared.Course.{Course}
+use Rattle.profile.specs.Profile.{spansOf, dayPieces}
+use Rattle.day.specs.Day.{daySeconds}
+
+-- the S line of the straight piece from one place of a course to another
+unfoldable pub pieceLine : Place → Place → List ℕ
+pieceLine p q = sLine (p .second) (q .second) (p .level) (q .level)
+
+-- the S lines of some courses, the last of which goes on to the day's end
+unfoldable pub coursesLines : UnitData → List Course → List ℕ
+coursesLines u cs = sLines (dayPieces (spansOf u daySeconds cs))
 
 -- the Q lines of the half-hours from the boundary i on, n of them, where f gives the quantity of each
 unfoldable pub runsFrom : (ℕ → ℕ) → ℕ → ℕ → List ℕ

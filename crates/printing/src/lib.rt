@@ -3,7 +3,13 @@ ghost use mathlib.Core.Path.{_≡_};
 ghost use Prim.Native.Nat.{ℕ, _+_, _*_, _-_, min, _<_, _≤_};
 ghost use lib.ListN.{length, take, drop, getD};
 ghost use Rattle.lines.specs.Text.{laid};
-ghost use Rattle.listing.specs.Listing.{fLines};
+ghost use Rattle.course.specs.Course.{trajectoryOf};
+ghost use Rattle.course.specs.Pieces.{piecesIn};
+ghost use Rattle.printing.specs.Rest.{pieceLine, coursesLines, runEnd};
+ghost use Rattle.level.specs.Lists.{listFrom};
+ghost use Rattle.profile.specs.Profile.{beginOf, rounded};
+ghost use Rattle.day.specs.Day.{halfHours, daySeconds, quantityAt};
+ghost use Rattle.listing.specs.Listing.{fLines, sLines, qLines};
 
 // ---- F lines
 
@@ -47,6 +53,183 @@ fn put_fates(out: &mut [u8], fates: [u8; 40], n: usize) -> usize
         let w = lines::put_f(&mut out[at..], number, fate);
         at += w;
         i += 1;
+    }
+    at
+}
+
+// ---- S lines
+
+// The width of the line of the straight piece from p to q.
+fn piece_width(p: trajectory::Place, q: trajectory::Place) -> usize
+    ensures { λ r. ⌜ (r ≡ length (pieceLine p q)) × (r ≤ 86) ⌝ }
+{
+    let from = p.second as u64;
+    let to = q.second as u64;
+    lines::s_width(from, to, p.level, q.level)
+}
+
+// The line of the straight piece from p to q.
+fn put_piece(out: &mut [u8], p: trajectory::Place, q: trajectory::Place) -> usize
+    requires { ⌜ length (pieceLine p q) ≤ length (now out) ⌝ }
+    ensures { λ r. ⌜ (r ≡ length (pieceLine p q)) × (now (out .exit) ≡ laid (pieceLine p q) (now (out .entry))) ⌝ }
+{
+    let from = p.second as u64;
+    let to = q.second as u64;
+    lines::put_s(out, from, to, p.level, q.level)
+}
+
+// The width of the lines of a course, from where it begins to the second n.
+fn course_width(u: records::UnitData, c: course::Course, n: u32) -> usize
+    ensures { λ r. ⌜ (r ≡ length (sLines (piecesIn (trajectoryOf u c) (c .begin) n))) × (r ≤ 369367187370) ⌝ }
+{
+    let up = trajectory::is_rising(c);
+    let mut p = trajectory::begin_at(c, c.begin);
+    let mut width: usize = 0;
+    while p.second < n {
+        let q = trajectory::walk_on(u, c, up, p, n);
+        width += piece_width(p, q);
+        p = q;
+    }
+    width
+}
+
+// The lines of a course, from where it begins to the second n.
+fn put_course(out: &mut [u8], u: records::UnitData, c: course::Course, n: u32) -> usize
+    requires { ⌜ length (sLines (piecesIn (trajectoryOf u c) (c .begin) n)) ≤ length (now out) ⌝ }
+    ensures { λ r. ⌜ (r ≡ length (sLines (piecesIn (trajectoryOf u c) (c .begin) n))) × (now (out .exit) ≡ laid (sLines (piecesIn (trajectoryOf u c) (c .begin) n)) (now (out .entry))) ⌝ }
+{
+    let up = trajectory::is_rising(c);
+    let mut p = trajectory::begin_at(c, c.begin);
+    let mut at: usize = 0;
+    while p.second < n {
+        let q = trajectory::walk_on(u, c, up, p, n);
+        let w = put_piece(&mut out[at..], p, q);
+        at += w;
+        p = q;
+    }
+    at
+}
+
+// Where the course at the place i of the first n ends: where the next one begins, else at the day's end.
+fn end_of(cs: [course::Course; 41], n: usize, i: usize) -> u32
+    requires { ⌜ (i < n) × (n ≤ 41) ⌝ }
+    ensures { λ r. ⌜ r ≡ beginOf daySeconds (drop (i + 1) (take n cs)) ⌝ }
+{
+    let j = i + 1;
+    if j < n {
+        let next = cs[j];
+        return next.begin;
+    }
+    86400
+}
+
+// The width of the lines of the first n courses.
+fn courses_width(u: records::UnitData, cs: [course::Course; 41], n: usize) -> usize
+    requires { ⌜ n ≤ 41 ⌝ }
+    ensures { λ r. ⌜ (r ≡ length (coursesLines u (take n cs))) × (r ≤ 15144054682170) ⌝ }
+{
+    let mut width: usize = 0;
+    let mut i: usize = 0;
+    while i < n {
+        let end = end_of(cs, n, i);
+        let c = cs[i];
+        width += course_width(u, c, end);
+        i += 1;
+    }
+    width
+}
+
+// The lines of the first n courses.
+fn put_courses(
+    out: &mut [u8],
+    u: records::UnitData,
+    cs: [course::Course; 41],
+    n: usize,
+) -> usize
+    requires { ⌜ n ≤ 41 ⌝ }
+    requires { ⌜ length (coursesLines u (take n cs)) ≤ length (now out) ⌝ }
+    ensures { λ r. ⌜ (r ≡ length (coursesLines u (take n cs))) × (now (out .exit) ≡ laid (coursesLines u (take n cs)) (now (out .entry))) ⌝ }
+{
+    let mut at: usize = 0;
+    let mut i: usize = 0;
+    while i < n {
+        let end = end_of(cs, n, i);
+        let c = cs[i];
+        let w = put_course(&mut out[at..], u, c, end);
+        at += w;
+        i += 1;
+    }
+    at
+}
+
+// ---- Q lines
+
+// Twice an area in kW for a half-hour, rounded; as the sum of two quotients it cannot overflow.
+fn rounded_kw(twice: u64) -> u64
+    ensures { λ r. ⌜ r ≡ rounded twice ⌝ }
+{
+    twice / 216000 + (twice % 216000 + 108000) / 216000
+}
+
+// The quantity (kW) of the half-hour from the boundary i on.
+fn quantity_at(sums: [u64; 49], i: usize) -> u64
+    requires { ⌜ i < 48 ⌝ }
+    ensures { λ r. ⌜ r ≡ quantityAt sums i ⌝ }
+{
+    let before = sums[i];
+    let after = sums[i + 1];
+    if after <= before {
+        return 0;
+    }
+    rounded_kw(after - before)
+}
+
+// The boundary at which a run of the quantity kw ends, from the boundary `from` on.
+fn run_end(sums: [u64; 49], kw: u64, from: usize) -> usize
+    requires { ⌜ from ≤ 48 ⌝ }
+    ensures { λ r. ⌜ (r ≡ runEnd (quantityAt sums) kw from (48 - from)) × (from ≤ r) × (r ≤ 48) ⌝ }
+{
+    let mut i = from;
+    while i < 48 {
+        let q = quantity_at(sums, i);
+        if q != kw {
+            return i;
+        }
+        i += 1;
+    }
+    i
+}
+
+// The width of the lines of the day's quantities.
+fn quantities_width(sums: [u64; 49]) -> usize
+    ensures { λ r. ⌜ (r ≡ length (qLines (listFrom (quantityAt sums) 0 halfHours))) × (r ≤ 3120) ⌝ }
+{
+    let mut width: usize = 0;
+    let mut i: usize = 0;
+    while i < 48 {
+        let kw = quantity_at(sums, i);
+        let first = i + 1;
+        let last = run_end(sums, kw, first);
+        width += lines::q_width(first as u64, last as u64, kw);
+        i = last;
+    }
+    width
+}
+
+// The lines of the day's quantities.
+fn put_quantities(out: &mut [u8], sums: [u64; 49]) -> usize
+    requires { ⌜ length (qLines (listFrom (quantityAt sums) 0 halfHours)) ≤ length (now out) ⌝ }
+    ensures { λ r. ⌜ (r ≡ length (qLines (listFrom (quantityAt sums) 0 halfHours))) × (now (out .exit) ≡ laid (qLines (listFrom (quantityAt sums) 0 halfHours)) (now (out .entry))) ⌝ }
+{
+    let mut at: usize = 0;
+    let mut i: usize = 0;
+    while i < 48 {
+        let kw = quantity_at(sums, i);
+        let first = i + 1;
+        let last = run_end(sums, kw, first);
+        let w = lines::put_q(&mut out[at..], first as u64, last as u64, kw);
+        at += w;
+        i = last;
     }
     at
 }
