@@ -80,21 +80,20 @@ lay-all whole rest o out at z l =
 
 -- ---- F lines
 
--- those of the fates from the place i on, n fates in all
+-- those of the fates from the place i on, of the first n
 abbrev pub fates-left : List ℕ → ℕ → ℕ → List ℕ
 fates-left fs n i = fLines (i + 1) (drop i (take n fs))
 
 module _ (fs : List ℕ) (n i : ℕ) where
-  pub fates-more : i < n → n ≤ length fs → fates-left fs n i ≡ fLine (i + 1) (getD fs i 0) ++ fates-left fs n (i + 1)
+  pub fates-more : i < min n (length fs) → fates-left fs n i ≡ fLine (i + 1) (getD fs i 0) ++ fates-left fs n (i + 1)
   unfolding fLines
-  fates-more h le =
+  fates-more h =
       let gs : List ℕ = take n fs in
-      let lg : length gs ≡ n = length-take-le n fs le in
-      ap (fLines (i + 1)) (drop-cons gs i 0 (omega arith)) ∙ rw (getD-take n fs i 0 h)
+      ap (fLines (i + 1)) (drop-cons gs i 0 (omega (arith, length-take n fs))) ∙ rw (getD-take n fs i 0 (omega arith))
       (ap (λ (k : ℕ). fLine (i + 1) (getD fs i 0) ++ fLines k (drop (suc i) gs)) {x = suc (i + 1)} {y = i + 1 + 1} (omega arith)
       ∙ ap (λ (k : ℕ). fLine (i + 1) (getD fs i 0) ++ fLines (i + 1 + 1) (drop k gs)) {x = suc i} {y = i + 1} (omega arith))
 
-  pub fates-none : n ≤ i → fates-left fs n i ≡ []
+  pub fates-none : min n (length fs) ≤ i → fates-left fs n i ≡ []
   unfolding fLines
   fates-none h = ap (fLines (i + 1)) (drop-of-length-le (take n fs) {i = i} (omega (arith, length-take n fs)))
 
@@ -128,35 +127,34 @@ s-append (p ∷ ps) qs =
     ap (λ (l : List ℕ). x ++ l) (s-append ps qs) ∙ sym (append-assoc x (sLines ps) (sLines qs))
 
 -- where the next course begins, else the day's end
-pub end-next : (cs : List Course) (n i : ℕ) → i < n → n ≤ length cs → getD cs i noCourse .begin ≡ beginOf daySeconds (drop i (take n cs))
+pub end-next : (cs : List Course) (n i : ℕ) → i < min n (length cs) → getD cs i noCourse .begin ≡ beginOf daySeconds (drop i (take n cs))
 unfolding beginOf
-end-next cs n i h le =
+end-next cs n i h =
     let ds : List Course = take n cs in
-    let ld : length ds ≡ n = length-take-le n cs le in
-    sym (ap (beginOf daySeconds) (drop-cons ds i noCourse (omega arith)) ∙ ap (λ (c : Course). c .begin) (getD-take n cs i noCourse h))
+    sym (ap (beginOf daySeconds) (drop-cons ds i noCourse (omega (arith, length-take n cs))) ∙ ap (λ (c : Course). c .begin) (getD-take n cs i noCourse (omega arith)))
 
-pub end-last : (cs : List Course) (n i : ℕ) → n ≤ i → 86400 ≡ beginOf daySeconds (drop i (take n cs))
+pub end-last : (cs : List Course) (n i : ℕ) → min n (length cs) ≤ i → 86400 ≡ beginOf daySeconds (drop i (take n cs))
 unfolding beginOf
 end-last cs n i h = sym (ap (beginOf daySeconds) (drop-of-length-le (take n cs) {i = i} (omega (arith, length-take n cs))))
 
--- those of the courses from the place i on, n courses in all
+-- those of the courses from the place i on, of the first n
 abbrev pub courses-left : UnitData → List Course → ℕ → ℕ → List ℕ
 courses-left u cs n i = coursesLines u (drop i (take n cs))
 
 module _ (u : UnitData) (cs : List Course) (n i : ℕ) where
-  pub courses-more : (end : ℕ) → i < n → n ≤ length cs → end ≡ beginOf daySeconds (drop (i + 1) (take n cs)) →
+  pub courses-more : (end : ℕ) → i < min n (length cs) → end ≡ beginOf daySeconds (drop (i + 1) (take n cs)) →
       courses-left u cs n i ≡ sLines (piecesIn (trajectoryOf u (getD cs i noCourse)) (getD cs i noCourse .begin) end) ++ courses-left u cs n (i + 1)
   unfolding coursesLines spansOf dayPieces
-  courses-more end h le e =
+  courses-more end h e =
       let ds : List Course = take n cs in
-      let ld : length ds ≡ n = length-take-le n cs le in
       let c : Course = getD cs i noCourse in
+      let lt : i < n = omega arith in
       let first : drop i ds ≡ c ∷ drop (i + 1) ds =
-      drop-cons ds i noCourse (omega arith) ∙ (λ j. getD-take n cs i noCourse h j ∷ drop (sym (add-one i) j) ds) in
+      drop-cons ds i noCourse (omega (arith, length-take n cs)) ∙ (λ j. getD-take n cs i noCourse lt j ∷ drop (sym (add-one i) j) ds) in
       rw e (ap (coursesLines u) first
       ∙ s-append (piecesIn (trajectoryOf u c) (c .begin) (beginOf daySeconds (drop (i + 1) ds))) (dayPieces (spansOf u daySeconds (drop (i + 1) ds))))
 
-  pub courses-none : n ≤ i → courses-left u cs n i ≡ []
+  pub courses-none : min n (length cs) ≤ i → courses-left u cs n i ≡ []
   unfolding coursesLines spansOf dayPieces sLines
   courses-none h = ap (coursesLines u) (drop-of-length-le (take n cs) {i = i} (omega (arith, length-take n cs)))
 

@@ -6,13 +6,18 @@ use mathlib.Core.Bool.{Bool, true, false}
 use lib.Dec.{eqb}
 use Rattle.level.specs.Choice.{pick}
 use Rattle.level.specs.Lists.{listFrom}
-use Rattle.lines.specs.Text.{sLine}
+use Rattle.lines.specs.Text.{sLine, eLine}
 use Rattle.trajectory.specs.declared.Place.{Place}
-use Rattle.listing.specs.Listing.{sLines, runLines}
+use Rattle.listing.specs.Listing.{sLines, runLines, qLines}
 use Rattle.records.specs.declared.UnitData.{UnitData}
 use Rattle.course.specs.declared.Course.{Course}
 use Rattle.profile.specs.Profile.{spansOf, dayPieces}
-use Rattle.day.specs.Day.{daySeconds}
+use Rattle.profile.specs.declared.Closing.{Closing}
+use Rattle.day.specs.declared.Day.{Day}
+use Rattle.day.specs.Day.{daySeconds, coursesIn, quantitiesIn}
+use Rattle.records.specs.declared.Refusal.{Refusal}
+use Rattle.records.specs.declared.Answer.the-variants.{Accepted, Refused}
+use Rattle.listing.specs.declared.Listed.{Listed}
 
 -- the S line of the straight piece from one place of a course to another
 unfoldable pub pieceLine : Place → Place → List ℕ
@@ -31,3 +36,21 @@ runsFrom f i (suc n) = runLines (suc i) (suc i) (f i) (listFrom f (suc i) n)
 unfoldable pub runEnd : (ℕ → ℕ) → ℕ → ℕ → ℕ → ℕ
 runEnd f k i zero = i
 runEnd f k i (suc n) = pick (eqb (f i) k) (runEnd f k (suc i) n) i
+
+-- the E line
+unfoldable pub closingLine : Closing → List ℕ
+closingLine e = eLine (e .level .grains) (e .target) (e .heat) (e .off)
+
+-- a day's listing from its Q lines on, and from its S lines on
+unfoldable pub fromQ : Day → List ℕ
+fromQ d = qLines (quantitiesIn d) ++ closingLine (d .closing)
+
+unfoldable pub fromS : Day → List ℕ
+fromS d = coursesLines (d .unit) (coursesIn d) ++ fromQ d
+
+-- what asking for a listing gives: a refusal, or so many bytes
+abbrev pub noListing : Refusal → Listed
+noListing r = record { answer = Refused r; count = 0 }
+
+abbrev pub someListing : ℕ → Listed
+someListing n = record { answer = Accepted; count = n }

@@ -5,11 +5,15 @@ ghost use lib.ListN.{length, take, drop, getD};
 ghost use Rattle.lines.specs.Text.{laid};
 ghost use Rattle.course.specs.Course.{trajectoryOf};
 ghost use Rattle.course.specs.Pieces.{piecesIn};
-ghost use Rattle.printing.specs.Rest.{pieceLine, coursesLines, runEnd};
+ghost use Rattle.printing.specs.Rest.{pieceLine, coursesLines, runEnd, closingLine, fromQ, fromS, noListing, someListing};
 ghost use Rattle.level.specs.Lists.{listFrom};
 ghost use Rattle.profile.specs.Profile.{beginOf, rounded};
-ghost use Rattle.day.specs.Day.{halfHours, daySeconds, quantityAt};
-ghost use Rattle.listing.specs.Listing.{fLines, sLines, qLines};
+ghost use Rattle.day.specs.Day.{halfHours, daySeconds, fatesIn, coursesIn, quantityAt};
+ghost use Rattle.listing.specs.Listing.{fLines, sLines, qLines, printedDay, listOf, lentAfter};
+use day::Day;
+use listing::Listed;
+use records::Answer;
+use records::Refusal;
 
 // ---- F lines
 
@@ -23,11 +27,11 @@ fn at_most(n: usize, places: usize) -> usize
     places
 }
 
-// The width of the lines of the first n fates.
-fn fates_width(fates: [u8; 40], n: usize) -> usize
-    requires { ⌜ n ≤ 40 ⌝ }
-    ensures { λ r. ⌜ (r ≡ length (fLines 1 (take n fates))) × (r ≤ 1760) ⌝ }
+// The width of the lines of the first `count` fates.
+fn fates_width(fates: [u8; 40], count: usize) -> usize
+    ensures { λ r. ⌜ (r ≡ length (fLines 1 (take count fates))) × (r ≤ 1760) ⌝ }
 {
+    let n = at_most(count, 40);
     let mut width: usize = 0;
     let mut i: usize = 0;
     while i < n {
@@ -39,12 +43,12 @@ fn fates_width(fates: [u8; 40], n: usize) -> usize
     width
 }
 
-// The lines of the first n fates.
-fn put_fates(out: &mut [u8], fates: [u8; 40], n: usize) -> usize
-    requires { ⌜ n ≤ 40 ⌝ }
-    requires { ⌜ length (fLines 1 (take n fates)) ≤ length (now out) ⌝ }
-    ensures { λ r. ⌜ (r ≡ length (fLines 1 (take n fates))) × (now (out .exit) ≡ laid (fLines 1 (take n fates)) (now (out .entry))) ⌝ }
+// The lines of the first `count` fates.
+fn put_fates(out: &mut [u8], fates: [u8; 40], count: usize) -> usize
+    requires { ⌜ length (fLines 1 (take count fates)) ≤ length (now out) ⌝ }
+    ensures { λ r. ⌜ (r ≡ length (fLines 1 (take count fates))) × (now (out .exit) ≡ laid (fLines 1 (take count fates)) (now (out .entry))) ⌝ }
 {
+    let n = at_most(count, 40);
     let mut at: usize = 0;
     let mut i: usize = 0;
     while i < n {
@@ -110,11 +114,12 @@ fn put_course(out: &mut [u8], u: records::UnitData, c: course::Course, n: u32) -
     at
 }
 
-// Where the course at the place i of the first n ends: where the next one begins, else at the day's end.
-fn end_of(cs: [course::Course; 41], n: usize, i: usize) -> u32
-    requires { ⌜ (i < n) × (n ≤ 41) ⌝ }
-    ensures { λ r. ⌜ r ≡ beginOf daySeconds (drop (i + 1) (take n cs)) ⌝ }
+// Where the course at the place i of the first `started` ends: where the next one begins, else at the day's end.
+fn end_of(cs: [course::Course; 41], started: usize, i: usize) -> u32
+    requires { ⌜ i < 41 ⌝ }
+    ensures { λ r. ⌜ r ≡ beginOf daySeconds (drop (i + 1) (take started cs)) ⌝ }
 {
+    let n = at_most(started, 41);
     let j = i + 1;
     if j < n {
         let next = cs[j];
@@ -123,15 +128,15 @@ fn end_of(cs: [course::Course; 41], n: usize, i: usize) -> u32
     86400
 }
 
-// The width of the lines of the first n courses.
-fn courses_width(u: records::UnitData, cs: [course::Course; 41], n: usize) -> usize
-    requires { ⌜ n ≤ 41 ⌝ }
-    ensures { λ r. ⌜ (r ≡ length (coursesLines u (take n cs))) × (r ≤ 15144054682170) ⌝ }
+// The width of the lines of the first `started` courses.
+fn courses_width(u: records::UnitData, cs: [course::Course; 41], started: usize) -> usize
+    ensures { λ r. ⌜ (r ≡ length (coursesLines u (take started cs))) × (r ≤ 15144054682170) ⌝ }
 {
+    let n = at_most(started, 41);
     let mut width: usize = 0;
     let mut i: usize = 0;
     while i < n {
-        let end = end_of(cs, n, i);
+        let end = end_of(cs, started, i);
         let c = cs[i];
         width += course_width(u, c, end);
         i += 1;
@@ -139,21 +144,21 @@ fn courses_width(u: records::UnitData, cs: [course::Course; 41], n: usize) -> us
     width
 }
 
-// The lines of the first n courses.
+// The lines of the first `started` courses.
 fn put_courses(
     out: &mut [u8],
     u: records::UnitData,
     cs: [course::Course; 41],
-    n: usize,
+    started: usize,
 ) -> usize
-    requires { ⌜ n ≤ 41 ⌝ }
-    requires { ⌜ length (coursesLines u (take n cs)) ≤ length (now out) ⌝ }
-    ensures { λ r. ⌜ (r ≡ length (coursesLines u (take n cs))) × (now (out .exit) ≡ laid (coursesLines u (take n cs)) (now (out .entry))) ⌝ }
+    requires { ⌜ length (coursesLines u (take started cs)) ≤ length (now out) ⌝ }
+    ensures { λ r. ⌜ (r ≡ length (coursesLines u (take started cs))) × (now (out .exit) ≡ laid (coursesLines u (take started cs)) (now (out .entry))) ⌝ }
 {
+    let n = at_most(started, 41);
     let mut at: usize = 0;
     let mut i: usize = 0;
     while i < n {
-        let end = end_of(cs, n, i);
+        let end = end_of(cs, started, i);
         let c = cs[i];
         let w = put_course(&mut out[at..], u, c, end);
         at += w;
@@ -232,4 +237,109 @@ fn put_quantities(out: &mut [u8], sums: [u64; 49]) -> usize
         i = last;
     }
     at
+}
+
+// ---- E line
+
+fn closing_width(e: profile::Closing) -> usize
+    ensures { λ r. ⌜ (r ≡ length (closingLine e)) × (r ≤ 86) ⌝ }
+{
+    let level = e.level;
+    lines::e_width(level.grains, e.target as u64, e.heat as u64, e.off as u64)
+}
+
+fn put_closing(out: &mut [u8], e: profile::Closing) -> usize
+    requires { ⌜ length (closingLine e) ≤ length (now out) ⌝ }
+    ensures { λ r. ⌜ (r ≡ length (closingLine e)) × (now (out .exit) ≡ laid (closingLine e) (now (out .entry))) ⌝ }
+{
+    let level = e.level;
+    lines::put_e(out, level.grains, e.target as u64, e.heat as u64, e.off as u64)
+}
+
+// ---- the whole listing, each part after the parts already written
+
+// The width of the listing of a day.
+pub fn day_width(day: Day) -> usize
+    ensures { λ r. ⌜ r ≡ length (printedDay day) ⌝ }
+{
+    let fates = day.fates;
+    let f = fates_width(fates, day.count);
+    let unit = day.unit;
+    let courses = day.courses;
+    let s = courses_width(unit, courses, day.started);
+    let sums = day.sums;
+    let q = quantities_width(sums);
+    let closing = day.closing;
+    let e = closing_width(closing);
+    f + s + q + e
+}
+
+// The Q lines of a day, then its E line.
+fn put_from_q(out: &mut [u8], day: Day) -> usize
+    requires { ⌜ length (fromQ day) ≤ length (now out) ⌝ }
+    ensures { λ r. ⌜ (r ≡ length (fromQ day)) × (now (out .exit) ≡ laid (fromQ day) (now (out .entry))) ⌝ }
+{
+    let sums = day.sums;
+    let at = put_quantities(out, sums);
+    let closing = day.closing;
+    let n = put_closing(&mut out[at..], closing);
+    at + n
+}
+
+// Its S lines, then those.
+fn put_from_s(out: &mut [u8], day: Day) -> usize
+    requires { ⌜ length (fromS day) ≤ length (now out) ⌝ }
+    ensures { λ r. ⌜ (r ≡ length (fromS day)) × (now (out .exit) ≡ laid (fromS day) (now (out .entry))) ⌝ }
+{
+    let unit = day.unit;
+    let courses = day.courses;
+    let at = put_courses(out, unit, courses, day.started);
+    let n = put_from_q(&mut out[at..], day);
+    at + n
+}
+
+// Its F lines, then those: the whole listing.
+fn put_day(out: &mut [u8], day: Day) -> usize
+    requires { ⌜ length (printedDay day) ≤ length (now out) ⌝ }
+    ensures { λ r. ⌜ (r ≡ length (printedDay day)) × (now (out .exit) ≡ laid (printedDay day) (now (out .entry))) ⌝ }
+{
+    let fates = day.fates;
+    let at = put_fates(out, fates, day.count);
+    let n = put_from_s(&mut out[at..], day);
+    at + n
+}
+
+// ---- asking for it
+
+fn refused(r: Refusal) -> Listed
+    ensures { λ l. ⌜ l ≡ noListing r ⌝ }
+{
+    let answer = Answer::Refused(r);
+    Listed {
+        answer,
+        count: 0,
+    }
+}
+
+fn accepted(count: usize) -> Listed
+    ensures { λ l. ⌜ l ≡ someListing count ⌝ }
+{
+    let answer = Answer::Accepted;
+    Listed { answer, count }
+}
+
+// The listing of a closed day at the front of the lent slice; refused where the day is not closed or the slice is too
+// short, and then nothing is written.
+pub fn list(day: Day, out: &mut [u8]) -> Listed
+    ensures { λ r. ⌜ (r ≡ listOf day (now (out .entry))) × (now (out .exit) ≡ lentAfter day (now (out .entry))) ⌝ }
+{
+    if !day.closed {
+        return refused(Refusal::NotReady);
+    }
+    let n = day_width(day);
+    if out.len() < n {
+        return refused(Refusal::SliceTooShort);
+    }
+    let count = put_day(out, day);
+    accepted(count)
 }

@@ -1,12 +1,12 @@
-use Prim.Native.Nat.{ℕ, _+_, _*_, _-_, _≤_, _<_}
+use Prim.Native.Nat.{ℕ, _+_, _*_, _-_, min, _≤_, _<_}
 use mathlib.Core.Path.{_≡_, refl, sym, ap, _∙_}
 use mathlib.Core.List.{List, _++_}
 use native.Mathlib.Omega.{arith}
 use borrow.Author.Needs.{needs}
 use lib.ListN.{length, getD}
+use Rattle.course.specs.declared.Course.{Course}
 use Rattle.course.specs.Course.{trajectoryOf}
 use Rattle.course.specs.Pieces.{piecesIn}
-use Rattle.course.specs.declared.Course.{Course}
 use Rattle.day.specs.Day.{noCourse}
 use Rattle.listing.specs.Listing.{sLines}
 use Rattle.printing.proofs.Laws.{left-shorter, courses-left, courses-more, courses-none}
@@ -14,65 +14,72 @@ use Rattle.printing.proofs.courses_width.Statement.{statement}
 use Rattle.printing.proofs.courses_width.Tie as tie
 use Rattle.printing.proofs.courses_width.Reads as reads
 use Rattle.printing.proofs.courses_width.Lts as lts
+use Rattle.printing.proofs.at_most.Reads as at-most-reads
 use Rattle.printing.proofs.course_width.Reads as course-width-reads
 use Rattle.printing.proofs.end_of.Reads as end-of-reads
 
 abbrev Inv-loop : tie.InvT-loop
-Inv-loop u n cs width₀ i₀ width i = (i ≤ n) × (width + length (courses-left u cs n i) ≡ length (courses-left u cs n 0)) × (width ≤ 369367187370 * i)
+Inv-loop u started cs n width₀ i₀ width i = (i ≤ n) × (width + length (courses-left u cs started i) ≡ length (courses-left u cs started 0)) × (width ≤ 369367187370 * i)
 
 abbrev μ-loop : tie.MeasureT-loop
-μ-loop u n cs width₀ i₀ width i = n - i
+μ-loop u started cs n width₀ i₀ width i = n - i
 
--- src/lib.rt:132:5
+-- src/lib.rt:135:9
+at-most-requires : tie.Need-at-most-requires Inv-loop μ-loop
+at-most-requires c κs = search needs
+
+-- src/lib.rt:138:5
 loop-holds : tie.Need-loop-holds Inv-loop μ-loop
 loop-holds c = (omega arith, omega arith, omega arith)
 
--- src/lib.rt:133:13
+-- src/lib.rt:139:13
 end-of-requires : tie.Need-end-of-requires Inv-loop μ-loop
-end-of-requires c κs = (omega arith, omega arith)
+end-of-requires c κs = omega arith
 
--- src/lib.rt:134:17
+-- src/lib.rt:140:17
 mul-c : tie.Need-mul-c Inv-loop μ-loop
 mul-c c = omega arith
 
--- src/lib.rt:134:17
+-- src/lib.rt:140:17
 array-copy-out-c : tie.Need-array-copy-out-c Inv-loop μ-loop
 array-copy-out-c c = omega arith
 
--- src/lib.rt:135:18
+-- src/lib.rt:141:18
 course-width-requires : tie.Need-course-width-requires Inv-loop μ-loop
 course-width-requires c κs = search needs
 
--- src/lib.rt:135:9
+-- src/lib.rt:141:9
 add-width : tie.Need-add-width Inv-loop μ-loop
 add-width c = omega arith
 
--- src/lib.rt:136:9
+-- src/lib.rt:142:9
 add-i : tie.Need-add-i Inv-loop μ-loop
 add-i c = omega arith
 
--- src/lib.rt:132:5
+-- src/lib.rt:138:5
 loop-less : tie.Need-loop-less Inv-loop μ-loop
 loop-less c = omega arith
 
--- src/lib.rt:132:5
+-- src/lib.rt:138:5
 loop-again : tie.Need-loop-again Inv-loop μ-loop
 loop-again c =
-    let s = c .before .before .before .before .before in
+    let s = c .before .before .before .before .before .before in
     let a = s .args in
     let l = c .before .before .before .before .loop in
     let end = c .before .before .end-of in
     let d : Course = getD (a .t2) (l .i) noCourse in
-    let e = courses-more (a .u) (a .t2) (a .n) (l .i) (end .result) (omega arith) (omega (arith, s .good .1 .0 .1 .0 .1)) (end .ensures) in
-    let r = left-shorter (courses-left (a .u) (a .t2) (a .n) (l .i)) (sLines (piecesIn (trajectoryOf (a .u) d) (d .begin) (end .result))) (courses-left (a .u) (a .t2) (a .n) (l .i + 1)) e in
+    let left = courses-left (a .u) (a .t2) (a .started) in
+    let e = courses-more (a .u) (a .t2) (a .started) (l .i) (end .result) (omega (arith, s .good .1 .0 .1 .0 .1)) (end .ensures) in
+    let r = left-shorter (left (l .i)) (sLines (piecesIn (trajectoryOf (a .u) d) (d .begin) (end .result))) (left (l .i + 1)) e in
     (omega arith, omega (arith, r, c .course-width .ensures .0, l .inv .1), omega (arith, c .course-width .ensures .1, l .inv .2))
 
--- src/lib.rt:126:1
+-- src/lib.rt:132:1
 returns : tie.Need-returns Inv-loop μ-loop
 returns c =
-    let a = c .before .before .args in
+    let s = c .before .before .before in
+    let a = s .args in
     let l = c .before .loop in
-    (omega (arith, l .inv .1, ap length (courses-none (a .u) (a .t2) (a .n) (l .i) (omega arith))), omega (arith, l .inv .2))
+    (omega (arith, l .inv .1, ap length (courses-none (a .u) (a .t2) (a .started) (l .i) (omega (arith, s .good .1 .0 .1 .0 .1)))), omega (arith, l .inv .2))
 
 pub courses-width-spec : {M : Type 1} → statement M
 courses-width-spec =
@@ -80,6 +87,7 @@ courses-width-spec =
     (tie.spec
     Inv-loop
     μ-loop
+    at-most-requires
     loop-holds
     end-of-requires
     mul-c

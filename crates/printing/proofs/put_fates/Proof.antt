@@ -1,10 +1,10 @@
-use Prim.Native.Nat.{ℕ, _+_, _*_, _-_, _≤_, _<_}
+use Prim.Native.Nat.{ℕ, _+_, _*_, _-_, min, _≤_, _<_}
 use mathlib.Core.Path.{_≡_, refl, sym, ap, _∙_}
 use mathlib.Core.List.{List, _++_}
 use native.Mathlib.Omega.{arith}
 use borrow.Author.Needs.{needs}
 use lib.ListN.{length, getD}
-use Rattle.lines.specs.Text.{fLine, laid}
+use Rattle.lines.specs.Text.{fLine}
 use Rattle.lines.proofs.Laws.{part-length}
 use Rattle.printing.proofs.Laws.{Laying, lay-none, lay-room, lay-next, lay-more, lay-all, fates-left, fates-more, fates-none}
 use Rattle.printing.proofs.put_fates.Statement.{statement}
@@ -12,101 +12,112 @@ use Rattle.printing.proofs.put_fates.Tie as tie
 use Rattle.printing.proofs.put_fates.Reads as reads
 use Rattle.printing.proofs.put_fates.Lts as lts
 use Rattle.lines.proofs.put_f.Reads as put-f-reads
+use Rattle.printing.proofs.at_most.Reads as at-most-reads
 
 abbrev Inv-loop : tie.InvT-loop
-Inv-loop out₀ n fates at₀ i₀ out at i = (i ≤ n) × Laying (fates-left fates n 0) (fates-left fates n i) out₀ out at
+Inv-loop out₀ count fates n at₀ i₀ out at i = (i ≤ n) × Laying (fates-left fates count 0) (fates-left fates count i) out₀ out at
 
 abbrev μ-loop : tie.MeasureT-loop
-μ-loop out₀ n fates at₀ i₀ out at i = n - i
+μ-loop out₀ count fates n at₀ i₀ out at i = n - i
 
 -- within the loop: the next line, and its room
 next : (c : tie.In-loop Inv-loop μ-loop) →
-    let a = c .before .before .before .args in
+    let a = c .before .before .before .before .args in
     let i = c .before .loop .i in
-    fates-left (a .t2) (a .n) i ≡ fLine (i + 1) (getD (a .t2) i 0) ++ fates-left (a .t2) (a .n) (i + 1)
+    fates-left (a .t2) (a .count) i ≡ fLine (i + 1) (getD (a .t2) i 0) ++ fates-left (a .t2) (a .count) (i + 1)
 next c =
-    let a = c .before .before .before .args in
-    fates-more (a .t2) (a .n) (c .before .loop .i) (omega arith) (omega (arith, c .before .before .before .good .1 .0 .1 .0 .1))
+    let s = c .before .before .before .before in
+    fates-more (s .args .t2) (s .args .count) (c .before .loop .i) (omega (arith, s .good .1 .0 .1 .0 .1))
 
 room : (c : tie.In-loop Inv-loop μ-loop) →
-    let a = c .before .before .before .args in
+    let a = c .before .before .before .before .args in
     let l = c .before .loop in
     (l .at + length (fLine (l .i + 1) (getD (a .t2) (l .i) 0)) ≤ length (l .out)) × (length (l .out) ≡ length (a .out .now))
 room c =
-    let a = c .before .before .before .args in
+    let s = c .before .before .before .before in
+    let a = s .args in
     let l = c .before .loop in
-    lay-next (fates-left (a .t2) (a .n) 0) (fates-left (a .t2) (a .n) (l .i)) (fLine (l .i + 1) (getD (a .t2) (l .i) 0)) (fates-left (a .t2) (a .n) (l .i + 1)) (a .out .now) (l .out) (l .at)
-    (c .before .before .before .pre .1) (next c) (l .inv .1)
+    let left = fates-left (a .t2) (a .count) in
+    lay-next (left 0) (left (l .i)) (fLine (l .i + 1) (getD (a .t2) (l .i) 0)) (left (l .i + 1)) (a .out .now) (l .out) (l .at) (s .pre) (next c) (l .inv .1)
 
--- src/lib.rt:44:5
+-- src/lib.rt:51:9
+at-most-requires : tie.Need-at-most-requires Inv-loop μ-loop
+at-most-requires c κs = search needs
+
+-- src/lib.rt:54:5
 loop-holds : tie.Need-loop-holds Inv-loop μ-loop
-loop-holds c = (omega arith, lay-none (fates-left (c .before .args .t2) (c .before .args .n) 0) (c .before .args .out .now))
+loop-holds c = let a = c .before .before .args in (omega arith, lay-none (fates-left (a .t2) (a .count) 0) (a .out .now))
 
--- src/lib.rt:45:22
+-- src/lib.rt:55:22
 add-number : tie.Need-add-number Inv-loop μ-loop
 add-number c = omega arith
 
--- src/lib.rt:46:20
+-- src/lib.rt:56:20
 array-read-fate : tie.Need-array-read-fate Inv-loop μ-loop
 array-read-fate c = omega arith
 
--- src/lib.rt:46:20
+-- src/lib.rt:56:20
 cast-fate : tie.Need-cast-fate Inv-loop μ-loop
 cast-fate c = search needs
 
--- src/lib.rt:47:30
+-- src/lib.rt:57:30
 sub-put-f : tie.Need-sub-put-f Inv-loop μ-loop
 sub-put-f c = omega (arith, room c)
 
--- src/lib.rt:47:30
+-- src/lib.rt:57:30
 part-put-f-start : tie.Need-part-put-f-start Inv-loop μ-loop
 part-put-f-start c = omega (arith, room c)
 
--- src/lib.rt:47:30
+-- src/lib.rt:57:30
 part-put-f-end : tie.Need-part-put-f-end Inv-loop μ-loop
 part-put-f-end c = search needs
 
--- src/lib.rt:47:13
+-- src/lib.rt:57:13
 put-f-requires : tie.Need-put-f-requires Inv-loop μ-loop
 put-f-requires c κs = omega (arith, part-length (c .before .before .loop .at) (c .before .before .loop .out), room (c .before))
 
--- src/lib.rt:48:9
+-- src/lib.rt:58:9
 add-at : tie.Need-add-at Inv-loop μ-loop
 add-at c = omega (arith, room (c .before .before .before .before), c .before .before .put-f .ensures .0)
 
--- src/lib.rt:49:9
+-- src/lib.rt:59:9
 add-i : tie.Need-add-i Inv-loop μ-loop
 add-i c = omega arith
 
--- src/lib.rt:44:5
+-- src/lib.rt:54:5
 loop-less : tie.Need-loop-less Inv-loop μ-loop
 loop-less c = omega arith
 
--- src/lib.rt:44:5
+-- src/lib.rt:54:5
 loop-again : tie.Need-loop-again Inv-loop μ-loop
 loop-again c =
-    let s = c .before .before .before .before .before .before .before in
+    let w = c .before .before .before .before in
+    let s = w .before .before .before .before in
     let a = s .args in
-    let l = c .before .before .before .before .before .loop in
-    let p = c .before .before .put-f in (
+    let l = w .before .loop in
+    let p = c .before .before .put-f in
+    let left = fates-left (a .t2) (a .count) in (
       omega arith,
-      lay-more (fates-left (a .t2) (a .n) 0) (fates-left (a .t2) (a .n) (l .i)) (fLine (l .i + 1) (getD (a .t2) (l .i) 0)) (fates-left (a .t2) (a .n) (l .i + 1)) (a .out .now) (l .out) (p .last .0) (l .at) (p .result)
-          (s .pre .1) (next (c .before .before .before .before)) (l .inv .1) (p .ensures .0) (p .ensures .1),
+      lay-more (left 0) (left (l .i)) (fLine (l .i + 1) (getD (a .t2) (l .i) 0)) (left (l .i + 1)) (a .out .now) (l .out) (p .last .0) (l .at) (p .result) (s .pre) (next w) (l .inv .1) (p .ensures .0) (p .ensures .1),
     )
 
--- src/lib.rt:37:1
+-- src/lib.rt:47:1
 same-length : tie.Need-same-length Inv-loop μ-loop
 same-length c =
-    let a = c .before .before .before .args in
+    let s = c .before .before .before .before in
+    let a = s .args in
     let l = c .before .loop in
-    lay-room (fates-left (a .t2) (a .n) 0) (fates-left (a .t2) (a .n) (l .i)) (a .out .now) (l .out) (l .at) (c .before .before .before .pre .1) (l .inv .1) .1
+    let left = fates-left (a .t2) (a .count) in
+    lay-room (left 0) (left (l .i)) (a .out .now) (l .out) (l .at) (s .pre) (l .inv .1) .1
 
--- src/lib.rt:37:1
+-- src/lib.rt:47:1
 returns : tie.Need-returns Inv-loop μ-loop
 returns c =
-    let a = c .before .before .before .args in
+    let s = c .before .before .before .before in
+    let a = s .args in
     let l = c .before .loop in
-    lay-all (fates-left (a .t2) (a .n) 0) (fates-left (a .t2) (a .n) (l .i)) (a .out .now) (l .out) (l .at) (fates-none (a .t2) (a .n) (l .i) (omega arith)) (l .inv .1)
+    let left = fates-left (a .t2) (a .count) in
+    lay-all (left 0) (left (l .i)) (a .out .now) (l .out) (l .at) (fates-none (a .t2) (a .count) (l .i) (omega (arith, s .good .1 .0 .1 .0 .1))) (l .inv .1)
 
 pub put-fates-spec : {M : Type 1} → statement M
 put-fates-spec =
@@ -114,6 +125,7 @@ put-fates-spec =
     (tie.spec
     Inv-loop
     μ-loop
+    at-most-requires
     loop-holds
     add-number
     array-read-fate
