@@ -1,36 +1,33 @@
 -- Laying lines one after another, and what is left to lay.
 -- Assumes nothing.
-use Prim.Native.Nat.{ℕ, zero, suc, _+_, _*_, _-_, _/_, _%_, min, _≤_, _<_}
+use Prim.Native.Nat.{ℕ, zero, suc, _+_, _-_, _/_, _%_, min, _≤_, _<_}
 use mathlib.Core.Path.{_≡_, refl, sym, ap, _∙_}
 use mathlib.Core.List.{List, [], _∷_, _++_, append-assoc, append-nil}
 use mathlib.Core.Bool.{Bool, true, false}
 use native.Mathlib.Omega.{arith}
 use native.Mathlib.Numerals.{add-one}
-use lib.ListN.{length, getD, take, drop, length-append, length-drop, length-take, drop-of-length-le}
-use lib.Seq.{drop-cons, take-all, length-take-le, getD-take}
-use Rattle.lines.specs.Text.{fLine, sLine, qLine, laid}
-use Rattle.lines.proofs.Laws.{laid-part, laid-length, part-length}
-use lib.Dec.{ltb}
+use lib.ListN.{length, getD, take, drop, length-append, length-take, drop-of-length-le}
+use lib.Seq.{drop-cons, getD-take}
+use lib.Dec.{ltb, eqb}
+use borrow.Author.Tests.{eq-eqb, ne-eqb}
 use Rattle.level.specs.Level.{grains}
+use Rattle.level.specs.Lists.{listFrom}
 use Rattle.records.specs.declared.UnitData.{UnitData}
 use Rattle.course.specs.declared.Course.{Course}
 use Rattle.course.specs.declared.Piece.{Piece}
-use Rattle.course.specs.Lists.{Lists}
-use Rattle.course.specs.Course.{Heading, trajectoryOf}
+use Rattle.course.specs.Course.{trajectoryOf}
 use Rattle.course.specs.Pieces.{piecesIn}
 use Rattle.course.proofs.Near.{Short}
+use Rattle.profile.specs.Profile.{beginOf, spansOf, dayPieces, rounded}
+use Rattle.day.specs.Day.{halfHours, daySeconds, noCourse, quantityAt}
 use Rattle.trajectory.specs.declared.Place.{Place}
 use Rattle.trajectory.specs.Ways.{headed, listsIn}
 use Rattle.trajectory.specs.Walk.{beginning, pieceBetween, onward, piecesLeft}
 use Rattle.trajectory.proofs.Left.{left-none, onward-first, all-left}
+use Rattle.lines.specs.Text.{fLine, sLine, qLine, laid}
+use Rattle.lines.proofs.Laws.{laid-part, laid-length}
 use Rattle.listing.specs.Listing.{fLines, sLines, runLines, qLines}
-use Rattle.profile.specs.Profile.{beginOf, spansOf, dayPieces, rounded}
-use Rattle.day.specs.Day.{daySeconds, noCourse, quantityAt}
-use lib.Dec.{eqb}
-use borrow.Author.Tests.{eq-eqb, ne-eqb}
-use Rattle.level.specs.Choice.{pick}
-use Rattle.level.specs.Lists.{listFrom}
-use Rattle.printing.specs.Rest.{pieceLine, coursesLines, runsFrom, runEnd}
+use Rattle.printing.specs.Rest.{pieceLine, courseLines, coursesLines, runsFrom, runEnd}
 
 -- what is left, by x and the rest
 pub left-shorter : (left x rest : List ℕ) → left ≡ x ++ rest → length left ≡ length x + length rest
@@ -115,7 +112,7 @@ module _ (u : UnitData) (c : Course) (up : Bool) (n : ℕ) where
 
   -- from the beginning: those of the course
   pub pieces-all : up ≡ ltb (c .start .grains) (grains (c .target)) → (p : Place) → p ≡ beginning c (c .begin) →
-      pieces-left u c up n p ≡ sLines (piecesIn (trajectoryOf u c) (c .begin) n)
+      pieces-left u c up n p ≡ courseLines u c n
   pieces-all rises p e = rw e (ap sLines (all-left u c up rises (c .begin) n))
 
 -- ---- S lines of courses
@@ -143,7 +140,7 @@ courses-left u cs n i = coursesLines u (drop i (take n cs))
 
 module _ (u : UnitData) (cs : List Course) (n i : ℕ) where
   pub courses-more : (end : ℕ) → i < min n (length cs) → end ≡ beginOf daySeconds (drop (i + 1) (take n cs)) →
-      courses-left u cs n i ≡ sLines (piecesIn (trajectoryOf u (getD cs i noCourse)) (getD cs i noCourse .begin) end) ++ courses-left u cs n (i + 1)
+      courses-left u cs n i ≡ courseLines u (getD cs i noCourse) end ++ courses-left u cs n (i + 1)
   unfolding coursesLines spansOf dayPieces
   courses-more end h e =
       let ds : List Course = take n cs in
@@ -203,6 +200,7 @@ module _ (f : ℕ → ℕ) where
     where
       less : suc n - 1 ≡ n
       less = omega arith
+
       count : (d : ℕ) → suc i + n - d ≡ i + suc n - d
       count d = omega arith
 
@@ -218,7 +216,7 @@ module _ (f : ℕ → ℕ) where
   unfolding runsFrom
   quantities-none i h = ap (runsFrom f i) {x = 48 - i} {y = 0} (omega arith)
 
-  pub quantities-all : quantities-left 0 ≡ qLines (listFrom f 0 48)
+  pub quantities-all : quantities-left 0 ≡ qLines (listFrom f 0 halfHours)
   unfolding runsFrom qLines listFrom
   quantities-all = refl
 

@@ -1,20 +1,19 @@
 -- A whole listing from its parts, and asking for it.
 -- Assumes nothing.
-use Prim.Native.Nat.{ℕ, zero, suc, _+_, _*_, _-_, min, _≤_, _<_}
+use Prim.Native.Nat.{ℕ, _+_, _-_, _≤_, _<_}
 use mathlib.Core.Path.{_≡_, refl, sym, ap, _∙_}
-use mathlib.Core.List.{List, [], _∷_, _++_}
-use mathlib.Core.Bool.{Bool, true, false, not}
+use mathlib.Core.List.{List, _++_}
+use mathlib.Core.Bool.{true, false, not}
 use native.Mathlib.Omega.{arith}
 use borrow.Author.Tests.{lt-ltb, le-ltb}
 use lib.ListN.{length, take, drop, length-append}
 use Rattle.records.specs.declared.Refusal.the-variants.{NotReady, SliceTooShort}
 use Rattle.day.specs.declared.Day.{Day}
-use Rattle.level.specs.Lists.{listFrom}
-use Rattle.day.specs.Day.{halfHours, fatesIn, coursesIn, quantityAt, quantitiesIn}
+use Rattle.day.specs.Day.{fatesIn, coursesIn, quantitiesIn}
 use Rattle.lines.specs.Text.{laid}
-use Rattle.lines.proofs.Laws.{laid-part, laid-length, part-length}
-use Rattle.listing.specs.Listing.{fLines, qLines, listing, printedDay, listAnswer, listOf, lentAfter}
-use Rattle.printing.specs.Rest.{coursesLines, closingLine, fromQ, fromS, noListing, someListing}
+use Rattle.lines.proofs.Laws.{laid-part, laid-length}
+use Rattle.listing.specs.Listing.{listing, printedDay, listAnswer, listOf, lentAfter}
+use Rattle.printing.specs.Rest.{fateLines, coursesLines, quantityLines, closingLine, fromQ, fromS, noListing, someListing}
 
 -- ---- a whole of two parts, the second laid after the first
 module _ (whole x y o : List ℕ) (h : length whole ≤ length o) (parts : whole ≡ x ++ y) where
@@ -35,7 +34,7 @@ module _ (whole x y o : List ℕ) (h : length whole ≤ length o) (parts : whole
       (omega (arith, both-length), laid-part x y o p q n e (omega (arith, both-length, length-append x y)) ep eq ∙ ap (λ (l : List ℕ). laid l o) (sym parts))
 
 -- ---- the parts of a day's listing
-pub from-q : (d : Day) → fromQ d ≡ qLines (listFrom (quantityAt (d .sums)) 0 halfHours) ++ closingLine (d .closing)
+pub from-q : (d : Day) → fromQ d ≡ quantityLines (d .sums) ++ closingLine (d .closing)
 unfolding fromQ quantitiesIn
 from-q d = refl
 
@@ -43,18 +42,18 @@ pub from-s : (d : Day) → fromS d ≡ coursesLines (d .unit) (take (d .started)
 unfolding fromS coursesIn
 from-s d = refl
 
-pub from-f : (d : Day) → printedDay d ≡ fLines 1 (take (d .count) (d .fates)) ++ fromS d
+pub from-f : (d : Day) → printedDay d ≡ fateLines (d .count) (d .fates) ++ fromS d
 unfolding printedDay listing fromS fromQ coursesLines closingLine fatesIn
 from-f d = refl
 
 -- the parts' widths add up
 pub day-length : (d : Day) → length (printedDay d)
-    ≡ length (fLines 1 (take (d .count) (d .fates))) + length (coursesLines (d .unit) (take (d .started) (d .courses)))
-    + length (qLines (listFrom (quantityAt (d .sums)) 0 halfHours)) + length (closingLine (d .closing))
+    ≡ length (fateLines (d .count) (d .fates)) + length (coursesLines (d .unit) (take (d .started) (d .courses)))
+    + length (quantityLines (d .sums)) + length (closingLine (d .closing))
 day-length d =
-    let f : List ℕ = fLines 1 (take (d .count) (d .fates)) in
+    let f : List ℕ = fateLines (d .count) (d .fates) in
     let s : List ℕ = coursesLines (d .unit) (take (d .started) (d .courses)) in
-    let q : List ℕ = qLines (listFrom (quantityAt (d .sums)) 0 halfHours) in
+    let q : List ℕ = quantityLines (d .sums) in
     omega (
       arith,
       ap length (from-f d) ∙ length-append f (fromS d),

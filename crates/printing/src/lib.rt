@@ -1,23 +1,18 @@
 // The listing of a day: measured first, then written.
 ghost use mathlib.Core.Path.{_≡_};
-ghost use Prim.Native.Nat.{ℕ, _+_, _*_, _-_, min, _<_, _≤_};
-ghost use lib.ListN.{length, take, drop, getD};
-ghost use Rattle.lines.specs.Text.{laid};
-ghost use Rattle.course.specs.Course.{trajectoryOf};
-ghost use Rattle.course.specs.Pieces.{piecesIn};
-ghost use Rattle.printing.specs.Rest.{pieceLine, coursesLines, runEnd, closingLine, fromQ, fromS, noListing, someListing};
-ghost use Rattle.level.specs.Lists.{listFrom};
+ghost use Prim.Native.Nat.{_+_, _-_, min, _<_, _≤_};
+ghost use lib.ListN.{length, take, drop};
 ghost use Rattle.profile.specs.Profile.{beginOf, rounded};
-ghost use Rattle.day.specs.Day.{halfHours, daySeconds, fatesIn, coursesIn, quantityAt};
-ghost use Rattle.listing.specs.Listing.{fLines, sLines, qLines, printedDay, listOf, lentAfter};
+ghost use Rattle.day.specs.Day.{daySeconds, quantityAt};
+ghost use Rattle.lines.specs.Text.{laid};
+ghost use Rattle.listing.specs.Listing.{printedDay, listOf, lentAfter};
+ghost use Rattle.printing.specs.Rest.{fateLines, pieceLine, courseLines, coursesLines, quantityLines, runEnd, closingLine, fromQ, fromS, noListing, someListing};
 use day::Day;
 use listing::Listed;
 use records::Answer;
 use records::Refusal;
 
-// ---- F lines
-
-// The smaller of a count and the places there are.
+// A count that reads like the places there are, where it is larger.
 fn at_most(n: usize, places: usize) -> usize
     ensures { λ r. ⌜ r ≡ min n places ⌝ }
 {
@@ -27,9 +22,11 @@ fn at_most(n: usize, places: usize) -> usize
     places
 }
 
+// ---- F lines
+
 // The width of the lines of the first `count` fates.
 fn fates_width(fates: [u8; 40], count: usize) -> usize
-    ensures { λ r. ⌜ (r ≡ length (fLines 1 (take count fates))) × (r ≤ 1760) ⌝ }
+    ensures { λ r. ⌜ (r ≡ length (fateLines count fates)) × (r ≤ 1760) ⌝ }
 {
     let n = at_most(count, 40);
     let mut width: usize = 0;
@@ -45,8 +42,8 @@ fn fates_width(fates: [u8; 40], count: usize) -> usize
 
 // The lines of the first `count` fates.
 fn put_fates(out: &mut [u8], fates: [u8; 40], count: usize) -> usize
-    requires { ⌜ length (fLines 1 (take count fates)) ≤ length (now out) ⌝ }
-    ensures { λ r. ⌜ (r ≡ length (fLines 1 (take count fates))) × (now (out .exit) ≡ laid (fLines 1 (take count fates)) (now (out .entry))) ⌝ }
+    requires { ⌜ length (fateLines count fates) ≤ length (now out) ⌝ }
+    ensures { λ r. ⌜ (r ≡ length (fateLines count fates)) × (now (out .exit) ≡ laid (fateLines count fates) (now (out .entry))) ⌝ }
 {
     let n = at_most(count, 40);
     let mut at: usize = 0;
@@ -84,7 +81,7 @@ fn put_piece(out: &mut [u8], p: trajectory::Place, q: trajectory::Place) -> usiz
 
 // The width of the lines of a course, from where it begins to the second n.
 fn course_width(u: records::UnitData, c: course::Course, n: u32) -> usize
-    ensures { λ r. ⌜ (r ≡ length (sLines (piecesIn (trajectoryOf u c) (c .begin) n))) × (r ≤ 369367187370) ⌝ }
+    ensures { λ r. ⌜ (r ≡ length (courseLines u c n)) × (r ≤ 369367187370) ⌝ }
 {
     let up = trajectory::is_rising(c);
     let mut p = trajectory::begin_at(c, c.begin);
@@ -99,8 +96,8 @@ fn course_width(u: records::UnitData, c: course::Course, n: u32) -> usize
 
 // The lines of a course, from where it begins to the second n.
 fn put_course(out: &mut [u8], u: records::UnitData, c: course::Course, n: u32) -> usize
-    requires { ⌜ length (sLines (piecesIn (trajectoryOf u c) (c .begin) n)) ≤ length (now out) ⌝ }
-    ensures { λ r. ⌜ (r ≡ length (sLines (piecesIn (trajectoryOf u c) (c .begin) n))) × (now (out .exit) ≡ laid (sLines (piecesIn (trajectoryOf u c) (c .begin) n)) (now (out .entry))) ⌝ }
+    requires { ⌜ length (courseLines u c n) ≤ length (now out) ⌝ }
+    ensures { λ r. ⌜ (r ≡ length (courseLines u c n)) × (now (out .exit) ≡ laid (courseLines u c n) (now (out .entry))) ⌝ }
 {
     let up = trajectory::is_rising(c);
     let mut p = trajectory::begin_at(c, c.begin);
@@ -169,7 +166,7 @@ fn put_courses(
 
 // ---- Q lines
 
-// Twice an area in kW for a half-hour, rounded; as the sum of two quotients it cannot overflow.
+// The quantity (kW) of twice the area of a half-hour, rounded; as the sum of two quotients it cannot overflow.
 fn rounded_kw(twice: u64) -> u64
     ensures { λ r. ⌜ r ≡ rounded twice ⌝ }
 {
@@ -207,7 +204,7 @@ fn run_end(sums: [u64; 49], kw: u64, from: usize) -> usize
 
 // The width of the lines of the day's quantities.
 fn quantities_width(sums: [u64; 49]) -> usize
-    ensures { λ r. ⌜ (r ≡ length (qLines (listFrom (quantityAt sums) 0 halfHours))) × (r ≤ 3120) ⌝ }
+    ensures { λ r. ⌜ (r ≡ length (quantityLines sums)) × (r ≤ 3120) ⌝ }
 {
     let mut width: usize = 0;
     let mut i: usize = 0;
@@ -223,8 +220,8 @@ fn quantities_width(sums: [u64; 49]) -> usize
 
 // The lines of the day's quantities.
 fn put_quantities(out: &mut [u8], sums: [u64; 49]) -> usize
-    requires { ⌜ length (qLines (listFrom (quantityAt sums) 0 halfHours)) ≤ length (now out) ⌝ }
-    ensures { λ r. ⌜ (r ≡ length (qLines (listFrom (quantityAt sums) 0 halfHours))) × (now (out .exit) ≡ laid (qLines (listFrom (quantityAt sums) 0 halfHours)) (now (out .entry))) ⌝ }
+    requires { ⌜ length (quantityLines sums) ≤ length (now out) ⌝ }
+    ensures { λ r. ⌜ (r ≡ length (quantityLines sums)) × (now (out .exit) ≡ laid (quantityLines sums) (now (out .entry))) ⌝ }
 {
     let mut at: usize = 0;
     let mut i: usize = 0;
@@ -241,6 +238,7 @@ fn put_quantities(out: &mut [u8], sums: [u64; 49]) -> usize
 
 // ---- E line
 
+// The width of the line of the closing state.
 fn closing_width(e: profile::Closing) -> usize
     ensures { λ r. ⌜ (r ≡ length (closingLine e)) × (r ≤ 86) ⌝ }
 {
@@ -248,12 +246,19 @@ fn closing_width(e: profile::Closing) -> usize
     lines::e_width(level.grains, e.target as u64, e.heat as u64, e.off as u64)
 }
 
+// The line of the closing state.
 fn put_closing(out: &mut [u8], e: profile::Closing) -> usize
     requires { ⌜ length (closingLine e) ≤ length (now out) ⌝ }
     ensures { λ r. ⌜ (r ≡ length (closingLine e)) × (now (out .exit) ≡ laid (closingLine e) (now (out .entry))) ⌝ }
 {
     let level = e.level;
-    lines::put_e(out, level.grains, e.target as u64, e.heat as u64, e.off as u64)
+    lines::put_e(
+        out,
+        level.grains,
+        e.target as u64,
+        e.heat as u64,
+        e.off as u64,
+    )
 }
 
 // ---- the whole listing, each part after the parts already written
@@ -286,7 +291,7 @@ fn put_from_q(out: &mut [u8], day: Day) -> usize
     at + n
 }
 
-// Its S lines, then those.
+// The S lines of a day, then its Q and E lines.
 fn put_from_s(out: &mut [u8], day: Day) -> usize
     requires { ⌜ length (fromS day) ≤ length (now out) ⌝ }
     ensures { λ r. ⌜ (r ≡ length (fromS day)) × (now (out .exit) ≡ laid (fromS day) (now (out .entry))) ⌝ }
@@ -298,7 +303,7 @@ fn put_from_s(out: &mut [u8], day: Day) -> usize
     at + n
 }
 
-// Its F lines, then those: the whole listing.
+// The F lines of a day, then its S, Q and E lines: the whole listing.
 fn put_day(out: &mut [u8], day: Day) -> usize
     requires { ⌜ length (printedDay day) ≤ length (now out) ⌝ }
     ensures { λ r. ⌜ (r ≡ length (printedDay day)) × (now (out .exit) ≡ laid (printedDay day) (now (out .entry))) ⌝ }
@@ -311,16 +316,15 @@ fn put_day(out: &mut [u8], day: Day) -> usize
 
 // ---- asking for it
 
+// A refusal: no byte is written.
 fn refused(r: Refusal) -> Listed
     ensures { λ l. ⌜ l ≡ noListing r ⌝ }
 {
     let answer = Answer::Refused(r);
-    Listed {
-        answer,
-        count: 0,
-    }
+    Listed { answer, count: 0 }
 }
 
+// A listing of so many bytes.
 fn accepted(count: usize) -> Listed
     ensures { λ l. ⌜ l ≡ someListing count ⌝ }
 {

@@ -1,14 +1,11 @@
-use Prim.Native.Nat.{ℕ, _+_, _*_, _-_, _≤_, _<_}
-use mathlib.Core.Path.{_≡_, refl, sym, ap, _∙_}
-use mathlib.Core.List.{List, _++_}
+use Prim.Native.Nat.{_+_, _*_, _-_, _≤_}
+use mathlib.Core.Path.{_≡_, ap}
 use native.Mathlib.Omega.{arith}
 use borrow.Author.Needs.{needs}
 use lib.ListN.{length}
 use Rattle.level.specs.Level.{grains}
 use Rattle.course.proofs.Near.{Short}
-use Rattle.trajectory.specs.declared.Place.{Place}
 use Rattle.trajectory.specs.Ways.{headed, listsIn}
-use Rattle.trajectory.specs.Walk.{beginning}
 use Rattle.trajectory.proofs.Courses.{begins-short}
 use Rattle.trajectory.proofs.Goes.{Goes, onward-goes}
 use Rattle.printing.specs.Rest.{pieceLine}

@@ -1,14 +1,11 @@
-use Prim.Native.Nat.{ℕ, _+_, _*_, _-_, min, _≤_, _<_}
-use mathlib.Core.Path.{_≡_, refl, sym, ap, _∙_}
-use mathlib.Core.List.{List, _++_}
+use Prim.Native.Nat.{_+_, _*_, _-_, _≤_}
+use mathlib.Core.Path.{_≡_, ap}
 use native.Mathlib.Omega.{arith}
 use borrow.Author.Needs.{needs}
 use lib.ListN.{length, getD}
 use Rattle.course.specs.declared.Course.{Course}
-use Rattle.course.specs.Course.{trajectoryOf}
-use Rattle.course.specs.Pieces.{piecesIn}
 use Rattle.day.specs.Day.{noCourse}
-use Rattle.listing.specs.Listing.{sLines}
+use Rattle.printing.specs.Rest.{courseLines}
 use Rattle.printing.proofs.Laws.{left-shorter, courses-left, courses-more, courses-none}
 use Rattle.printing.proofs.courses_width.Statement.{statement}
 use Rattle.printing.proofs.courses_width.Tie as tie
@@ -70,7 +67,7 @@ loop-again c =
     let d : Course = getD (a .t2) (l .i) noCourse in
     let left = courses-left (a .u) (a .t2) (a .started) in
     let e = courses-more (a .u) (a .t2) (a .started) (l .i) (end .result) (omega (arith, s .good .1 .0 .1 .0 .1)) (end .ensures) in
-    let r = left-shorter (left (l .i)) (sLines (piecesIn (trajectoryOf (a .u) d) (d .begin) (end .result))) (left (l .i + 1)) e in
+    let r = left-shorter (left (l .i)) (courseLines (a .u) d (end .result)) (left (l .i + 1)) e in
     (omega arith, omega (arith, r, c .course-width .ensures .0, l .inv .1), omega (arith, c .course-width .ensures .1, l .inv .2))
 
 -- src/lib.rt:132:1

@@ -1,4 +1,4 @@
-use mathlib.Core.Path.{_≡_, ap, _∙_}
+use mathlib.Core.Path.{ap, _∙_}
 use native.Mathlib.Omega.{arith}
 use Rattle.printing.specs.Rest.{someListing}
 use Rattle.printing.proofs.Whole.{ask-open, ask-short, ask-room}

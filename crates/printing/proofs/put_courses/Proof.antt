@@ -1,14 +1,12 @@
-use Prim.Native.Nat.{ℕ, _+_, _*_, _-_, min, _≤_, _<_}
-use mathlib.Core.Path.{_≡_, refl, sym, ap, _∙_}
+use Prim.Native.Nat.{ℕ, _+_, _-_, _≤_}
+use mathlib.Core.Path.{_≡_}
 use mathlib.Core.List.{List, _++_}
 use native.Mathlib.Omega.{arith}
 use borrow.Author.Needs.{needs}
 use lib.ListN.{length, getD}
 use Rattle.course.specs.declared.Course.{Course}
-use Rattle.course.specs.Course.{trajectoryOf}
-use Rattle.course.specs.Pieces.{piecesIn}
 use Rattle.day.specs.Day.{noCourse}
-use Rattle.listing.specs.Listing.{sLines}
+use Rattle.printing.specs.Rest.{courseLines}
 use Rattle.lines.proofs.Laws.{part-length}
 use Rattle.printing.proofs.Laws.{Laying, lay-none, lay-room, lay-next, lay-more, lay-all, courses-left, courses-more, courses-none}
 use Rattle.printing.proofs.put_courses.Statement.{statement}
@@ -30,7 +28,7 @@ abbrev lines-of : (c : tie.After-c Inv-loop μ-loop) → List ℕ
 lines-of c =
     let a = c .before .before .before .before .before .before .args in
     let d : Course = getD (a .t3) (c .before .before .before .loop .i) noCourse in
-    sLines (piecesIn (trajectoryOf (a .u) d) (d .begin) (c .before .end-of .result))
+    courseLines (a .u) d (c .before .end-of .result)
 
 -- they come next, and have room
 next : (c : tie.After-c Inv-loop μ-loop) →

@@ -3,13 +3,11 @@ use mathlib.Core.Path.{_≡_}
 use mathlib.Core.List.{List}
 use native.Mathlib.Omega.{arith}
 use borrow.Author.Needs.{needs}
-use lib.ListN.{length, take}
-use Rattle.level.specs.Lists.{listFrom}
+use lib.ListN.{length}
 use Rattle.lines.proofs.Laws.{part-length}
 use Rattle.day.specs.declared.Day.{Day}
-use Rattle.day.specs.Day.{halfHours, quantityAt}
-use Rattle.listing.specs.Listing.{fLines, qLines, printedDay}
-use Rattle.printing.specs.Rest.{coursesLines, closingLine, fromQ, fromS}
+use Rattle.listing.specs.Listing.{printedDay}
+use Rattle.printing.specs.Rest.{fateLines, fromS}
 use Rattle.printing.proofs.Whole.{first-room, second-room, both-laid, from-f}
 use Rattle.printing.proofs.put_day.Statement.{statement}
 use Rattle.printing.proofs.put_day.Tie as tie
@@ -20,7 +18,7 @@ use Rattle.printing.proofs.put_from_s.Reads as put-from-s-reads
 
 -- the two parts
 abbrev front : Day → List ℕ
-front d = fLines 1 (take (d .count) (d .fates))
+front d = fateLines (d .count) (d .fates)
 
 abbrev back : Day → List ℕ
 back d = fromS d

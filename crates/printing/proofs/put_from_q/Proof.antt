@@ -3,13 +3,10 @@ use mathlib.Core.Path.{_≡_}
 use mathlib.Core.List.{List}
 use native.Mathlib.Omega.{arith}
 use borrow.Author.Needs.{needs}
-use lib.ListN.{length, take}
-use Rattle.level.specs.Lists.{listFrom}
+use lib.ListN.{length}
 use Rattle.lines.proofs.Laws.{part-length}
 use Rattle.day.specs.declared.Day.{Day}
-use Rattle.day.specs.Day.{halfHours, quantityAt}
-use Rattle.listing.specs.Listing.{fLines, qLines, printedDay}
-use Rattle.printing.specs.Rest.{coursesLines, closingLine, fromQ, fromS}
+use Rattle.printing.specs.Rest.{quantityLines, closingLine, fromQ}
 use Rattle.printing.proofs.Whole.{first-room, second-room, both-laid, from-q}
 use Rattle.printing.proofs.put_from_q.Statement.{statement}
 use Rattle.printing.proofs.put_from_q.Tie as tie
@@ -20,7 +17,7 @@ use Rattle.printing.proofs.put_quantities.Reads as put-quantities-reads
 
 -- the two parts
 abbrev front : Day → List ℕ
-front d = qLines (listFrom (quantityAt (d .sums)) 0 halfHours)
+front d = quantityLines (d .sums)
 
 abbrev back : Day → List ℕ
 back d = closingLine (d .closing)

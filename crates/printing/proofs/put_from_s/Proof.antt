@@ -4,12 +4,9 @@ use mathlib.Core.List.{List}
 use native.Mathlib.Omega.{arith}
 use borrow.Author.Needs.{needs}
 use lib.ListN.{length, take}
-use Rattle.level.specs.Lists.{listFrom}
 use Rattle.lines.proofs.Laws.{part-length}
 use Rattle.day.specs.declared.Day.{Day}
-use Rattle.day.specs.Day.{halfHours, quantityAt}
-use Rattle.listing.specs.Listing.{fLines, qLines, printedDay}
-use Rattle.printing.specs.Rest.{coursesLines, closingLine, fromQ, fromS}
+use Rattle.printing.specs.Rest.{coursesLines, fromQ, fromS}
 use Rattle.printing.proofs.Whole.{first-room, second-room, both-laid, from-s}
 use Rattle.printing.proofs.put_from_s.Statement.{statement}
 use Rattle.printing.proofs.put_from_s.Tie as tie

@@ -1,12 +1,10 @@
-use Prim.Native.Nat.{ℕ, _+_, _*_, _-_, _≤_, _<_}
-use mathlib.Core.Path.{_≡_, refl, sym, ap, _∙_}
-use mathlib.Core.List.{List, _++_}
+use Prim.Native.Nat.{_+_, _*_, _-_, _≤_}
+use mathlib.Core.Path.{_≡_, ap}
 use native.Mathlib.Omega.{arith}
 use borrow.Author.Needs.{needs}
 use lib.ListN.{length}
-use Rattle.lines.specs.Text.{qLine, laid}
+use Rattle.lines.specs.Text.{qLine}
 use Rattle.day.specs.Day.{quantityAt}
-use Rattle.printing.specs.Rest.{runEnd}
 use Rattle.printing.proofs.Laws.{left-shorter, quantities-left, quantities-more, quantities-none, quantities-all}
 use Rattle.printing.proofs.quantities_width.Statement.{statement}
 use Rattle.printing.proofs.quantities_width.Tie as tie

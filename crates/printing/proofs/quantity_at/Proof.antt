@@ -1,5 +1,4 @@
 use mathlib.Core.Path.{_∙_}
-use native.Mathlib.Omega.{arith}
 use Rattle.printing.proofs.Laws.{quantity-none, quantity-some}
 use borrow.Author.Needs.{needs}
 use Rattle.printing.proofs.quantity_at.Statement.{statement}
