@@ -173,6 +173,14 @@ fn export(number: u64, day: &Day, printed: &[u8]) -> Option<String> {
 
 // ---- the comparisons
 
+/// What the benchmark's plain Rust by segments prints.
+fn by_segments(records: &[u8]) -> Vec<u8> {
+    let mut out = vec![0xFF; segments::LONGEST_LISTING];
+    let count = segments::listing(&mut segments::Day::new(), records, &mut out);
+    out.truncate(count);
+    out
+}
+
 fn vectors(options: &Options, all: &mut (u64, u64)) {
     let mut names: Vec<PathBuf> = std::fs::read_dir(&options.vectors)
         .expect("vectors")
@@ -182,15 +190,18 @@ fn vectors(options: &Options, all: &mut (u64, u64)) {
     names.sort();
     let mut own = Tally::new("vectors, second implementation");
     let mut theirs = Tally::new("vectors, product");
+    let mut pieces = Tally::new("vectors, plain Rust by segments");
     for path in names {
         let name = path.file_stem().unwrap().to_string_lossy().to_string();
         let records = std::fs::read(&path).unwrap();
         let printed = std::fs::read(path.with_extension("listing")).unwrap();
         own.check(&name, difference(&printed, &reference::profiler(&records)));
         theirs.check(&name, difference(&printed, &run_program(&options.profiler, &records)));
+        pieces.check(&name, difference(&printed, &by_segments(&records)));
     }
     own.done(all);
     theirs.done(all);
+    pieces.done(all);
 }
 
 fn random_days(options: &Options, all: &mut (u64, u64)) {
@@ -201,15 +212,18 @@ fn random_days(options: &Options, all: &mut (u64, u64)) {
         let got = product_listing(&input);
         let too_fast = day.closed.as_ref().is_some_and(|(p, _)| p.too_fast > 0);
         let exported = if number < closed_below { export(number, &day, &got) } else { None };
-        (difference(&expected, &got), too_fast, cover(&expected, &day), exported)
+        let pieces = difference(&expected, &by_segments(&input));
+        (difference(&expected, &got), pieces, too_fast, cover(&expected, &day), exported)
     });
     let mut listings = Tally::new(if LINKED { "random days, in this process" } else { "random days, listing program" });
+    let mut plain = Tally::new("random days, plain Rust by segments");
     let mut speed = Tally::new("no second moves further than the rate in force");
     let mut coverage = Coverage::new();
     let mut text = String::new();
     let mut written = 0;
-    for (number, (difference, too_fast, seen, exported)) in results.into_iter().enumerate() {
+    for (number, (difference, pieces, too_fast, seen, exported)) in results.into_iter().enumerate() {
         listings.check(&format!("day {number}"), difference);
+        plain.check(&format!("day {number}"), pieces);
         speed.check(&format!("day {number}"), too_fast.then(|| "moves too far".to_string()));
         for what in seen {
             *coverage.entry(what).or_default() += 1;
@@ -220,6 +234,7 @@ fn random_days(options: &Options, all: &mut (u64, u64)) {
         }
     }
     listings.done(all);
+    plain.done(all);
     speed.done(all);
     let mut covered = Tally::new("cases that the random days must reach");
     for what in MUST_BE_COVERED {
