@@ -210,7 +210,7 @@ fn random_days(options: &Options, all: &mut (u64, u64)) {
         let input = days::input(options.seed, number);
         let (expected, day) = profile_input(&input);
         let got = product_listing(&input);
-        let too_fast = day.closed.as_ref().is_some_and(|(p, _)| p.too_fast > 0);
+        let too_fast = day.closed.as_ref().map(|(p, _)| p.too_fast > 0);
         let exported = if number < closed_below { export(number, &day, &got) } else { None };
         let pieces = difference(&expected, &by_segments(&input));
         (difference(&expected, &got), pieces, too_fast, cover(&expected, &day), exported)
@@ -224,7 +224,9 @@ fn random_days(options: &Options, all: &mut (u64, u64)) {
     for (number, (difference, pieces, too_fast, seen, exported)) in results.into_iter().enumerate() {
         listings.check(&format!("day {number}"), difference);
         plain.check(&format!("day {number}"), pieces);
-        speed.check(&format!("day {number}"), too_fast.then(|| "moves too far".to_string()));
+        if let Some(wrong) = too_fast {
+            speed.check(&format!("day {number}"), wrong.then(|| "moves too far".to_string()));
+        }
         for what in seen {
             *coverage.entry(what).or_default() += 1;
         }

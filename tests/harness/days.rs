@@ -325,28 +325,34 @@ fn shuffle<T>(r: &mut Random, items: &mut [T]) {
     }
 }
 
+/// A day as in real use, with so many instructions in time order.
+pub fn plain_plan(r: &mut Random, count: usize, sharp: bool) -> Plan {
+    let unit = plain_unit(r);
+    let most = unit.short_term_maximum;
+    let msg = unit.msg;
+    let level = move |r: &mut Random| r.pick(&[0, msg, most, msg + most / 10, msg + most / 4, 3 * most / 4]) + r.below(3) * 1_000;
+    let (a, b) = (level(r), level(r));
+    let opening = opening(r, &unit, a, b);
+    let mut at = times(r, count, &unit);
+    at.sort();
+    let mut instructions = Vec::new();
+    for t in at {
+        let (c, l, rate) = (code(r, true), level(r), r.between(500, 9_000));
+        instructions.push(instruction(r, c, t, l, rate));
+    }
+    let mut plan = Plan { unit, opening, instructions };
+    if sharp {
+        sharpen(r, &mut plan, &level, 3_000);
+    }
+    plan
+}
+
 /// A day whose records are all taken.
 pub fn plan(r: &mut Random) -> Plan {
     let count = r.pick(&[0, 1, 2, 3, 5, 8, 8, 12, 20, 39, 40]) as usize;
-    if r.below(4) == 0 {
-        let unit = plain_unit(r);
-        let most = unit.short_term_maximum;
-        let msg = unit.msg;
-        let level = move |r: &mut Random| r.pick(&[0, msg, most, msg + most / 10, msg + most / 4, 3 * most / 4]) + r.below(3) * 1_000;
-        let (a, b) = (level(r), level(r));
-        let opening = opening(r, &unit, a, b);
-        let mut at = times(r, count, &unit);
-        at.sort();
-        let mut instructions = Vec::new();
-        for t in at {
-            let (c, l, rate) = (code(r, true), level(r), r.between(500, 9_000));
-            instructions.push(instruction(r, c, t, l, rate));
-        }
-        let mut plan = Plan { unit, opening, instructions };
-        if r.one_in(2) {
-            sharpen(r, &mut plan, &level, 3_000);
-        }
-        return plan;
+    if r.one_in(4) {
+        let sharp = r.one_in(2);
+        return plain_plan(r, count, sharp);
     }
     let pool = Pool::new(r);
     let unit = adversarial_unit(r, &pool);

@@ -1,11 +1,13 @@
 //! The product as the tests and the benchmark see it. Only this file knows how it is reached.
 //!
-//! Built with `--cfg linked` and the product's static library, its C function is called in this process; without, the
-//! listing program is started for each day.
+//! Built with `--cfg linked` and the product's library, its C function is called in this process, by one thread at a time;
+//! without, the listing program is started for each day.
 
 use std::io::{Read, Write};
 use std::path::{Path, PathBuf};
 use std::process::{Command, Stdio};
+#[cfg(linked)]
+use std::sync::Mutex;
 use std::sync::OnceLock;
 
 #[cfg(linked)]
@@ -20,6 +22,9 @@ pub const LINKED: bool = cfg!(linked);
 #[allow(dead_code)]
 pub static PROFILER: OnceLock<PathBuf> = OnceLock::new();
 
+#[cfg(linked)]
+static ONE_AT_A_TIME: Mutex<()> = Mutex::new(());
+
 /// Into a lent buffer, in this process; the number of bytes written.
 #[cfg(linked)]
 #[allow(dead_code)]
@@ -32,7 +37,9 @@ pub fn product_listing_into(records: &[u8], out: &mut [u8]) -> usize {
 #[allow(dead_code)]
 pub fn product_listing(records: &[u8]) -> Vec<u8> {
     let mut out = vec![0xFF; 46_080];
+    let turn = ONE_AT_A_TIME.lock().unwrap();
     let count = product_listing_into(records, &mut out);
+    drop(turn);
     out.truncate(count);
     out
 }
