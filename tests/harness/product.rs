@@ -17,6 +17,7 @@ extern "C" {
     fn gristpebble_listing(records: *const u8, length: usize, out: *mut u8, room: usize) -> usize;
 }
 
+#[allow(dead_code)]
 pub const LINKED: bool = cfg!(linked);
 
 #[allow(dead_code)]
