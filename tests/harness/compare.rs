@@ -4,6 +4,7 @@
 //! compare --vectors FOLDER --profiler PROGRAM --calls PROGRAM [--days N] [--runs N] [--lists N] [--seed N]
 //!         [--export FILE --closed N] [--show NUMBER]
 
+mod cases;
 mod days;
 mod product;
 
@@ -211,6 +212,21 @@ fn vectors(options: &Options, all: &mut (u64, u64)) {
     }
 }
 
+/// The paper's own cases: the lines that it gives stand in the listings of both.
+fn paper_cases(options: &Options, all: &mut (u64, u64)) {
+    let mut tally = Tally::new("cases of the paper");
+    for case in cases::paper_cases() {
+        for (who, printed) in
+            [("second implementation", reference::profiler(&case.input)), ("product", run_program(&options.profiler, &case.input))]
+        {
+            let text = String::from_utf8_lossy(&printed).to_string();
+            let missing = case.lines.iter().find(|line| !text.lines().any(|l| l == **line));
+            tally.check(&format!("{}, {who}", case.name), missing.map(|line| format!("no line '{line}'")));
+        }
+    }
+    tally.done(all);
+}
+
 fn random_days(options: &Options, all: &mut (u64, u64)) {
     let closed_below = if options.export.is_some() { options.closed * 2 } else { 0 };
     let results = for_each(options.days, |number| {
@@ -289,6 +305,13 @@ fn main() {
     }
     let mut all = (0, 0);
     vectors(&options, &mut all);
+    paper_cases(&options, &mut all);
+    let limits = cases::limits();
+    let limit = |number: u64| limits[number as usize].clone();
+    programs("limits of the records", &options.profiler, limits.len() as u64, limit, |i| reference::profiler(i), &mut all);
+    let orders = cases::orders();
+    let order = |number: u64| orders[number as usize].clone();
+    programs("orders of the records", &options.calls, orders.len() as u64, order, |i| calls(i), &mut all);
     random_days(&options, &mut all);
     if LINKED {
         let input = |number| days::input(options.seed + 1_000, number);

@@ -401,7 +401,7 @@ fn unit_ranges() -> Vec<(u64, u64)> {
 }
 
 /// Offset in the record, least and most value of each number that has a range.
-fn ranges(kind: u8) -> Vec<(usize, i64, i64)> {
+pub fn ranges(kind: u8) -> Vec<(usize, i64, i64)> {
     match kind {
         UNIT => unit_ranges().into_iter().enumerate().map(|(i, (a, b))| (1 + 4 * i, a as i64, b as i64)).collect(),
         OPENING => vec![(1, 0, 120_000_000), (5, 0, 2_000_000), (9, 1, 3), (13, 0, 10_000_000)],
@@ -413,7 +413,7 @@ fn ranges(kind: u8) -> Vec<(usize, i64, i64)> {
 }
 
 /// Writes a number of a record; one that damage has cut short is left as it is.
-fn set(record: &mut [u8], offset: usize, value: i64) {
+pub fn set(record: &mut [u8], offset: usize, value: i64) {
     if let Some(four) = record.get_mut(offset..offset + 4) {
         four.copy_from_slice(&(value as u32).to_be_bytes());
     }
