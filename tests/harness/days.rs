@@ -347,9 +347,55 @@ pub fn plain_plan(r: &mut Random, count: usize, sharp: bool) -> Plan {
     plan
 }
 
+/// A day that uses up as much of demand 3's allowance as it can: stops so close together, and rates so little below the way
+/// between them, that nearly a second is lost at each; then a long way to the target.
+fn lagging_plan(r: &mut Random) -> Plan {
+    let k = r.pick(&[1, 1, 2, 5, 50]); // kW from stop to stop
+    let rate = 60 * k - r.pick(&[1, 1, 1, 2, 7]);
+    let capacity = r.pick(&[100, 1_000, 10_000, 40_000]) * k;
+    let minutes = r.pick(&[0, 1, 1, 1, 2]);
+    let near_top = r.one_in(3);
+    let column = Column {
+        block_load: 0,
+        rates: [rate; 3],
+        breaks: [k, 2 * k],
+        soak_triggers: [3 * k, 4 * k],
+        soak_minutes: [minutes; 2],
+    };
+    let dwell = |i: u64| if near_top { capacity - (5 + i) * k } else { (10 + i) * k };
+    let unit = Unit {
+        capacity,
+        short_term_maximum: capacity,
+        msg: 5 * k,
+        hot_boundary: 1,
+        warm_boundary: 10,
+        columns: [column; 3],
+        up_rates: [rate; 5],
+        up_breaks: [6 * k, 7 * k, 8 * k, 9 * k],
+        dwell_triggers: [dwell(0), dwell(1), dwell(2)],
+        dwell_minutes: [minutes; 3],
+        down_rates: [rate; 5],
+        down_breaks: [capacity - 4 * k, capacity - 3 * k, capacity - 2 * k, capacity - k],
+        deload_rates: [rate; 2],
+        deload_break: k,
+    };
+    let level = r.pick(&[0, 0, capacity * 60]);
+    let opening = Opening { level, target: r.pick(&[0, capacity, capacity]), heat: r.between(1, 3), seconds_off: 0 };
+    let mut instructions = Vec::new();
+    for _ in 0..r.pick(&[0, 0, 1, 2, 4]) {
+        let code = r.pick(&[Code::Mwof, Code::Mwof, Code::Sync, Code::Desy]);
+        let (effective, level) = (r.below(86_400), r.pick(&[0, capacity, capacity / 2]));
+        instructions.push(instruction(r, code, effective, level, rate));
+    }
+    Plan { unit, opening, instructions }
+}
+
 /// A day whose records are all taken.
 pub fn plan(r: &mut Random) -> Plan {
     let count = r.pick(&[0, 1, 2, 3, 5, 8, 8, 12, 20, 39, 40]) as usize;
+    if r.one_in(20) {
+        return lagging_plan(r);
+    }
     if r.one_in(4) {
         let sharp = r.one_in(2);
         return plain_plan(r, count, sharp);
