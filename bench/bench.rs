@@ -55,7 +55,8 @@ fn time_product(_: &[Vec<u8>], _: &mut [u8]) -> Option<f64> {
 fn main() {
     let mut out = vec![0; segments::LONGEST_LISTING];
     let mut day = segments::Day::new();
-    println!("Microseconds for one day (take, close, list); {DAYS} days of each size, of each the fastest of {ROUNDS} rounds (by segments and product {MANY}).");
+    println!("Microseconds for one day (take, close, list); mean of {DAYS} days of each size,");
+    println!("of each the fastest of {ROUNDS} rounds (by segments and product: {MANY}).");
     println!("instructions  bytes in  bytes out  by second  by segments   product  second/segments  product/segments");
     for count in [0, 10, 40] {
         let inputs: Vec<Vec<u8>> = (0..DAYS as u64)

@@ -258,7 +258,8 @@ def main():
     found = [fault for result in results for fault in result[1]]
     for fault in found[:5]:
         print("demand 3:", fault)
-    print(f"demand 3: {passed} days within; beyond rounding, a pair of boundaries needed at most {max(r[2] for r in results):.4f} of the allowance for stops")
+    most = max(result[2] for result in results)
+    print(f"demand 3: {passed} days within it; beyond rounding, at most {most:.4f} of the allowance for stops was needed")
     if "--self-test" in sys.argv:
         good, of = self_test(path)
         print(f"demand 3, wrong figures found: {good} of {of}")

@@ -83,7 +83,11 @@ pub fn paper_cases() -> Vec<Case> {
             &["F 1 0", "F 2 0", "F 3 5"],
         ),
         case("TRIP at 220", with(&open, &[(Mwof, 100, 103_000), (Trip, 220, 0)]), &["F 1 6", "F 2 0"]),
-        case("TRIP at 221", with(&open, &[(Mwof, 100, 103_000), (Trip, 221, 0)]), &["F 1 0", "F 2 0", "S 220 221 6000000 6001000"]),
+        case(
+            "TRIP at 221",
+            with(&open, &[(Mwof, 100, 103_000), (Trip, 221, 0)]),
+            &["F 1 0", "F 2 0", "S 220 221 6000000 6001000"],
+        ),
         case(
             "rate 7,000, way 30,000",
             day(&fast, &open, &[given(Mwof, 0, 100_500)]),

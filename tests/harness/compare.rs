@@ -139,9 +139,34 @@ fn cover(printed: &[u8], day: &Day) -> Vec<String> {
 }
 
 const MUST_BE_COVERED: [&str; 29] = [
-    "fate 0", "fate 1", "fate 2", "fate 3", "fate 4", "fate 5", "fate 6", "fate 7", "fate 8", "refusal 1", "refusal 2", "refusal 3",
-    "refusal 4", "refusal 5", "refusal 6", "refusal 7", "refusal 8", "refusal 9", "refusal 20", "refusal 21", "refusal 22",
-    "refusal 23", "refusal 25", "a hold", "rise in column 1", "rise in column 2", "rise in column 3", "closed days",
+    "fate 0",
+    "fate 1",
+    "fate 2",
+    "fate 3",
+    "fate 4",
+    "fate 5",
+    "fate 6",
+    "fate 7",
+    "fate 8",
+    "refusal 1",
+    "refusal 2",
+    "refusal 3",
+    "refusal 4",
+    "refusal 5",
+    "refusal 6",
+    "refusal 7",
+    "refusal 8",
+    "refusal 9",
+    "refusal 20",
+    "refusal 21",
+    "refusal 22",
+    "refusal 23",
+    "refusal 25",
+    "a hold",
+    "rise in column 1",
+    "rise in column 2",
+    "rise in column 3",
+    "closed days",
     "opening replaced at second 0",
 ];
 
@@ -216,9 +241,10 @@ fn vectors(options: &Options, all: &mut (u64, u64)) {
 fn paper_cases(options: &Options, all: &mut (u64, u64)) {
     let mut tally = Tally::new("cases of the paper");
     for case in cases::paper_cases() {
-        for (who, printed) in
-            [("second implementation", reference::profiler(&case.input)), ("product", run_program(&options.profiler, &case.input))]
-        {
+        for (who, printed) in [
+            ("second implementation", reference::profiler(&case.input)),
+            ("product", run_program(&options.profiler, &case.input)),
+        ] {
             let text = String::from_utf8_lossy(&printed).to_string();
             let missing = case.lines.iter().find(|line| !text.lines().any(|l| l == **line));
             tally.check(&format!("{}, {who}", case.name), missing.map(|line| format!("no line '{line}'")));
@@ -277,7 +303,14 @@ fn random_days(options: &Options, all: &mut (u64, u64)) {
 }
 
 /// One kind of input of a program, on a seed of its own.
-fn programs(name: &str, program: &Path, count: u64, input: impl Fn(u64) -> Vec<u8> + Sync, expected: impl Fn(&[u8]) -> Vec<u8> + Sync, all: &mut (u64, u64)) {
+fn programs(
+    name: &str,
+    program: &Path,
+    count: u64,
+    input: impl Fn(u64) -> Vec<u8> + Sync,
+    expected: impl Fn(&[u8]) -> Vec<u8> + Sync,
+    all: &mut (u64, u64),
+) {
     let results = for_each(count, |number| {
         let input = input(number);
         difference(&expected(&input), &run_program(program, &input))

@@ -292,8 +292,31 @@ fn times(r: &mut Random, count: usize, unit: &Unit) -> Vec<u64> {
                 let near = r.below(300);
                 let far = r.below(7_200);
                 at += r.pick(&[
-                    0, 1, 59, 60, 119, 120, 121, 240, 600, 1_680, 1_800, 1_801, 3_599, 3_600, 3_601, hot, hot + 1, warm, warm + 1,
-                    near, near, far, far, far, far,
+                    0,
+                    1,
+                    59,
+                    60,
+                    119,
+                    120,
+                    121,
+                    240,
+                    600,
+                    1_680,
+                    1_800,
+                    1_801,
+                    3_599,
+                    3_600,
+                    3_601,
+                    hot,
+                    hot + 1,
+                    warm,
+                    warm + 1,
+                    near,
+                    near,
+                    far,
+                    far,
+                    far,
+                    far,
                 ]) % 86_400;
             }
             out
@@ -355,13 +378,8 @@ fn lagging_plan(r: &mut Random) -> Plan {
     let capacity = r.pick(&[100, 1_000, 10_000, 40_000]) * k;
     let minutes = r.pick(&[0, 1, 1, 1, 2]);
     let near_top = r.one_in(3);
-    let column = Column {
-        block_load: 0,
-        rates: [rate; 3],
-        breaks: [k, 2 * k],
-        soak_triggers: [3 * k, 4 * k],
-        soak_minutes: [minutes; 2],
-    };
+    let column =
+        Column { block_load: 0, rates: [rate; 3], breaks: [k, 2 * k], soak_triggers: [3 * k, 4 * k], soak_minutes: [minutes; 2] };
     let dwell = |i: u64| if near_top { capacity - (5 + i) * k } else { (10 + i) * k };
     let unit = Unit {
         capacity,
