@@ -324,134 +324,215 @@ struct Rates {
     down: [u32; 5],
 }
 
-/// The walk through the day.
-struct Walk<'a> {
-    unit: &'a Unit,
-    segments: &'a mut [Segment; MOST_SEGMENTS],
-    count: usize,
-    time: u32,
-    level: u32,
-    sum: u64,          // twice the recorded area from 06:00
-    notes: [u64; 49],  // the sum at each half-hour boundary
-    boundary: u32,     // the next one, counted from 1
-    zero_since: i32,
+/// A straight piece: each second moves the level by `slope`.
+#[derive(Clone, Copy)]
+struct Piece {
+    from: u32,
+    to: u32,
+    first: u32,
+    slope: i32,
 }
 
-impl Walk<'_> {
-    /// A straight piece of so many seconds, cut at `end`, each second moving the level by `slope`.
+impl Piece {
     #[inline]
-    fn piece(&mut self, seconds: u32, slope: i32, end: u32) {
-        let seconds = seconds.min(end - self.time);
-        if seconds == 0 {
-            return;
-        }
-        let (from, to, first) = (self.time, self.time + seconds, self.level);
-        let at = |n: u32| (first as i32 + slope * n as i32) as u32;
-        let doubled = |n: u32| n as u64 * (first as u64 + at(n) as u64);
-        while self.boundary * HALF_HOUR <= to {
-            self.notes[self.boundary as usize] = self.sum + doubled(self.boundary * HALF_HOUR - from);
-            self.boundary += 1;
-        }
-        self.sum += doubled(seconds);
-        self.time = to;
-        self.level = at(seconds);
-        self.segments[self.count] = Segment { from, to, first, last: self.level };
-        self.count += 1;
+    fn level(&self, time: u32) -> u32 {
+        (self.first as i32 + self.slope * (time - self.from) as i32) as u32
     }
+    /// Twice its area up to a second.
+    #[inline]
+    fn doubled(&self, time: u32) -> u64 {
+        (time - self.from) as u64 * (self.first as u64 + self.level(time) as u64)
+    }
+}
 
-    fn stops(&self, target: u32, heat: u32) -> Stops {
-        let (unit, start) = (self.unit, self.level);
-        let rising = target > start;
-        let distance = target.abs_diff(start);
-        let mut out = Stops { stops: [(0, 0); 13], count: 0 };
-        let mut add = |level: u32, hold: u32| {
-            let past = if rising { level > start } else { level < start };
-            let way = level.abs_diff(start);
-            if past && way < distance {
-                out.add(way, hold);
-            }
-        };
-        add(unit.msg, 0);
-        if rising {
-            let column = &unit.columns[heat as usize - 1];
-            for i in 0..2 {
-                if column.breaks[i] < unit.msg {
-                    add(column.breaks[i], 0);
-                }
-                if column.holds[i] > 0 && column.triggers[i] < unit.msg {
-                    add(column.triggers[i], column.holds[i]);
-                }
-            }
-            for b in unit.up_breaks {
-                if b >= unit.msg {
-                    add(b, 0);
-                }
-            }
-        } else {
-            for b in unit.down_breaks {
-                if b > unit.msg {
-                    add(b, 0);
-                }
-            }
-            if unit.deload_break <= unit.msg {
-                add(unit.deload_break, 0);
-            }
-        }
-        for i in 0..3 {
-            if unit.dwell_holds[i] > 0 && unit.dwell_triggers[i] >= unit.msg {
-                add(unit.dwell_triggers[i], unit.dwell_holds[i]);
-            }
-        }
-        if distance > 0 {
-            out.add(distance, 0);
-        }
-        out
+/// What comes next in a course.
+#[derive(Clone, Copy)]
+enum Next {
+    Run,
+    Short(u32),
+    Hold(u32),
+    Rest,
+}
+
+/// A course under way: it yields its pieces one after the other, as far as they are asked for.
+struct Course<'a> {
+    unit: &'a Unit,
+    heat: u32,
+    rates: Rates,
+    rising: bool,
+    start: u32,
+    stops: Stops,
+    reached: usize,
+    next: Next,
+    piece: Piece, // the one under way
+}
+
+impl<'a> Course<'a> {
+    fn new(unit: &'a Unit, time: u32, level: u32, target: u32, heat: u32, rates: Rates) -> Course<'a> {
+        let stops = stops(unit, level, target, heat);
+        let next = if stops.count > 0 { Next::Run } else { Next::Rest };
+        let piece = Piece { from: time, to: time, first: level, slope: 0 };
+        let mut course = Course { unit, heat, rates, rising: target > level, start: level, stops, reached: 0, next, piece };
+        course.advance();
+        course
     }
 
     #[inline]
-    fn rate(&self, rising: bool, heat: u32, rates: &Rates) -> u32 {
-        let (unit, level) = (self.unit, self.level);
-        if rising {
-            let passed = |breaks: &[u32]| breaks.iter().map(|&b| (b <= level) as usize).sum::<usize>();
+    fn rate(&self, level: u32) -> u32 {
+        let unit = self.unit;
+        if self.rising {
             if level < unit.msg {
-                let column = &unit.columns[heat as usize - 1];
-                column.rates[passed(&column.breaks)]
+                let column = &unit.columns[self.heat as usize - 1];
+                column.rates[column.breaks.iter().map(|&b| (b <= level) as usize).sum::<usize>()]
             } else {
-                rates.up[passed(&unit.up_breaks)]
+                self.rates.up[unit.up_breaks.iter().map(|&b| (b <= level) as usize).sum::<usize>()]
             }
         } else if level > unit.msg {
-            rates.down[unit.down_breaks.iter().map(|&b| (b < level) as usize).sum::<usize>()]
+            self.rates.down[unit.down_breaks.iter().map(|&b| (b < level) as usize).sum::<usize>()]
         } else {
             unit.deload_rates[(unit.deload_break < level) as usize]
         }
     }
 
-    /// The course from the present second and level to `end`.
-    fn course(&mut self, target: u32, heat: u32, rates: &Rates, end: u32) {
-        if self.time == end {
+    /// On to the next piece; one of length 0 is never left under way, for a rest is without end.
+    fn advance(&mut self) {
+        let sign = if self.rising { 1 } else { -1 };
+        let time = self.piece.to;
+        let level = self.piece.level(time);
+        let (seconds, slope) = match self.next {
+            Next::Run => {
+                let way = self.stops.stops[self.reached].0 - level.abs_diff(self.start);
+                let rate = self.rate(level);
+                let (full, short) = (way / rate, way % rate);
+                if full > 0 && short > 0 {
+                    self.next = Next::Short(short);
+                } else {
+                    self.next = self.at_stop();
+                }
+                if full > 0 {
+                    (full, sign * rate as i32)
+                } else {
+                    (1, sign * short as i32)
+                }
+            }
+            Next::Short(short) => {
+                self.next = self.at_stop();
+                (1, sign * short as i32)
+            }
+            Next::Hold(hold) => {
+                self.next = self.after_stop();
+                (hold, 0)
+            }
+            Next::Rest => (u32::MAX - time, 0),
+        };
+        self.piece = Piece { from: time, to: time + seconds, first: level, slope };
+    }
+
+    #[inline]
+    fn at_stop(&mut self) -> Next {
+        match self.stops.stops[self.reached].1 {
+            0 => self.after_stop(),
+            hold => Next::Hold(hold),
+        }
+    }
+
+    #[inline]
+    fn after_stop(&mut self) -> Next {
+        self.reached += 1;
+        if self.reached < self.stops.count {
+            Next::Run
+        } else {
+            Next::Rest
+        }
+    }
+}
+
+fn stops(unit: &Unit, start: u32, target: u32, heat: u32) -> Stops {
+    let rising = target > start;
+    let distance = target.abs_diff(start);
+    let mut out = Stops { stops: [(0, 0); 13], count: 0 };
+    if distance == 0 {
+        return out;
+    }
+    let mut add = |level: u32, hold: u32| {
+        let past = if rising { level > start } else { level < start };
+        let way = level.abs_diff(start);
+        if past && way < distance {
+            out.add(way, hold);
+        }
+    };
+    add(unit.msg, 0);
+    if rising {
+        let column = &unit.columns[heat as usize - 1];
+        for i in 0..2 {
+            if column.breaks[i] < unit.msg {
+                add(column.breaks[i], 0);
+            }
+            if column.holds[i] > 0 && column.triggers[i] < unit.msg {
+                add(column.triggers[i], column.holds[i]);
+            }
+        }
+        for b in unit.up_breaks {
+            if b >= unit.msg {
+                add(b, 0);
+            }
+        }
+    } else {
+        for b in unit.down_breaks {
+            if b > unit.msg {
+                add(b, 0);
+            }
+        }
+        if unit.deload_break <= unit.msg {
+            add(unit.deload_break, 0);
+        }
+    }
+    for i in 0..3 {
+        if unit.dwell_holds[i] > 0 && unit.dwell_triggers[i] >= unit.msg {
+            add(unit.dwell_triggers[i], unit.dwell_holds[i]);
+        }
+    }
+    out.add(distance, 0);
+    out
+}
+
+/// What the pieces leave behind: the S lines, and a running sum of twice the area noted at each half-hour boundary.
+struct Record<'a> {
+    segments: &'a mut [Segment; MOST_SEGMENTS],
+    count: usize,
+    sum: u64,
+    notes: [u64; 49],
+    boundary: u32, // number of the next boundary
+    zero_since: i32,
+}
+
+impl Record<'_> {
+    /// Lays down a piece up to `to`.
+    #[inline]
+    fn piece(&mut self, piece: &Piece, to: u32) {
+        if to == piece.from {
             return;
         }
-        let rising = target > self.level;
-        let stops = self.stops(target, heat);
-        let mut way = 0;
-        for &(to, hold) in &stops.stops[..stops.count] {
-            let rate = self.rate(rising, heat, rates);
-            let (full, short) = ((to - way) / rate, (to - way) % rate);
-            let sign = if rising { 1 } else { -1 };
-            self.piece(full, sign * rate as i32, end);
-            if short > 0 {
-                self.piece(1, sign * short as i32, end);
-            }
-            if self.level == 0 && self.time > 0 && !rising {
-                self.zero_since = self.time as i32;
-            }
-            self.piece(hold, 0, end);
-            if self.time == end {
-                return;
-            }
-            way = to;
+        while self.boundary * HALF_HOUR <= to {
+            self.notes[self.boundary as usize] = self.sum + piece.doubled(self.boundary * HALF_HOUR);
+            self.boundary += 1;
         }
-        self.piece(end - self.time, 0, end);
+        self.sum += piece.doubled(to);
+        let last = piece.level(to);
+        if last == 0 && piece.first > 0 {
+            self.zero_since = to as i32;
+        }
+        self.segments[self.count] = Segment { from: piece.from, to, first: piece.first, last };
+        self.count += 1;
+    }
+
+    /// Lays down every piece of the course that ends by `time`.
+    #[inline]
+    fn up_to(&mut self, course: &mut Course, time: u32) {
+        while course.piece.to <= time {
+            self.piece(&course.piece, course.piece.to);
+            course.advance();
+        }
     }
 }
 
@@ -560,33 +641,25 @@ impl Day {
         let mut kept = [Kept::default(); MOST_INSTRUCTIONS];
         let acting = validate(&self.instructions[..self.count], &mut self.fates, &mut kept);
         let opening = &self.opening;
-        let mut walk = Walk {
-            unit,
+        let mut record = Record {
             segments: &mut self.segments,
             count: 0,
-            time: 0,
-            level: opening.level,
             sum: 0,
             notes: [0; 49],
             boundary: 1,
             zero_since: -(opening.seconds_off as i32),
         };
         let (mut heat, mut target, mut ordinary, mut maximised) = (opening.heat, opening.target, opening.target, false);
-        let mut rates = Rates { up: unit.up_rates, down: unit.down_rates };
-        let step = |walk: &mut Walk, target: u32, heat: u32| {
-            if walk.level == 0 {
-                walk.level = unit.columns[heat as usize - 1].block_load.min(target);
-            }
+        let step = |level: u32, target: u32, heat: u32| match level {
+            0 => unit.columns[heat as usize - 1].block_load.min(target),
+            _ => level,
         };
-        step(&mut walk, target, heat);
-        let mut started = 0; // the course under way has been walked up to this second
+        let rates = Rates { up: unit.up_rates, down: unit.down_rates };
+        let mut course = Course::new(unit, 0, step(opening.level, target, heat), target, heat, rates);
         for one in &kept[..acting] {
-            // The course under way is walked as far as this instruction before it is known whether it acts; one without effect
-            // must not cut it, so the walk is taken back.
-            let before = (walk.count, walk.time, walk.level, walk.sum, walk.boundary, walk.zero_since);
-            debug_assert_eq!(walk.time, started);
-            walk.course(target, heat, &rates, one.acting);
-            let off = walk.level == 0;
+            record.up_to(&mut course, one.acting);
+            let mut level = course.piece.level(one.acting);
+            let off = level == 0;
             let without_effect = match one.code {
                 MWOF => off && one.level == 0,
                 DESY | TRIP => off,
@@ -596,11 +669,13 @@ impl Day {
             };
             if without_effect {
                 self.fates[one.index as usize] = 7;
-                (walk.count, walk.time, walk.level, walk.sum, walk.boundary, walk.zero_since) = before;
                 continue;
             }
-            rates.up = if one.up_rate > 0 { [one.up_rate; 5] } else { unit.up_rates };
-            rates.down = if one.down_rate > 0 { [one.down_rate; 5] } else { unit.down_rates };
+            record.piece(&course.piece, one.acting);
+            let mut rates = Rates {
+                up: if one.up_rate > 0 { [one.up_rate; 5] } else { unit.up_rates },
+                down: if one.down_rate > 0 { [one.down_rate; 5] } else { unit.down_rates },
+            };
             target = match one.code {
                 MWOF => {
                     heat = if off { 3 } else { heat };
@@ -608,15 +683,15 @@ impl Day {
                     ordinary
                 }
                 SYNC => {
-                    let seconds_off = ((one.acting as i32 - walk.zero_since) as u32).min(10_000_000);
+                    let seconds_off = ((one.acting as i32 - record.zero_since) as u32).min(10_000_000);
                     heat = 1 + (seconds_off > unit.hot) as u32 + (seconds_off > unit.warm) as u32;
                     ordinary = (one.level * GRAINS).max(unit.msg).min(unit.capacity * GRAINS);
                     ordinary
                 }
                 DESY => 0,
                 TRIP => {
-                    walk.level = 0;
-                    walk.zero_since = one.acting as i32;
+                    level = 0;
+                    record.zero_since = one.acting as i32;
                     0
                 }
                 MXON => {
@@ -629,23 +704,24 @@ impl Day {
                 }
             };
             maximised = one.code == MXON;
-            step(&mut walk, target, heat);
-            started = one.acting;
+            course = Course::new(unit, one.acting, step(level, target, heat), target, heat, rates);
         }
-        walk.course(target, heat, &rates, DAY);
+        record.up_to(&mut course, DAY);
+        record.piece(&course.piece, DAY);
+        let level = course.piece.level(DAY);
 
         let mut highest = 0;
         for i in 0..48 {
-            let doubled = walk.notes[i + 1] - walk.notes[i];
+            let doubled = record.notes[i + 1] - record.notes[i];
             self.quantities[i] = ((doubled + 108_000) / 216_000) as u32;
             highest = highest.max(self.quantities[i]);
         }
         if highest > unit.short_term_maximum {
             return Err(27);
         }
-        let seconds_off = if walk.level == 0 { ((DAY as i32 - walk.zero_since) as u32).min(10_000_000) } else { 0 };
-        self.closing = [walk.level, target / GRAINS, heat, seconds_off];
-        self.segment_count = walk.count;
+        let seconds_off = if level == 0 { ((DAY as i32 - record.zero_since) as u32).min(10_000_000) } else { 0 };
+        self.closing = [level, target / GRAINS, heat, seconds_off];
+        self.segment_count = record.count;
         Ok(())
     }
 
@@ -718,30 +794,23 @@ impl Lines<'_> {
         self.at += 1;
     }
 
-    /// A blank and the decimal number.
+    /// A blank and the decimal number, straight into their place.
     #[inline]
     fn number(&mut self, mut n: u32) {
-        let mut text = [b' '; 11];
-        let mut from = 11;
+        let digits = 1 + n.checked_ilog10().unwrap_or(0) as usize;
+        let slot = &mut self.out[self.at..self.at + 1 + digits];
+        self.at += 1 + digits;
+        slot[0] = b' ';
+        let mut from = 1 + digits;
         while n >= 10 {
             let pair = (n % 100) as usize * 2;
             n /= 100;
             from -= 2;
-            text[from] = PAIRS[pair];
-            text[from + 1] = PAIRS[pair + 1];
-            if n == 0 {
-                return self.put(&text[from - 1..]);
-            }
+            slot[from..from + 2].copy_from_slice(&PAIRS[pair..pair + 2]);
         }
-        from -= 1;
-        text[from] = b'0' + n as u8;
-        self.put(&text[from - 1..])
-    }
-
-    #[inline]
-    fn put(&mut self, text: &[u8]) {
-        self.out[self.at..self.at + text.len()].copy_from_slice(text);
-        self.at += text.len();
+        if from == 2 {
+            slot[1] = b'0' + n as u8;
+        }
     }
 }
 

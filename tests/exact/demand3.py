@@ -119,8 +119,8 @@ def exact_areas(courses):
     return areas
 
 
-def allowance_faults(courses, quantities):
-    """Pairs of boundaries between which demand 3 fails."""
+def allowance_faults(courses, quantities, used=None):
+    """Pairs of boundaries between which demand 3 fails; in `used`, what part of the allowance for stops a pair needs at most."""
     areas = exact_areas(courses)
     common = lcm(*(area.denominator for area in areas))
     gaps = [0]  # running sum of quantity less area, over the common denominator
@@ -136,8 +136,11 @@ def allowance_faults(courses, quantities):
     faults = []
     for a in range(48):
         for b in range(a + 1, 49):
-            allowed = ROUNDING * (b - a) + extra[last_at[b - 1] + 1] - extra[first_at[a]]
-            if abs(gaps[b] - gaps[a]) > allowed * common:
+            rounding, stops = ROUNDING * (b - a), extra[last_at[b - 1] + 1] - extra[first_at[a]]
+            allowed, off = rounding + stops, abs(gaps[b] - gaps[a])
+            if used is not None and off > rounding * common and stops:
+                used[0] = max(used[0], float(Fraction(off - rounding * common, stops * common)))
+            if off > allowed * common:
                 faults.append(f"quantities {a + 1} to {b}: allowed {allowed}, off by {float(Fraction(gaps[b] - gaps[a], common))}")
     return faults
 
@@ -193,27 +196,27 @@ def days(lines):
             yield day
 
 
-def faults(day):
+def faults(day, used=None):
     if len(day["quantities"]) != 48:
         return [f"{len(day['quantities'])} quantities"]
-    return allowance_faults(day["courses"], day["quantities"]) + speed_faults(day["courses"], day["segments"])
+    return allowance_faults(day["courses"], day["quantities"], used) + speed_faults(day["courses"], day["segments"])
 
 
 def check_part(task):
-    """Every `parts`-th day: passed, and the faults found."""
+    """Every `parts`-th day: passed, the faults found, and the most of the allowance for stops that was needed."""
     path, part, parts = task
-    passed, found, block, count = 0, [], [], 0
+    passed, found, block, count, used = 0, [], [], 0, [0.0]
     with open(path, encoding="ascii") as lines:
         for line in lines:
             block.append(line)
             if line == "\n":
                 if count % parts == part:
                     for day in days(block):
-                        wrong = faults(day)
+                        wrong = faults(day, used)
                         passed += not wrong
                         found += [f"day {day['number']}: {wrong[0]}"] if wrong else []
                 block, count = [], count + 1
-    return passed, found
+    return passed, found, used[0]
 
 
 def self_test(path):
@@ -255,6 +258,8 @@ def main():
     found = [fault for result in results for fault in result[1]]
     for fault in found[:5]:
         print("demand 3:", fault)
+    most = max(result[2] for result in results)
+    print(f"demand 3: {passed} days within it; beyond rounding, at most {most:.4f} of the allowance for stops was needed")
     if "--self-test" in sys.argv:
         good, of = self_test(path)
         print(f"demand 3, wrong figures found: {good} of {of}")

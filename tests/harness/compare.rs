@@ -4,6 +4,7 @@
 //! compare --vectors FOLDER --profiler PROGRAM --calls PROGRAM [--days N] [--runs N] [--lists N] [--seed N]
 //!         [--export FILE --closed N] [--show NUMBER]
 
+mod cases;
 mod days;
 mod product;
 
@@ -138,9 +139,34 @@ fn cover(printed: &[u8], day: &Day) -> Vec<String> {
 }
 
 const MUST_BE_COVERED: [&str; 29] = [
-    "fate 0", "fate 1", "fate 2", "fate 3", "fate 4", "fate 5", "fate 6", "fate 7", "fate 8", "refusal 1", "refusal 2", "refusal 3",
-    "refusal 4", "refusal 5", "refusal 6", "refusal 7", "refusal 8", "refusal 9", "refusal 20", "refusal 21", "refusal 22",
-    "refusal 23", "refusal 25", "a hold", "rise in column 1", "rise in column 2", "rise in column 3", "closed days",
+    "fate 0",
+    "fate 1",
+    "fate 2",
+    "fate 3",
+    "fate 4",
+    "fate 5",
+    "fate 6",
+    "fate 7",
+    "fate 8",
+    "refusal 1",
+    "refusal 2",
+    "refusal 3",
+    "refusal 4",
+    "refusal 5",
+    "refusal 6",
+    "refusal 7",
+    "refusal 8",
+    "refusal 9",
+    "refusal 20",
+    "refusal 21",
+    "refusal 22",
+    "refusal 23",
+    "refusal 25",
+    "a hold",
+    "rise in column 1",
+    "rise in column 2",
+    "rise in column 3",
+    "closed days",
     "opening replaced at second 0",
 ];
 
@@ -190,6 +216,7 @@ fn vectors(options: &Options, all: &mut (u64, u64)) {
     names.sort();
     let mut own = Tally::new("vectors, second implementation");
     let mut theirs = Tally::new("vectors, product");
+    let mut linked = Tally::new("vectors, product in this process");
     let mut pieces = Tally::new("vectors, plain Rust by segments");
     for path in names {
         let name = path.file_stem().unwrap().to_string_lossy().to_string();
@@ -198,10 +225,32 @@ fn vectors(options: &Options, all: &mut (u64, u64)) {
         own.check(&name, difference(&printed, &reference::profiler(&records)));
         theirs.check(&name, difference(&printed, &run_program(&options.profiler, &records)));
         pieces.check(&name, difference(&printed, &by_segments(&records)));
+        if LINKED {
+            linked.check(&name, difference(&printed, &product_listing(&records)));
+        }
     }
     own.done(all);
     theirs.done(all);
     pieces.done(all);
+    if LINKED {
+        linked.done(all);
+    }
+}
+
+/// The paper's own cases: the lines that it gives stand in the listings of both.
+fn paper_cases(options: &Options, all: &mut (u64, u64)) {
+    let mut tally = Tally::new("cases of the paper");
+    for case in cases::paper_cases() {
+        for (who, printed) in [
+            ("second implementation", reference::profiler(&case.input)),
+            ("product", run_program(&options.profiler, &case.input)),
+        ] {
+            let text = String::from_utf8_lossy(&printed).to_string();
+            let missing = case.lines.iter().find(|line| !text.lines().any(|l| l == **line));
+            tally.check(&format!("{}, {who}", case.name), missing.map(|line| format!("no line '{line}'")));
+        }
+    }
+    tally.done(all);
 }
 
 fn random_days(options: &Options, all: &mut (u64, u64)) {
@@ -238,12 +287,14 @@ fn random_days(options: &Options, all: &mut (u64, u64)) {
     listings.done(all);
     plain.done(all);
     speed.done(all);
-    let mut covered = Tally::new("cases that the random days must reach");
-    for what in MUST_BE_COVERED {
-        let none = coverage.get(what).is_none() && options.days >= 5_000;
-        covered.check(what, none.then(|| "never met".to_string()));
+    if options.days >= 5_000 {
+        let mut covered = Tally::new("cases that the random days must reach");
+        for what in MUST_BE_COVERED {
+            let never = !coverage.contains_key(what);
+            covered.check(what, never.then(|| "never met".to_string()));
+        }
+        covered.done(all);
     }
-    covered.done(all);
     let list: Vec<String> = coverage.iter().map(|(what, count)| format!("{what}: {count}")).collect();
     println!("days with: {}", list.join("; "));
     if let Some(file) = &options.export {
@@ -252,7 +303,14 @@ fn random_days(options: &Options, all: &mut (u64, u64)) {
 }
 
 /// One kind of input of a program, on a seed of its own.
-fn programs(name: &str, program: &Path, count: u64, input: impl Fn(u64) -> Vec<u8> + Sync, expected: impl Fn(&[u8]) -> Vec<u8> + Sync, all: &mut (u64, u64)) {
+fn programs(
+    name: &str,
+    program: &Path,
+    count: u64,
+    input: impl Fn(u64) -> Vec<u8> + Sync,
+    expected: impl Fn(&[u8]) -> Vec<u8> + Sync,
+    all: &mut (u64, u64),
+) {
     let results = for_each(count, |number| {
         let input = input(number);
         difference(&expected(&input), &run_program(program, &input))
@@ -280,6 +338,13 @@ fn main() {
     }
     let mut all = (0, 0);
     vectors(&options, &mut all);
+    paper_cases(&options, &mut all);
+    let limits = cases::limits();
+    let limit = |number: u64| limits[number as usize].clone();
+    programs("limits of the records", &options.profiler, limits.len() as u64, limit, |i| reference::profiler(i), &mut all);
+    let orders = cases::orders();
+    let order = |number: u64| orders[number as usize].clone();
+    programs("orders of the records", &options.calls, orders.len() as u64, order, |i| calls(i), &mut all);
     random_days(&options, &mut all);
     if LINKED {
         let input = |number| days::input(options.seed + 1_000, number);

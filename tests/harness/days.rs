@@ -292,8 +292,31 @@ fn times(r: &mut Random, count: usize, unit: &Unit) -> Vec<u64> {
                 let near = r.below(300);
                 let far = r.below(7_200);
                 at += r.pick(&[
-                    0, 1, 59, 60, 119, 120, 121, 240, 600, 1_680, 1_800, 1_801, 3_599, 3_600, 3_601, hot, hot + 1, warm, warm + 1,
-                    near, near, far, far, far, far,
+                    0,
+                    1,
+                    59,
+                    60,
+                    119,
+                    120,
+                    121,
+                    240,
+                    600,
+                    1_680,
+                    1_800,
+                    1_801,
+                    3_599,
+                    3_600,
+                    3_601,
+                    hot,
+                    hot + 1,
+                    warm,
+                    warm + 1,
+                    near,
+                    near,
+                    far,
+                    far,
+                    far,
+                    far,
                 ]) % 86_400;
             }
             out
@@ -347,9 +370,50 @@ pub fn plain_plan(r: &mut Random, count: usize, sharp: bool) -> Plan {
     plan
 }
 
+/// A day that uses up as much of demand 3's allowance as it can: stops so close together, and rates so little below the way
+/// between them, that nearly a second is lost at each; then a long way to the target.
+fn lagging_plan(r: &mut Random) -> Plan {
+    let k = r.pick(&[1, 1, 2, 5, 50]); // kW from stop to stop
+    let rate = 60 * k - r.pick(&[1, 1, 1, 2, 7]);
+    let capacity = r.pick(&[100, 1_000, 10_000, 40_000]) * k;
+    let minutes = r.pick(&[0, 1, 1, 1, 2]);
+    let near_top = r.one_in(3);
+    let column =
+        Column { block_load: 0, rates: [rate; 3], breaks: [k, 2 * k], soak_triggers: [3 * k, 4 * k], soak_minutes: [minutes; 2] };
+    let dwell = |i: u64| if near_top { capacity - (5 + i) * k } else { (10 + i) * k };
+    let unit = Unit {
+        capacity,
+        short_term_maximum: capacity,
+        msg: 5 * k,
+        hot_boundary: 1,
+        warm_boundary: 10,
+        columns: [column; 3],
+        up_rates: [rate; 5],
+        up_breaks: [6 * k, 7 * k, 8 * k, 9 * k],
+        dwell_triggers: [dwell(0), dwell(1), dwell(2)],
+        dwell_minutes: [minutes; 3],
+        down_rates: [rate; 5],
+        down_breaks: [capacity - 4 * k, capacity - 3 * k, capacity - 2 * k, capacity - k],
+        deload_rates: [rate; 2],
+        deload_break: k,
+    };
+    let level = r.pick(&[0, 0, capacity * 60]);
+    let opening = Opening { level, target: r.pick(&[0, capacity, capacity]), heat: r.between(1, 3), seconds_off: 0 };
+    let mut instructions = Vec::new();
+    for _ in 0..r.pick(&[0, 0, 1, 2, 4]) {
+        let code = r.pick(&[Code::Mwof, Code::Mwof, Code::Sync, Code::Desy]);
+        let (effective, level) = (r.below(86_400), r.pick(&[0, capacity, capacity / 2]));
+        instructions.push(instruction(r, code, effective, level, rate));
+    }
+    Plan { unit, opening, instructions }
+}
+
 /// A day whose records are all taken.
 pub fn plan(r: &mut Random) -> Plan {
     let count = r.pick(&[0, 1, 2, 3, 5, 8, 8, 12, 20, 39, 40]) as usize;
+    if r.one_in(20) {
+        return lagging_plan(r);
+    }
     if r.one_in(4) {
         let sharp = r.one_in(2);
         return plain_plan(r, count, sharp);
@@ -401,7 +465,7 @@ fn unit_ranges() -> Vec<(u64, u64)> {
 }
 
 /// Offset in the record, least and most value of each number that has a range.
-fn ranges(kind: u8) -> Vec<(usize, i64, i64)> {
+pub fn ranges(kind: u8) -> Vec<(usize, i64, i64)> {
     match kind {
         UNIT => unit_ranges().into_iter().enumerate().map(|(i, (a, b))| (1 + 4 * i, a as i64, b as i64)).collect(),
         OPENING => vec![(1, 0, 120_000_000), (5, 0, 2_000_000), (9, 1, 3), (13, 0, 10_000_000)],
@@ -413,7 +477,7 @@ fn ranges(kind: u8) -> Vec<(usize, i64, i64)> {
 }
 
 /// Writes a number of a record; one that damage has cut short is left as it is.
-fn set(record: &mut [u8], offset: usize, value: i64) {
+pub fn set(record: &mut [u8], offset: usize, value: i64) {
     if let Some(four) = record.get_mut(offset..offset + 4) {
         four.copy_from_slice(&(value as u32).to_be_bytes());
     }

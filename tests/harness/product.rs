@@ -6,9 +6,11 @@
 use std::io::{Read, Write};
 use std::path::{Path, PathBuf};
 use std::process::{Command, Stdio};
+use std::sync::mpsc;
 #[cfg(linked)]
 use std::sync::Mutex;
 use std::sync::OnceLock;
+use std::time::Duration;
 
 #[cfg(linked)]
 extern "C" {
@@ -17,6 +19,7 @@ extern "C" {
     fn gristpebble_listing(records: *const u8, length: usize, out: *mut u8, room: usize) -> usize;
 }
 
+#[allow(dead_code)]
 pub const LINKED: bool = cfg!(linked);
 
 #[allow(dead_code)]
@@ -51,7 +54,10 @@ pub fn product_listing(records: &[u8]) -> Vec<u8> {
     run_program(PROFILER.get().expect("the listing program is given"), records)
 }
 
-/// Runs a program on these bytes of standard input: what it printed, and a note if a signal ended it.
+/// A program that takes longer than this is ended.
+const PATIENCE: Duration = Duration::from_secs(60);
+
+/// Runs a program on these bytes of standard input: what it printed, and a note if it did not end by itself.
 #[allow(dead_code)]
 pub fn run_program(program: &Path, input: &[u8]) -> Vec<u8> {
     let mut child = Command::new(program)
@@ -60,7 +66,9 @@ pub fn run_program(program: &Path, input: &[u8]) -> Vec<u8> {
         .spawn()
         .unwrap_or_else(|error| panic!("{}: {error}", program.display()));
     let mut stdin = child.stdin.take().unwrap();
+    let mut stdout = child.stdout.take().unwrap();
     let mut out = Vec::new();
+    let (done, waiting) = mpsc::channel();
     // The program may stop reading at close; that is no error. What fits in a pipe is written before anything is read.
     let (front, rest) = input.split_at(input.len().min(16_384));
     let _ = stdin.write_all(front);
@@ -72,7 +80,14 @@ pub fn run_program(program: &Path, input: &[u8]) -> Vec<u8> {
                 let _ = stdin.write_all(rest);
             });
         }
-        child.stdout.take().unwrap().read_to_end(&mut out).unwrap();
+        let child = &mut child;
+        scope.spawn(move || {
+            if waiting.recv_timeout(PATIENCE).is_err() {
+                let _ = child.kill();
+            }
+        });
+        stdout.read_to_end(&mut out).unwrap();
+        done.send(()).unwrap_or(());
     });
     if child.wait().unwrap().code().is_none() {
         out.extend_from_slice(b"(ended by a signal)\n");

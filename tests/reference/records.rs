@@ -31,9 +31,9 @@ pub struct Unit {
 
 #[derive(Clone, Copy, Debug, Default)]
 pub struct Opening {
-    pub level: u64, // grains
+    pub level: u64,  // grains
     pub target: u64, // kW
-    pub heat: u64,  // 1 hot, 2 warm, 3 cold
+    pub heat: u64,   // 1 hot, 2 warm, 3 cold
     pub seconds_off: u64,
 }
 

@@ -34,15 +34,7 @@ pub struct Course {
 
 impl Course {
     /// A course from `level`; the step from 0 is made here.
-    pub fn new(
-        unit: &Unit,
-        begin: u64,
-        level: u64,
-        target: u64,
-        heat: u64,
-        up_rates: [u64; 5],
-        down_rates: [u64; 5],
-    ) -> Course {
+    pub fn new(unit: &Unit, begin: u64, level: u64, target: u64, heat: u64, up_rates: [u64; 5], down_rates: [u64; 5]) -> Course {
         let block_load = unit.columns[heat as usize - 1].block_load;
         let start = if level == 0 && target > 0 { block_load.min(target) * GRAINS } else { level };
         let stops = stops(unit, start, target * GRAINS, heat);
@@ -135,13 +127,7 @@ fn stops(unit: &Unit, start: u64, target: u64, heat: u64) -> Vec<Stop> {
     }
     levels.extend(triggers.iter().filter(|t| t.1 > 0).map(|t| (t.0 * GRAINS, t.1)));
 
-    levels.retain(|&(level, _)| {
-        if rising {
-            start < level && level <= target
-        } else {
-            target <= level && level < start
-        }
-    });
+    levels.retain(|&(level, _)| if rising { start < level && level <= target } else { target <= level && level < start });
     levels.sort();
     if !rising {
         levels.reverse();

@@ -49,11 +49,8 @@ fn used_of_group(all: &[Instruction], group: &[usize], fates: &mut [Option<u8>])
     };
     let ranked = [Code::Trip, Code::Mwof, Code::Mxon, Code::Sync, Code::Mxof, Code::Desy, Code::Fail];
     let highest = ranked.iter().find_map(|&c| of_code(c)).unwrap();
-    let carrier = if all[highest].code == Code::Mwof {
-        of_code(Code::Sync).or(of_code(Code::Desy)).unwrap_or(highest)
-    } else {
-        highest
-    };
+    let carrier =
+        if all[highest].code == Code::Mwof { of_code(Code::Sync).or(of_code(Code::Desy)).unwrap_or(highest) } else { highest };
     for &i in &left {
         if i != carrier {
             fates[i] = Some(2);
@@ -99,8 +96,8 @@ pub fn validate(all: &[Instruction]) -> (Vec<Kept>, Vec<Option<u8>>) {
             }
             continue;
         }
-        let repeats = matches!(next.code, Code::Sync | Code::Desy | Code::Trip)
-            && kept.last().is_some_and(|last| last.code == next.code);
+        let repeats =
+            matches!(next.code, Code::Sync | Code::Desy | Code::Trip) && kept.last().is_some_and(|last| last.code == next.code);
         if repeats {
             fates[next.index] = Some(3);
         } else {
