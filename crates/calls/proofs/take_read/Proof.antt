@@ -1,0 +1,40 @@
+use mathlib.Core.Path.{sym}
+use native.Mathlib.Omega.{arith}
+use lib.Seq.{length-take-le}
+use borrow.Author.Needs.{needs}
+use Rattle.calls.proofs.take_read.Statement.{statement}
+use Rattle.calls.proofs.take_read.Tie as tie
+use Rattle.calls.proofs.take_read.Reads as reads
+use Rattle.calls.proofs.take_read.Lts as lts
+use Rattle.calls.proofs.malformed.Reads as malformed-reads
+use Rattle.calls.proofs.put_answer.Reads as put-answer-reads
+use Rattle.taking.proofs.step.Reads as step-reads
+
+malformed-requires : tie.Need-malformed-requires
+malformed-requires c κs = search needs
+
+returns : tie.Need-returns
+returns c = search needs
+
+slice-aggregate-step : tie.Need-slice-aggregate-step
+slice-aggregate-step c = sym (length-take-le _ _ (omega arith))
+
+step-requires : tie.Need-step-requires
+step-requires c κs = search needs
+
+put-answer-requires : tie.Need-put-answer-requires
+put-answer-requires c κs = search needs
+
+returns-2 : tie.Need-returns-2
+returns-2 c = search needs
+
+pub take-read-spec : {M : Type 1} → statement M
+take-read-spec =
+    tie.close
+    (tie.spec
+    malformed-requires
+    returns
+    slice-aggregate-step
+    step-requires
+    put-answer-requires
+    returns-2)
