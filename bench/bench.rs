@@ -44,7 +44,7 @@ fn second_by_second(input: &[u8], out: &mut [u8]) -> usize {
 
 #[cfg(linked)]
 fn time_product(inputs: &[Vec<u8>], out: &mut [u8]) -> Option<f64> {
-    Some(time(inputs, MANY, 4, |input| product::product_listing_into(input, out)))
+    Some(time(inputs, MANY, 4, |input| product::product_listing_into(input, out).unwrap_or(0)))
 }
 
 #[cfg(not(linked))]

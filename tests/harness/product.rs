@@ -14,9 +14,9 @@ use std::time::Duration;
 
 #[cfg(linked)]
 extern "C" {
-    /// Takes the records one after the other from an empty day up to close, and writes what the listing program prints to
-    /// the front of `out`; returns the number of bytes written.
-    fn gristpebble_listing(records: *const u8, length: usize, out: *mut u8, room: usize) -> usize;
+    /// Takes the records one after the other from an empty day up to close, and writes the listing to the front of `out`.
+    /// Returns the number of bytes written or, at a refusal, its number times 2^32; then `out` is as it was.
+    fn gristpebble_listing(records: *const u8, length: usize, out: *mut u8, room: usize) -> u64;
 }
 
 #[allow(dead_code)]
@@ -28,11 +28,16 @@ pub static PROFILER: OnceLock<PathBuf> = OnceLock::new();
 #[cfg(linked)]
 static ONE_AT_A_TIME: Mutex<()> = Mutex::new(());
 
-/// Into a lent buffer, in this process; the number of bytes written.
+/// Into a lent buffer, in this process: the number of bytes written, or the refusal's number.
 #[cfg(linked)]
 #[allow(dead_code)]
-pub fn product_listing_into(records: &[u8], out: &mut [u8]) -> usize {
-    unsafe { gristpebble_listing(records.as_ptr(), records.len(), out.as_mut_ptr(), out.len()) }
+pub fn product_listing_into(records: &[u8], out: &mut [u8]) -> Result<usize, u64> {
+    let result = unsafe { gristpebble_listing(records.as_ptr(), records.len(), out.as_mut_ptr(), out.len()) };
+    if result >> 32 == 0 {
+        Ok(result as usize)
+    } else {
+        Err(result >> 32)
+    }
 }
 
 /// What the product prints for these records.
@@ -41,10 +46,16 @@ pub fn product_listing_into(records: &[u8], out: &mut [u8]) -> usize {
 pub fn product_listing(records: &[u8]) -> Vec<u8> {
     let mut out = vec![0xFF; 46_080];
     let turn = ONE_AT_A_TIME.lock().unwrap();
-    let count = product_listing_into(records, &mut out);
+    let result = product_listing_into(records, &mut out);
     drop(turn);
-    out.truncate(count);
-    out
+    match result {
+        Ok(count) => {
+            out.truncate(count);
+            out
+        }
+        Err(number) if out.iter().all(|&byte| byte == 0xFF) => format!("X {number}\n").into_bytes(),
+        Err(_) => b"(a refusal wrote to the lent slice)\n".to_vec(),
+    }
 }
 
 /// What the product prints for these records.
