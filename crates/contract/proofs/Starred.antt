@@ -29,7 +29,7 @@ use Rattle.listing.specs.Reader.{parted, linesOf, wordsOf, isByte, allDigits, i
 use Rattle.contract.specs.Calls.{letIn, wrote}
 use Rattle.contract.specs.Cases.{word, words, plainColumn, unitRecord, openingRecord, instructionRecord, usual, tripAt, failAt, figures, sent, closedBy, fatesBy, firstQuantity, piecesBy, answerAfter, starred}
 use Rattle.contract.specs.LetIn.{ofKind, bodyOfKind, unitIn, openingIn, instructionsIn, foundFrom, spansFrom}
-use Rattle.contract.specs.Program.{runBy, programBy}
+use Rattle.contract.specs.Program.{runBy, ranBy, printedRun, programBy}
 
 -- document 01's listing, byte by byte; quantities; fates; pieces (from, to, level, level); answers; fates
 abbrev pub expected : List (List ℕ)
@@ -49,7 +49,7 @@ expected =
     ∷ []
 
 starred-by-segments : starred (foundIn twin) ≡ expected
-unfolding grains fromKw those some listFrom sum filled seconds recorded ticks exact rateProduct wholeWay area between recordedTick meaningOf inRange aLevel aMaximum aRate aHold aBoundary columnRanges rampRanges unitRanges fitFrom fallsBelow falls disagrees unitAnswer openingFits openingAnswer figuresFit instructionAnswer sizeOf numbers triggerOf columnOf unitOf openingOf issueOf instructionOf trajectoryOf heading toward gap distance inUse passed rateAt breaksInUse counting triggers nearest holding candidates nextStop holdAt arrived second after rateInForce stopsFrom segmentsOf momentAt levelAt rateOn stops segments plus ticksOf exactAt cut cuts exactTwice ratesOf inGrains placeOf columnFor replaced listsOf piece piecesOf piecesIn twiceArea numbered superseded group goesBefore highest present carrying merged usedOf nextTime usedFrom used repeats syncWithinHour fromSync beforeSync failed checkOne check acting overtaken lateFate actors lateMarks turned keptOf validated fateAmong fatesOf hasTime allowed allowance exactIn exactOf exactArea idle heatBy mwofTarget syncTarget setting stepped courseFrom underWay opened begun goesOn replaces stateAt follow beginOf spansOf inForce levelStarting levelEnding rateStarting recordedTwice recordedTo recordedIn rounded piecesTo twinTo twinIn dayPieces closingOf foundBy found held watchNext watch byRule arrival stateOn bySegments empty entered withUnit withOpening withInstruction closedWith fatesIn coursesIn quantityAt quantitiesIn foundIn kindOf bodyOf noBytes unknownKind tooFew secondOne beforeUnit tooMany notReady fieldAnswer tooHigh quantityTooHigh answerBy dayWith stepBy restOf digits decimal field fields line fLine sLine qLine eLine xLine fLines sLines runLines qLines listing printedDay listAnswer listOf lentAfter parted linesOf wordsOf isByte allDigits isDecimal valueFrom value enclosing inLines printedAt printedKw Rattle.contract.specs.Calls.after letIn wrote word words plainColumn unitRecord openingRecord instructionRecord usual tripAt failAt figures sent closedBy fatesBy firstQuantity piecesBy answerAfter starred ofKind bodyOfKind unitIn openingIn instructionsIn foundFrom spansFrom runBy programBy
+unfolding grains fromKw those some listFrom sum filled seconds recorded ticks exact rateProduct wholeWay area between recordedTick meaningOf inRange aLevel aMaximum aRate aHold aBoundary columnRanges rampRanges unitRanges fitFrom fallsBelow falls disagrees unitAnswer openingFits openingAnswer figuresFit instructionAnswer sizeOf numbers triggerOf columnOf unitOf openingOf issueOf instructionOf trajectoryOf heading toward gap distance inUse passed rateAt breaksInUse counting triggers nearest holding candidates nextStop holdAt arrived second after rateInForce stopsFrom segmentsOf momentAt levelAt rateOn stops segments plus ticksOf exactAt cut cuts exactTwice ratesOf inGrains placeOf columnFor replaced listsOf piece piecesOf piecesIn twiceArea numbered superseded group goesBefore highest present carrying merged usedOf nextTime usedFrom used repeats syncWithinHour fromSync beforeSync failed checkOne check acting overtaken lateFate actors lateMarks turned keptOf validated fateAmong fatesOf hasTime allowed allowance exactIn exactOf exactArea idle heatBy mwofTarget syncTarget setting stepped courseFrom underWay opened begun goesOn replaces stateAt follow beginOf spansOf inForce levelStarting levelEnding rateStarting recordedTwice recordedTo recordedIn rounded piecesTo twinTo twinIn dayPieces closingOf foundBy found held watchNext watch byRule arrival stateOn bySegments empty entered withUnit withOpening withInstruction closedWith fatesIn coursesIn quantityAt quantitiesIn foundIn kindOf bodyOf noBytes unknownKind tooFew secondOne beforeUnit tooMany notReady fieldAnswer tooHigh quantityTooHigh answerBy dayWith stepBy restOf digits decimal field fields line fLine sLine qLine eLine xLine fLines sLines runLines qLines listing printedDay listAnswer listOf lentAfter parted linesOf wordsOf isByte allDigits isDecimal valueFrom value enclosing inLines printedAt printedKw Rattle.contract.specs.Calls.after letIn wrote word words plainColumn unitRecord openingRecord instructionRecord usual tripAt failAt figures sent closedBy fatesBy firstQuantity piecesBy answerAfter starred ofKind bodyOfKind unitIn openingIn instructionsIn foundFrom spansFrom runBy ranBy printedRun programBy
 starred-by-segments = refl
 
 -- by the paper's own definitions

@@ -24,3 +24,9 @@ pub struct Stepped {
     pub day: Day,
     pub used: usize,
 }
+
+// What taking records one after another comes to: the answer to the last one, and the day.
+pub struct Ran {
+    pub answer: records::Answer,
+    pub day: Day,
+}

@@ -17,7 +17,7 @@ use Rattle.records.specs.Codes.{codeNumber}
 use Rattle.validation.specs.declared.Numbered.{Numbered}
 use Rattle.validation.specs.Kept.{effectiveOf, effectOf, levelOf, goesBefore, highest, superseded, orElse, present, carrying, merged, usedOf, nextTime}
 use Rattle.keeping.specs.Outcome.{noNumbered}
-use Rattle.keeping.specs.Working.{holding, pushed, foundList, joined, Begun, earliest, inGroup, earlierOf, supersedesOf}
+use Rattle.keeping.specs.Working.{holding, pushed, foundList, joined, earliest, inGroup, earlierOf, supersedesOf}
 use Rattle.keeping.specs.declared.Sequence.{Sequence}
 use Rattle.keeping.specs.declared.Found.{Found}
 use Rattle.keeping.specs.declared.Found.the-variants.{One, Nothing}
@@ -67,6 +67,12 @@ module _ {A : Type 0} (x : A) where
       ∙ (sym e ∙ ap (take (suc m)) (sym (append-assoc xs (o ∷ []) (replicate (suc m) x)))))
 
 -- ---- sequences
+-- a sequence that holds the beginning of a whole; the rest of it is still to come
+pub record Begun (s : Sequence) (rest whole : List Numbered) : Type 0 where
+  pub xs : List Numbered
+  pub holds : s ≡ holding xs
+  pub parts : xs ++ rest ≡ whole
+
 pub push-holding : (xs : List Numbered) (o : Numbered) → length xs < 40 → pushed (holding xs) o ≡ holding (xs ++ (o ∷ []))
 unfolding pushed
 push-holding xs o h =

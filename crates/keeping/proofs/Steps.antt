@@ -6,7 +6,7 @@ use mathlib.Core.Bool.{Bool, true, false}
 use Prim.Native.Nat.{ℕ, zero, suc, _+_, _-_, _≤_, _<_}
 use native.Mathlib.Numerals.{add-one}
 use native.Mathlib.Omega.{arith}
-use lib.Dec.{eqb}
+use lib.Dec.{leb, eqb}
 use lib.ListN.{length, take, drop, getD, set, replicate, length-append, List·getD-eq-default}
 use lib.Seq.{take-suc, set-out, length-take-le, getD-take}
 use borrow.Author.Tests.{lt-ltb, le-ltb, le-leb, lt-leb, eq-eqb, ne-eqb}
@@ -18,7 +18,7 @@ use Rattle.validation.specs.declared.Numbered.{Numbered}
 use Rattle.validation.specs.Kept.{effectiveOf, effectOf, numbered, Mark, mark, superseded, group, usedOf, nextTime, usedFrom, used, repeats, syncWithinHour, fromSync, beforeSync, Checked, failed, checkOne, check, acting, overtaken, lateFate, actors, lateMarks}
 use Rattle.keeping.specs.declared.Checking.{Checking}
 use Rattle.keeping.specs.Outcome.{noNumbered}
-use Rattle.keeping.specs.Working.{stackOf, between, syncPlace, withinHour, setFate, marked, withFate, voided, keeping, noChecking, noneChecked, Tracks, Follows, overtakenBy, settleFate, settled, fatesTo}
+use Rattle.keeping.specs.Working.{stackOf, between, syncPlace, withinHour, setFate, marked, withFate, voided, keeping, noChecking, noneChecked, Tracks, Follows, settleFate, settled, fatesTo}
 use Rattle.keeping.proofs.Laws.{left-cons, filled-push}
 use Rattle.keeping.proofs.Stack.{stack-push, hour-none, hour-some, before-sync, from-sync}
 
@@ -184,6 +184,10 @@ pub check-more : (m : Checked) (os : List Numbered) (i : ℕ) → i < length os 
 check-more m os i h = rw (add-one, take-suc os i noNumbered) (check-last m (take i os) (getD os i noNumbered))
 
 -- ---- step 4
+-- one of these acts at the time own or before
+unfoldable pub overtakenBy : ℕ → List Numbered → Bool
+overtakenBy own later = some (λ (l : Numbered). leb (acting l) own) later
+
 pub overtaken-none : {os : List Numbered} (own : ℕ) → os ≡ [] → overtakenBy own os ≡ false
 unfolding overtakenBy some
 overtaken-none own e = rw e

@@ -170,7 +170,7 @@ late-none-two end (o ∷ os) = (go (overtaken o os) (leb end (acting o)), late-n
     go false false = omega arith
 
 -- ---- the fates by number
-number-at : (k : ℕ) (is : List Instruction) (i : ℕ) → i < length is → getD (numbered k is) i noNumbered .number ≡ k + i
+pub number-at : (k : ℕ) (is : List Instruction) (i : ℕ) → i < length is → getD (numbered k is) i noNumbered .number ≡ k + i
 unfolding numbered
 number-at k [] i h = absurd (omega arith)
 number-at k (x ∷ is) zero h = omega arith

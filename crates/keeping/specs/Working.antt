@@ -6,19 +6,19 @@ use mathlib.Core.List.{List, [], _∷_, _++_, map}
 use mathlib.Core.Bool.{Bool, _&&_, not}
 use lib.Dec.{leb, ltb, eqb}
 use lib.ListN.{length, set, getD, replicate}
-use Rattle.level.specs.Lists.{filled, those, some}
+use Rattle.level.specs.Lists.{filled, those}
 use Rattle.level.specs.Choice.{pick}
 use Rattle.records.specs.declared.Effect.the-variants.{Sync}
 use Rattle.records.specs.Codes.{codeNumber, same}
 use Rattle.validation.specs.declared.Numbered.{Numbered}
-use Rattle.validation.specs.Kept.{effectiveOf, effectOf, superseded, firstOne, Mark, mark, Checked, acting}
+use Rattle.validation.specs.Kept.{effectiveOf, effectOf, superseded, firstOne, Mark, mark, Checked}
 use Rattle.keeping.specs.Outcome.{noNumbered}
 use Rattle.keeping.specs.declared.Checking.{Checking}
 use Rattle.keeping.specs.declared.Sequence.{Sequence}
 use Rattle.keeping.specs.declared.Found.{Found}
 use Rattle.keeping.specs.declared.Found.the-variants.{One, Nothing}
 
--- a sequence that holds these; its list; with one more
+-- the sequence that holds these; a sequence with one more
 abbrev pub holding : List Numbered → Sequence
 holding xs = record { items = filled 40 noNumbered xs; count = length xs }
 
@@ -33,12 +33,6 @@ foundList Nothing = []
 unfoldable pub joined : Sequence → Found → Sequence
 joined s (One o) = pushed s o
 joined s Nothing = s
-
--- a sequence that holds the beginning of a whole; the rest of it is still to come
-pub record Begun (s : Sequence) (rest whole : List Numbered) : Type 0 where
-  pub xs : List Numbered
-  pub holds : s ≡ holding xs
-  pub parts : xs ++ rest ≡ whole
 
 -- the earliest entered of the code with this number, where it is present
 unfoldable pub earliest : ℕ → List Numbered → List Numbered
@@ -109,10 +103,6 @@ abbrev pub Follows : Checking → Checking → (Checked → Checked) → Type 0
 Follows s r f = (m : Checked) → Tracks s m → Tracks r (f m)
 
 -- ---- step 4 and the fates
-
--- one of these acts at the time own or before
-unfoldable pub overtakenBy : ℕ → List Numbered → Bool
-overtakenBy own later = some (λ (l : Numbered). leb (acting l) own) later
 
 -- a fate where none is settled; the marks in turn
 unfoldable pub settleFate : List ℕ → ℕ → ℕ → List ℕ

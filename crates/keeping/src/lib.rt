@@ -1,17 +1,15 @@
 // Which instructions are kept, steps 1 to 4: over up to forty instructions with their numbers.
 ghost use mathlib.Core.Path.{_≡_};
-ghost use Prim.Native.Nat.{ℕ, _+_, _-_, _<_, _≤_, min};
-ghost use mathlib.Core.List.{[], _∷_, map};
-ghost use mathlib.Core.Bool.{Bool};
-ghost use lib.Dec.{eqb};
-ghost use lib.ListN.{length, take, drop, getD};
+ghost use Prim.Native.Nat.{_+_, _-_, _<_, _≤_, min};
+ghost use mathlib.Core.List.{[], _∷_};
+ghost use lib.ListN.{take, drop, getD};
 ghost use Rattle.level.specs.Lists.{filled};
 ghost use Rattle.level.specs.Choice.{pick};
 ghost use Rattle.records.specs.declared.Effect.the-variants.{Sync, Desy};
 ghost use Rattle.records.specs.Codes.{codeNumber};
-ghost use Rattle.validation.specs.Kept.{effectOf, superseded, group, goesBefore, highest, orElse, present, carrying, merged, usedOf, nextTime, numbered, used, repeats, Checked, mark, failed, checkOne, check, acting, overtaken, lateFate, actors, lateMarks};
+ghost use Rattle.validation.specs.Kept.{effectOf, superseded, group, goesBefore, highest, orElse, present, carrying, merged, usedOf, nextTime, numbered, used, repeats, Checked, failed, checkOne, check, acting, overtaken, lateFate, actors, lateMarks};
 ghost use Rattle.keeping.specs.Outcome.{noNumbered, validationOf};
-ghost use Rattle.keeping.specs.Working.{holding, pushed, foundList, joined, earliest, inGroup, earlierOf, supersedesOf, stackOf, syncPlace, between, setFate, marked, settleFate, settled, voided, settling, withFate, withinHour, keeping, noChecking, noneChecked, Tracks, Follows, fatesTo};
+ghost use Rattle.keeping.specs.Working.{holding, pushed, foundList, joined, earliest, inGroup, earlierOf, supersedesOf, stackOf, syncPlace, setFate, settleFate, settled, voided, settling, withFate, withinHour, keeping, noChecking, noneChecked, Tracks, Follows, fatesTo};
 
 // What steps 1 to 4 come to: the fates by number, those that act in time order, and how many these are.
 pub struct Validation {
@@ -21,19 +19,19 @@ pub struct Validation {
 }
 
 // Some of the instructions, in order: the first `count` places.
-pub struct Sequence {
+struct Sequence {
     pub items: [validation::Numbered; 40],
     pub count: usize,
 }
 
 // One of them, or none.
-pub enum Found {
+enum Found {
     One(validation::Numbered),
     Nothing,
 }
 
 // Step 3 under way: the kept ones, the latest on top, the first `height` places; and the fates by number, 2 where none is settled.
-pub struct Checking {
+struct Checking {
     pub kept: [validation::Numbered; 40],
     pub height: usize,
     pub fates: [u8; 40],
@@ -160,7 +158,7 @@ fn supersedes(x: validation::Numbered, o: validation::Numbered) -> bool
     false
 }
 
-// Step 1: o is superseded by one of the first n of os.
+// o is superseded by one of the first n of os.
 fn is_superseded(os: [validation::Numbered; 40], n: usize, o: validation::Numbered) -> bool
     requires { ⌜ n ≤ 40 ⌝ }
     ensures { λ r. ⌜ r ≡ superseded (take n os) o ⌝ }
@@ -206,7 +204,7 @@ fn group_at(os: [validation::Numbered; 40], n: usize, t: u32) -> Sequence
 
 // ---- step 2: the one that is used of those left at one effective time
 
-// Step 2: x, entered after o, goes before it.
+// x, entered after o, goes before it.
 fn goes_before(x: validation::Numbered, o: validation::Numbered) -> bool
     ensures { λ r. ⌜ r ≡ goesBefore x o ⌝ }
 {
@@ -300,7 +298,7 @@ fn carrier_of(g: [validation::Numbered; 40], n: usize) -> Found
     }
 }
 
-// The highest ranked of the group; a MWOF goes into the carrier, where there is one.
+// The highest ranked of the group; an MWOF goes into the carrier, where there is one.
 fn merge(
     g: [validation::Numbered; 40],
     n: usize,
@@ -521,16 +519,17 @@ fn fail_one(s: Checking, o: validation::Numbered) -> Checking
     if place == 0 {
         return with_fate(s, o, 5);
     }
-    let sync = kept[place - 1];
+    let below = place - 1;
+    let sync = kept[below];
     if !within_hour(sync, o) {
         return with_fate(s, o, 5);
     }
-    let voided = void_from(s, place - 1);
+    let voided = void_from(s, below);
     let next = with_fate(voided, o, 5);
     let fates = next.fates;
     Checking {
         kept,
-        height: place - 1,
+        height: below,
         fates,
     }
 }

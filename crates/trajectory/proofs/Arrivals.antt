@@ -1,9 +1,9 @@
 -- The last stop, segment by segment.
 -- Assumes nothing.
-use Prim.Native.Nat.{ℕ, _+_, _*_, _-_, _/_, _≤_, _<_}
+use Prim.Native.Nat.{ℕ, _+_, _*_, _/_, _≤_, _<_}
 use mathlib.Core.Path.{_≡_, refl, ap, sym, _∙_}
 use mathlib.Core.List.{List, [], _∷_}
-use mathlib.Core.Bool.{Bool, true, false, _||_}
+use mathlib.Core.Bool.{Bool, true, false}
 use native.Mathlib.Nat.{mul-le-mul-left, mul-le-mul-right}
 use native.Mathlib.Decide.{decLe, ℕ-discrete}
 use native.Mathlib.Omega.{arith}
@@ -17,7 +17,7 @@ use Rattle.segments.proofs.Segments.{seconds-low}
 use Rattle.records.specs.declared.UnitData.{UnitData}
 use Rattle.course.specs.declared.Course.{Course}
 use Rattle.course.specs.Lists.{Lists}
-use Rattle.course.specs.Course.{Heading, heading, trajectoryOf, stops, segments, rateAt, nextStop, holdAt}
+use Rattle.course.specs.Course.{Heading, trajectoryOf, stops, segments, rateAt, nextStop}
 use Rattle.course.proofs.Near.{Past, Short, short-past, gap-some}
 use Rattle.course.proofs.Ahead.{next-past}
 use Rattle.trajectory.specs.Ways.{headed, listsIn}

@@ -1,23 +1,18 @@
 -- Each straight piece is what the rule of one second does, and its levels lie on a straight line.
 -- Assumes nothing.
-use Prim.Native.Nat.{ℕ, zero, suc, _+_, _*_, _-_, _/_, min, max, _≤_, _<_}
+use Prim.Native.Nat.{ℕ, _+_, _*_, _-_, _/_, min, max, _≤_, _<_}
 use mathlib.Core.Path.{_≡_, refl, ap, sym, _∙_}
-use mathlib.Core.List.{List, [], _∷_}
-use mathlib.Core.Bool.{Bool, true, false}
 use native.Mathlib.Nat.{mul-le-mul-right}
 use native.Mathlib.Decide.{decLe, ℕ-discrete}
 use native.Mathlib.Omega.{arith}
-use lib.Dec.{eqb}
-use Rattle.level.specs.Choice.{pick}
 use Rattle.segments.specs.declared.Segment.{Segment}
-use Rattle.segments.specs.Segments.{area}
 use Rattle.course.specs.Lists.{Lists}
 use Rattle.course.specs.Course.{Heading, rising, falling, Moment, toward, gap, rateAt, nextStop, holdAt, after}
-use Rattle.course.specs.Pieces.{piece, twiceArea}
-use Rattle.course.proofs.Near.{Past, Short, short-past, past-short, past-on, short-refl, gap-some, gap-to, gap-left, toward-zero}
+use Rattle.course.specs.Pieces.{piece}
+use Rattle.course.proofs.Near.{Past, Short, short-past, past-short, past-on, gap-to, gap-left, toward-zero}
 use Rattle.course.proofs.Ahead.{next-past}
 use Rattle.course.proofs.Rule.{at, after-rest}
-use Rattle.course.proofs.Pieces.{Room, Traces, line, room-less, traces-area}
+use Rattle.course.proofs.Pieces.{Room, Traces, line, room-less}
 use Rattle.trajectory.specs.declared.Place.{Place}
 use Rattle.trajectory.specs.Walk.{momentOf, afterHold, afterRest, afterRun, afterShort, along, segmentTo, segmentFrom, onward, standing}
 use Rattle.trajectory.proofs.Onward.{full-way, full-some, along-stuck, along-short, along-run, onward-hold, onward-rest, onward-along}

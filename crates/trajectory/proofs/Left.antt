@@ -3,8 +3,8 @@
 use Prim.Native.Nat.{ℕ, zero, suc, _+_, _*_, _-_, _/_, min, _≤_, _<_}
 use mathlib.Core.Path.{_≡_, refl, ap, sym, _∙_}
 use mathlib.Core.List.{List, [], _∷_, _++_}
-use mathlib.Core.Bool.{Bool, true, false}
-use native.Mathlib.Nat.{mul-le-mul-right, div-add-mod', mod-lt, div-eq-of-lt, div-eq-of-lt-le, le-of-mul-le-mul-right}
+use mathlib.Core.Bool.{Bool}
+use native.Mathlib.Nat.{div-add-mod', mod-lt, div-eq-of-lt, div-eq-of-lt-le, le-of-mul-le-mul-right}
 use native.Mathlib.Decide.{decLe, ℕ-discrete}
 use native.Mathlib.Omega.{arith}
 use lib.Dec.{ltb, eqb}
@@ -13,17 +13,17 @@ use borrow.Author.Tests.{lt-ltb, le-ltb, eq-eqb, ne-eqb}
 use Rattle.level.specs.Choice.{pick}
 use Rattle.segments.specs.declared.Segment.{Segment}
 use Rattle.segments.specs.Segments.{seconds}
-use Rattle.segments.proofs.Segments.{seconds-low, seconds-high}
+use Rattle.segments.proofs.Segments.{seconds-low}
 use Rattle.level.specs.Level.{grains}
 use Rattle.records.specs.declared.UnitData.{UnitData}
 use Rattle.course.specs.declared.Course.{Course}
 use Rattle.course.specs.Lists.{Lists}
-use Rattle.course.specs.Course.{Heading, rising, falling, heading, trajectoryOf, stops, segments, toward, gap, rateAt, candidates, nextStop, holdAt, stopsFrom, segmentsOf}
+use Rattle.course.specs.Course.{Heading, heading, trajectoryOf, stops, segments, toward, gap, rateAt, candidates, nextStop, holdAt, stopsFrom, segmentsOf}
 use Rattle.course.specs.declared.Piece.{Piece}
 use Rattle.course.specs.Pieces.{piece, piecesOf, piecesIn}
-use Rattle.course.proofs.Near.{Past, Short, short-past, past-short, past-on, those-length, ahead, gap-some, gap-to, gap-left, toward-add, toward-zero}
+use Rattle.course.proofs.Near.{Past, Short, short-past, past-on, those-length, ahead, gap-some, gap-to, gap-left, toward-add, toward-zero}
 use Rattle.course.proofs.Ahead.{rate-same, next-same, next-past, next-fewer}
-use Rattle.course.proofs.Rule.{past-not, segments-more, segments-stuck, segments-none}
+use Rattle.course.proofs.Rule.{segments-more, segments-stuck, segments-none}
 use Rattle.trajectory.specs.declared.Place.{Place}
 use Rattle.trajectory.specs.Ways.{headed, listsIn}
 use Rattle.trajectory.specs.Walk.{beginning, pieceBetween, afterHold, afterRest, afterRun, afterShort, along, segmentTo, segmentFrom, onward, segmentsFrom, piecesLeft}

@@ -9,3 +9,5 @@ pub mod Courses
 pub mod Left
 pub mod Areas
 pub mod Arrivals
+pub mod Noted
+pub mod Pieced

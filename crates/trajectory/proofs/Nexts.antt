@@ -1,12 +1,12 @@
 -- The next stop, candidate by candidate.
 -- Assumes nothing.
-use Prim.Native.Nat.{ℕ, zero, suc, _+_, min, max, _≤_, _<_}
+use Prim.Native.Nat.{ℕ, suc, min, max, _≤_, _<_}
 use mathlib.Core.Path.{_≡_, refl, ap, sym, _∙_}
-use mathlib.Core.List.{List, [], _∷_, _++_, map, append-assoc}
+use mathlib.Core.List.{List, [], _∷_, _++_, map}
 use mathlib.Core.Bool.{Bool, true, false, _&&_}
 use native.Mathlib.Decide.{decLe}
 use native.Mathlib.Omega.{arith}
-use lib.Dec.{leb, ltb, eqb}
+use lib.Dec.{leb, ltb}
 use lib.ListN.{length, getD}
 use borrow.Author.Tests.{lt-ltb, le-ltb, le-leb, lt-leb, ltb-true, ltb-false, leb-true, leb-false}
 use Rattle.level.specs.Choice.{pick}
@@ -15,7 +15,7 @@ use Rattle.level.specs.Level.{grains}
 use Rattle.records.specs.declared.Trigger.{Trigger}
 use Rattle.records.specs.declared.UnitData.{UnitData}
 use Rattle.course.specs.declared.Course.{Course}
-use Rattle.course.specs.Lists.{Lists, inGrains, ratesOf, listsOf, columnFor}
+use Rattle.course.specs.Lists.{inGrains, ratesOf, listsOf, columnFor}
 use Rattle.course.specs.Course.{Heading, rising, falling, counting, triggers, breaksInUse, nearest, candidates, nextStop}
 use Rattle.course.proofs.Near.{up-take, up-skip, down-take, down-skip}
 use Rattle.trajectory.specs.Ways.{listsIn, ramping, lower, breaksIn, levelsIn}

@@ -1,21 +1,21 @@
 -- One straight piece after another: each is what the rule of one second does.
 -- Assumes nothing.
-use Prim.Native.Nat.{ℕ, zero, suc, _+_, _*_, _-_, _/_, min, _≤_, _<_}
-use mathlib.Core.Path.{_≡_, refl, ap, sym, _∙_}
+use Prim.Native.Nat.{ℕ, _+_, _*_, _-_, _/_, min, _≤_, _<_}
+use mathlib.Core.Path.{_≡_}
 use mathlib.Core.Bool.{Bool, true, false}
-use native.Mathlib.Decide.{decLe, ℕ-discrete}
+use native.Mathlib.Decide.{decLe}
 use native.Mathlib.Omega.{arith}
 use native.Mathlib.Nat.{mul-le-mul-right, div-add-mod', div-lt-iff-lt-mul}
 use borrow.Author.Tests.{lt-ltb, le-ltb, eq-eqb, ne-eqb}
 use Rattle.level.specs.Level.{grains}
 use Rattle.segments.specs.declared.Segment.{Segment}
 use Rattle.course.specs.Lists.{Lists}
-use Rattle.course.specs.Course.{Heading, rising, falling, Moment, toward, gap, rateAt, nextStop, holdAt, second, arrived, after}
+use Rattle.course.specs.Course.{Heading, rising, falling, toward, gap, nextStop, second}
 use Rattle.course.proofs.Near.{Past, gap-to}
 use Rattle.course.proofs.Ahead.{next-past}
 use Rattle.trajectory.specs.declared.Place.{Place}
 use Rattle.trajectory.specs.Ways.{headed}
-use Rattle.trajectory.specs.Walk.{Reaches, momentOf, afterHold, afterRest, afterRun, afterShort, along, segmentTo, segmentFrom, onward}
+use Rattle.trajectory.specs.Walk.{Reaches, afterHold, afterRest, afterRun, afterShort, along, segmentTo, segmentFrom, onward}
 
 pub room-up : (up : Bool) (v m : ℕ) → up ≡ true → Reaches (headed up) v m → v + m ≤ 18446744073709551615
 room-up true v m e r = r

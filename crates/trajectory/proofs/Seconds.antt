@@ -2,15 +2,14 @@
 -- Assumes nothing.
 use Prim.Native.Nat.{ℕ, zero, suc, _+_, _*_, _-_, min, _≤_, _<_}
 use mathlib.Core.Path.{_≡_, refl, ap, sym, _∙_}
-use mathlib.Core.Bool.{Bool, true, false}
-use native.Mathlib.Decide.{decLe, ℕ-discrete}
+use native.Mathlib.Decide.{ℕ-discrete}
 use native.Mathlib.Omega.{arith}
 use lib.Dec.{eqb}
-use borrow.Author.Tests.{lt-ltb, le-ltb, eq-eqb, ne-eqb}
+use borrow.Author.Tests.{lt-ltb, eq-eqb, ne-eqb}
 use Rattle.level.specs.Choice.{pick}
 use Rattle.course.specs.Lists.{Lists}
-use Rattle.course.specs.Course.{Heading, rising, falling, Moment, toward, gap, rateAt, nextStop, holdAt, second, arrived, after}
-use Rattle.course.proofs.Near.{Past, Short, past-short, past-on, gap-some, gap-to, gap-left, toward-add, toward-zero}
+use Rattle.course.specs.Course.{Heading, Moment, toward, gap, rateAt, nextStop, holdAt, second, arrived, after}
+use Rattle.course.proofs.Near.{Past, past-on, gap-some, gap-to, gap-left, toward-add, toward-zero}
 use Rattle.course.proofs.Ahead.{rate-same, next-same, next-past}
 use Rattle.course.proofs.Rule.{at, past-not}
 

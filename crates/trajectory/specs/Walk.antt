@@ -1,18 +1,18 @@
 -- Going along a course from one straight piece to the next.
 -- Assumes nothing.
 use Prim.Native.Nat.{ℕ, _+_, _*_, _-_, _/_, min, _≤_}
-use mathlib.Core.Bool.{Bool, true, false}
 use mathlib.Core.List.{List, _++_}
 use lib.Dec.{ltb, eqb}
 use lib.ListN.{length}
 use Rattle.level.specs.Choice.{pick}
 use Rattle.segments.specs.declared.Segment.{Segment}
 use Rattle.segments.specs.Segments.{area}
+use Rattle.records.specs.declared.UnitData.{UnitData}
 use Rattle.course.specs.declared.Course.{Course}
 use Rattle.course.specs.Lists.{Lists}
-use Rattle.course.specs.Course.{Heading, rising, falling, Moment, toward, gap, rateAt, candidates, nextStop, holdAt, after, stopsFrom, segmentsOf}
+use Rattle.course.specs.Course.{Heading, rising, falling, trajectoryOf, Moment, toward, gap, rateAt, candidates, nextStop, holdAt, after, stopsFrom, segmentsOf}
 use Rattle.course.specs.declared.Piece.{Piece}
-use Rattle.course.specs.Pieces.{piece, piecesOf}
+use Rattle.course.specs.Pieces.{piece, piecesOf, piecesIn, twiceArea}
 use Rattle.trajectory.specs.declared.Place.{Place}
 
 -- room to move v by m: up to the largest number of 64 bits, down to 0
@@ -90,3 +90,7 @@ module _ (h : Heading) (l : Lists) (t : ℕ) where
   -- twice the area from p to the second n: the sum over seconds of the levels at start and end
   unfoldable pub twiceTo : ℕ → Place → ℕ
   twiceTo n p = area (λ k. after h l t k (momentOf p) .level) 0 (n - p .second)
+
+-- twice the area of a course that lasts to the second `end` of the day, from its beginning to the half-hour boundary b
+unfoldable pub notedAt : UnitData → Course → ℕ → ℕ → ℕ
+notedAt u c end b = twiceArea (piecesIn (trajectoryOf u c) 0 (min end (1800 * b) - c .begin))

@@ -1,16 +1,19 @@
 // A course in code: its rate, next stop and hold at a level, and what follows from them at any second.
+// Others use `level_after`, `since_arrival`, `noted_sums` and `twice_in`; and, to go along a course piece by piece,
+// `is_rising`, `begin_at`, `walk_on` and `piece_between`, whose laws for a loop are in proofs/Pieced.antt.
 ghost use mathlib.Core.Path.{_≡_};
 ghost use Prim.Native.Nat.{ℕ, _+_, _*_, _-_, _/_, min, max, _<_, _≤_};
 ghost use mathlib.Core.List.{[], _∷_, _++_, map};
 ghost use lib.ListN.{length, getD};
 ghost use lib.Dec.{leb, ltb};
+ghost use Rattle.level.specs.Lists.{listFrom};
 ghost use Rattle.level.specs.Level.{grains};
 ghost use Rattle.segments.specs.Segments.{seconds, area};
 ghost use Rattle.course.specs.Lists.{placeOf, columnFor, replaced, inGrains, listsOf};
 ghost use Rattle.course.specs.Course.{rising, falling, gap, toward, passed, rateAt, nearest, nextStop, holding, holdAt, trajectoryOf, levelAt, segments};
 ghost use Rattle.trajectory.specs.Ways.{headed, listsIn, ramping, lower, breaksIn, levelsIn};
 ghost use Rattle.course.proofs.Near.{Short};
-ghost use Rattle.trajectory.specs.Walk.{Reaches, momentOf, segmentTo, segmentFrom, afterHold, afterRest, afterRun, afterShort, along, onward, standing, beginning, pieceBetween, twiceBetween, twiceTo, segmentsFrom};
+ghost use Rattle.trajectory.specs.Walk.{Reaches, momentOf, segmentTo, segmentFrom, afterHold, afterRest, afterRun, afterShort, along, onward, standing, beginning, pieceBetween, twiceBetween, twiceTo, segmentsFrom, notedAt};
 ghost use Rattle.trajectory.specs.Arrival.{arrivalOf, resting, pause};
 
 // So many kW in grains.
@@ -105,6 +108,7 @@ fn replaced_rate(rates: [u32; 5], r: u32, n: usize) -> u64
     r as u64
 }
 
+// The rate at the level v by a ramp list.
 fn rate_of_ramp(l: records::Ramp, r: u32, up: bool, v: u64) -> u64
     ensures { λ x. ⌜ x ≡ getD (replaced r (l .rates)) (passed (headed up) v (map grains (l .breaks))) 0 ⌝ }
 {
@@ -114,6 +118,7 @@ fn rate_of_ramp(l: records::Ramp, r: u32, up: bool, v: u64) -> u64
     replaced_rate(rs, r, n)
 }
 
+// By a start-up column, rising.
 fn rate_of_column(l: records::Column, v: u64) -> u64
     ensures { λ x. ⌜ x ≡ getD (l .rates) (passed rising v (map grains (l .breaks))) 0 ⌝ }
 {
@@ -122,6 +127,7 @@ fn rate_of_column(l: records::Column, v: u64) -> u64
     l.rates[n] as u64
 }
 
+// By deload, falling.
 fn rate_of_deload(l: records::Deload, v: u64) -> u64
     ensures { λ x. ⌜ x ≡ getD (l .rates) (passed falling v (map grains (l .breaks))) 0 ⌝ }
 {
@@ -130,6 +136,7 @@ fn rate_of_deload(l: records::Deload, v: u64) -> u64
     l.rates[n] as u64
 }
 
+// "Rising below MSG uses the column, otherwise ramp-up."
 fn rate_rising(u: records::UnitData, c: course::Course, v: u64) -> u64
     ensures { λ x. ⌜ x ≡ rateAt rising (listsIn u c) v ⌝ }
 {
@@ -142,6 +149,7 @@ fn rate_rising(u: records::UnitData, c: course::Course, v: u64) -> u64
     rate_of_column(l, v)
 }
 
+// "Falling above MSG uses ramp-down, otherwise deload."
 fn rate_falling(u: records::UnitData, c: course::Course, v: u64) -> u64
     ensures { λ x. ⌜ x ≡ rateAt falling (listsIn u c) v ⌝ }
 {
@@ -177,6 +185,7 @@ fn held_one(w: u64, g: records::Trigger) -> u64
     0
 }
 
+// Added where triggers coincide.
 fn held_three(w: u64, gs: [records::Trigger; 3]) -> u64
     ensures { λ r. ⌜ (r ≡ holding w (map inGrains gs)) × (r ≤ 773094113280) ⌝ }
 {
@@ -335,6 +344,7 @@ fn soak_stops(v: u64, msg: u64, gs: [records::Trigger; 2], n: u64) -> u64
     soak_stop(v, msg, gs[0], b)
 }
 
+// Every candidate in turn, the nearest so far going along; the target is the furthest.
 fn stop_rising(u: records::UnitData, c: course::Course, v: u64) -> u64
     ensures { λ r. ⌜ r ≡ nextStop rising (listsIn u c) (grains (c .target)) v ⌝ }
 {
@@ -519,6 +529,7 @@ fn run_seconds(p: Place, s: segments::Segment, n: u32) -> u32
     room
 }
 
+// The straight piece that a segment begins with.
 fn along_segment(up: bool, p: Place, s: segments::Segment, n: u32) -> Place
     requires { ⌜ p .second < n ⌝ }
     requires { ⌜ Reaches (headed up) (p .level) (s .way) ⌝ }
@@ -555,7 +566,9 @@ pub fn walk_on(u: records::UnitData, c: course::Course, up: bool, p: Place, n: u
 pub fn walk_to(u: records::UnitData, c: course::Course, up: bool, from: Place, n: u32) -> Place
     requires { ⌜ from .second ≤ n ⌝ }
     requires { ⌜ Short (headed up) (grains (c .target)) (from .level) ⌝ }
-    ensures { λ r. ⌜ (r ≡ standing (headed up) (listsIn u c) (grains (c .target)) n from) × Short (headed up) (grains (c .target)) (r .level) × (r .level ≤ max (from .level) (grains (c .target))) ⌝ }
+    ensures { λ r. ⌜ (r ≡ standing (headed up) (listsIn u c) (grains (c .target)) n from)
+        × Short (headed up) (grains (c .target)) (r .level)
+        × (r .level ≤ max (from .level) (grains (c .target))) ⌝ }
 {
     let mut p = from;
     while p.second < n {
@@ -631,7 +644,11 @@ pub fn sum_to(u: records::UnitData, c: course::Course, up: bool, from: Place, n:
     requires { ⌜ (from .second ≤ n) × (n ≤ 16777216) ⌝ }
     requires { ⌜ Short (headed up) (grains (c .target)) (from .level) ⌝ }
     requires { ⌜ from .level < 274877906944 ⌝ }
-    ensures { λ r. ⌜ (r .place ≡ standing (headed up) (listsIn u c) (grains (c .target)) n from) × (r .twice ≡ twiceTo (headed up) (listsIn u c) (grains (c .target)) n from) × (r .twice ≤ (n - from .second) * 549755813888) ⌝ }
+    ensures { λ r. ⌜ (r .place ≡ standing (headed up) (listsIn u c) (grains (c .target)) n from)
+        × (r .twice ≡ twiceTo (headed up) (listsIn u c) (grains (c .target)) n from)
+        × (r .twice ≤ (n - from .second) * 549755813888)
+        × Short (headed up) (grains (c .target)) (r .place .level)
+        × (r .place .level < 274877906944) ⌝ }
 {
     let mut p = from;
     let mut twice: u64 = 0;
@@ -660,6 +677,51 @@ pub fn twice_in(u: records::UnitData, c: course::Course, from: u32, to: u32) -> 
     s.twice
 }
 
+// The course's own second at the half-hour boundary b, or at its end if that comes first; 0 before it began.
+fn own_second(begin: u32, end: u32, b: usize) -> u32
+    requires { ⌜ b ≤ 48 ⌝ }
+    ensures { λ r. ⌜ r ≡ min end (1800 * b) - begin ⌝ }
+{
+    let boundary = (b as u32) * 1800;
+    if boundary < end {
+        return past(begin, boundary);
+    }
+    past(begin, end)
+}
+
+// The seconds from `begin` to x, 0 if x comes first.
+fn past(begin: u32, x: u32) -> u32
+    ensures { λ r. ⌜ r ≡ x - begin ⌝ }
+{
+    if x <= begin {
+        return 0;
+    }
+    x - begin
+}
+
+// Twice the recorded area of a course that lasts to the second `end` of the day, from its beginning to each half-hour
+// boundary, 0 to 48: a running sum, noted there.
+pub fn noted_sums(u: records::UnitData, c: course::Course, end: u32) -> [u64; 49]
+    requires { ⌜ end ≤ 16777216 ⌝ }
+    requires { ⌜ c .start .grains < 274877906944 ⌝ }
+    ensures { λ r. ⌜ r ≡ listFrom (notedAt u c end) 0 49 ⌝ }
+{
+    let up = is_rising(c);
+    let mut p = begin_at(c, 0);
+    let mut total: u64 = 0;
+    let mut out = [0u64; 49];
+    let mut b: usize = 0;
+    while b < 49 {
+        let n = own_second(c.begin, end, b);
+        let s = sum_to(u, c, up, p, n);
+        total += s.twice;
+        p = s.place;
+        out[b] = total;
+        b += 1;
+    }
+    out
+}
+
 // ---- the last stop
 
 // The whole seconds that a segment's way takes.
@@ -686,6 +748,7 @@ fn rests_at(u: records::UnitData, c: course::Course, up: bool, v: u64) -> bool
     rate == 0
 }
 
+// What counts of the hold at the level v.
 fn pause_at(u: records::UnitData, c: course::Course, up: bool, v: u64, hold: u64) -> u64
     ensures { λ r. ⌜ r ≡ pause (headed up) (listsIn u c) (grains (c .target)) v hold ⌝ }
 {

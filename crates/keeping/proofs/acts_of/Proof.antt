@@ -7,8 +7,8 @@ use lib.Dec.{eqb}
 use Rattle.level.specs.Choice.{pick}
 use Rattle.validation.specs.Kept.{lateFate, actors}
 use Rattle.keeping.specs.Outcome.{noNumbered}
-use Rattle.keeping.specs.Working.{pushed, Begun}
-use Rattle.keeping.proofs.Laws.{left-none, begun-none, begun-pick, begun-all, pick-count}
+use Rattle.keeping.specs.Working.{pushed}
+use Rattle.keeping.proofs.Laws.{Begun, left-none, begun-none, begun-pick, begun-all, pick-count}
 use Rattle.keeping.proofs.Steps.{actors-next, actors-none}
 use Rattle.keeping.proofs.acts_of.Statement.{statement}
 use Rattle.keeping.proofs.acts_of.Tie as tie

@@ -22,8 +22,8 @@ returns c =
     let e = c .with-fate .ensures in
     (omega (arith, ap (λ (q : Checking). q .height) e), rw e (failed-none (s .s) (s .o) (sym (c .before .before .latest-sync .ensures .0) ∙ c .before .if1 .taken)))
 
-sub-sync : tie.Need-sub-sync
-sub-sync c = search needs
+sub-below : tie.Need-sub-below
+sub-below c = search needs
 
 mul-sync : tie.Need-mul-sync
 mul-sync c = search needs
@@ -46,17 +46,11 @@ returns-2 c =
     let w = sym (c .before .before .within-hour .ensures) ∙ not-true _ (c .before .if2 .taken) in
     (omega (arith, ap (λ (q : Checking). q .height) e), rw e (failed-late (s .s) (s .o) (omega arith) (rw p at w)))
 
-sub-void-from : tie.Need-sub-void-from
-sub-void-from c = search needs
-
 void-from-requires : tie.Need-void-from-requires
 void-from-requires c κs = search needs
 
 with-fate-requires-3 : tie.Need-with-fate-requires-3
 with-fate-requires-3 c κs = search needs
-
-sub-t12 : tie.Need-sub-t12
-sub-t12 c = search needs
 
 returns-3 : tie.Need-returns-3
 returns-3 c =
@@ -72,14 +66,12 @@ fail-one-spec =
     latest-sync-requires
     with-fate-requires
     returns
-    sub-sync
+    sub-below
     mul-sync
     array-copy-out-sync
     within-hour-requires
     with-fate-requires-2
     returns-2
-    sub-void-from
     void-from-requires
     with-fate-requires-3
-    sub-t12
     returns-3)

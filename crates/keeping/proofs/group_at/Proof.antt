@@ -8,8 +8,8 @@ use Rattle.level.specs.Choice.{pick}
 use Rattle.validation.specs.Kept.{group}
 use Rattle.level.specs.Lists.{those}
 use Rattle.keeping.specs.Outcome.{noNumbered}
-use Rattle.keeping.specs.Working.{pushed, inGroup, Begun}
-use Rattle.keeping.proofs.Laws.{left-none, those-none, begun-none, begun-pick, begun-all, pick-count, group-next}
+use Rattle.keeping.specs.Working.{pushed, inGroup}
+use Rattle.keeping.proofs.Laws.{Begun, left-none, those-none, begun-none, begun-pick, begun-all, pick-count, group-next}
 use Rattle.keeping.proofs.group_at.Statement.{statement}
 use Rattle.keeping.proofs.group_at.Tie as tie
 

@@ -4,9 +4,8 @@ use Prim.Native.Nat.{ℕ, _≤_, _-_}
 use lib.ListN.{take, drop}
 use borrow.Author.Needs.{needs}
 use Rattle.validation.specs.Kept.{overtaken}
-use Rattle.keeping.specs.Working.{overtakenBy}
 use Rattle.keeping.proofs.Laws.{left-none}
-use Rattle.keeping.proofs.Steps.{overtaken-here, overtaken-next, overtaken-none}
+use Rattle.keeping.proofs.Steps.{overtakenBy, overtaken-here, overtaken-next, overtaken-none}
 use Rattle.keeping.proofs.is_overtaken.Statement.{statement}
 use Rattle.keeping.proofs.is_overtaken.Tie as tie
 

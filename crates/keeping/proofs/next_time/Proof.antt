@@ -42,7 +42,6 @@ loop-again c =
 
 returns : tie.Need-returns Inv-loop μ-loop
 returns c =
-    let s = c .before .before in
     let e : c .before .loop .i ≡ 0 = omega arith in
     rw e at (c .before .loop .inv .1)
 

@@ -6,8 +6,8 @@ use borrow.Author.Needs.{needs}
 use Rattle.keeping.specs.declared.Sequence.{Sequence}
 use Rattle.validation.specs.Kept.{numbered}
 use Rattle.keeping.specs.Outcome.{noNumbered}
-use Rattle.keeping.specs.Working.{pushed, Begun}
-use Rattle.keeping.proofs.Laws.{left-none, begun-none, begun-push, begun-all}
+use Rattle.keeping.specs.Working.{pushed}
+use Rattle.keeping.proofs.Laws.{Begun, left-none, begun-none, begun-push, begun-all}
 use Rattle.keeping.proofs.Steps.{number-next, number-none}
 use Rattle.keeping.proofs.number_all.Statement.{statement}
 use Rattle.keeping.proofs.number_all.Tie as tie

@@ -6,8 +6,8 @@ use borrow.Author.Needs.{needs}
 use mathlib.Core.List.{List, [], _++_}
 use Rattle.validation.specs.declared.Numbered.{Numbered}
 use Rattle.validation.specs.Kept.{used, usedFrom, usedOf, group, nextTime}
-use Rattle.keeping.specs.Working.{foundList, Begun}
-use Rattle.keeping.proofs.Laws.{begun-none, begun-found, begun-all, joined-count, held}
+use Rattle.keeping.specs.Working.{foundList}
+use Rattle.keeping.proofs.Laws.{Begun, begun-none, begun-found, begun-all, joined-count, held}
 use Rattle.keeping.proofs.Steps.{used-more, used-stop, used-begins, used-zero}
 use Rattle.keeping.proofs.used_in.Statement.{statement}
 use Rattle.keeping.proofs.used_in.Tie as tie

@@ -1,7 +1,8 @@
-use mathlib.Core.Path.{ap, _∙_}
+use mathlib.Core.Path.{_≡_, ap, _∙_}
+use lib.ListN.{getD}
 use borrow.Author.Needs.{needs}
-use Rattle.records.specs.Codes.{meaningIn}
-use Rattle.records.specs.Records.{issueOf, instructionOf}
+use Rattle.records.specs.Codes.{meaningOf, meaningIn}
+use Rattle.records.specs.Records.{numberAt, issueOf, instructionOf}
 use Rattle.records.proofs.instruction_of.Statement.{statement}
 use Rattle.records.proofs.instruction_of.Tie as tie
 use Rattle.records.proofs.instruction_of.Reads as reads
@@ -39,16 +40,14 @@ returns : tie.Need-returns
 unfolding instructionOf
 returns c =
     let code = c .before .before .before .before in
-    let issue = code .before .issue-of .ensures ∙ ap issueOf (code .before .before .number2 .ensures) in
-    let meaning = c .before .before .before .meaning-in .ensures ∙ ap meaningIn (code .code-of .ensures) in
-    λ i. record {
-      effective = (code .before .before .before .number .ensures) i;
-      issue = issue i;
-      meaning = meaning i;
-      level = (c .before .before .number3 .ensures) i;
-      up = (c .before .number4 .ensures) i;
-      down = (c .number5 .ensures) i;
-    }
+    let body = code .before .before .before .before .before .args .body .now in
+    let effective : code .before .before .before .number .result ≡ numberAt body 0 = code .before .before .before .number .ensures in
+    let issue : code .before .issue-of .result ≡ issueOf (numberAt body 4) = code .before .issue-of .ensures ∙ ap issueOf (code .before .before .number2 .ensures) in
+    let meaning : c .before .before .before .meaning-in .result ≡ meaningIn (meaningOf (getD body 8 0)) = c .before .before .before .meaning-in .ensures ∙ ap meaningIn (code .code-of .ensures) in
+    let level : c .before .before .number3 .result ≡ numberAt body 9 = c .before .before .number3 .ensures in
+    let up : c .before .number4 .result ≡ numberAt body 13 = c .before .number4 .ensures in
+    let down : c .number5 .result ≡ numberAt body 17 = c .number5 .ensures in
+    λ i. record { effective = effective i; issue = issue i; meaning = meaning i; level = level i; up = up i; down = down i }
 
 pub instruction-of-spec : {M : Type 1} → statement M
 instruction-of-spec =

@@ -1,5 +1,6 @@
+use mathlib.Core.Path.{_≡_}
 use borrow.Author.Needs.{needs}
-use Rattle.records.specs.Records.{openingOf}
+use Rattle.records.specs.Records.{numberAt, openingOf}
 use Rattle.records.proofs.opening_of.Statement.{statement}
 use Rattle.records.proofs.opening_of.Tie as tie
 use Rattle.records.proofs.opening_of.Reads as reads
@@ -20,7 +21,13 @@ number-requires-4 c κs = search needs
 
 returns : tie.Need-returns
 unfolding openingOf
-returns c = rw (c .number4 .ensures, c .before .number3 .ensures, c .before .before .number2 .ensures, c .before .before .before .number .ensures)
+returns c =
+    let body = c .before .before .before .before .before .args .body .now in
+    let level : c .before .before .before .number .result ≡ numberAt body 0 = c .before .before .before .number .ensures in
+    let target : c .before .before .number2 .result ≡ numberAt body 4 = c .before .before .number2 .ensures in
+    let heat : c .before .number3 .result ≡ numberAt body 8 = c .before .number3 .ensures in
+    let off : c .number4 .result ≡ numberAt body 12 = c .number4 .ensures in
+    λ i. record { level = level i; target = target i; heat = heat i; off = off i }
 
 pub opening-of-spec : {M : Type 1} → statement M
 opening-of-spec =

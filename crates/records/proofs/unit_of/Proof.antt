@@ -1,7 +1,8 @@
+use mathlib.Core.Path.{_≡_}
 use mathlib.Core.List.{[], _∷_}
 use lib.ListN.{getD}
 use borrow.Author.Needs.{needs}
-use Rattle.records.specs.Records.{unitOf}
+use Rattle.records.specs.Records.{triggerOf, columnOf, unitOf}
 use Rattle.records.proofs.unit_of.Statement.{statement}
 use Rattle.records.proofs.unit_of.Tie as tie
 use Rattle.records.proofs.unit_of.Reads as reads
@@ -61,20 +62,26 @@ array-read-t37 c = search needs
 returns : tie.Need-returns
 unfolding unitOf
 returns c =
-    let up = c .before .before .before .before in
-    let hot = up .before .before .before in
-    let ns = hot .before .args .t1 in
-    let down = c .ramp-of2 .ensures in
+    let s = c .before .before .before .before in
+    let ns = s .before .before .before .before .args .t1 in
+    let hot-column : s .before .before .before .column-of .result ≡ columnOf ns 5 = s .before .before .before .column-of .ensures in
+    let warm-column : s .before .before .column-of2 .result ≡ columnOf ns 15 = s .before .before .column-of2 .ensures in
+    let cold-column : s .before .column-of3 .result ≡ columnOf ns 25 = s .before .column-of3 .ensures in
+    let first : c .before .before .before .trigger-of .result ≡ triggerOf ns 44 47 = c .before .before .before .trigger-of .ensures in
+    let second : c .before .before .trigger-of2 .result ≡ triggerOf ns 45 48 = c .before .before .trigger-of2 .ensures in
+    let third : c .before .trigger-of3 .result ≡ triggerOf ns 46 49 = c .before .trigger-of3 .ensures in
+    let ramp-up = s .ramp-of .ensures in
+    let ramp-down = c .ramp-of2 .ensures in
     λ i. record {
       capacity = getD ns 0 0;
       maximum = getD ns 1 0;
       msg = getD ns 2 0;
       hot = getD ns 3 0;
       warm = getD ns 4 0;
-      columns = (hot .column-of .ensures) i ∷ (up .before .before .column-of2 .ensures) i ∷ (up .before .column-of3 .ensures) i ∷ [];
-      up = record { rates = (up .ramp-of .ensures .0) i; breaks = (up .ramp-of .ensures .1) i };
-      dwells = (c .before .before .before .trigger-of .ensures) i ∷ (c .before .before .trigger-of2 .ensures) i ∷ (c .before .trigger-of3 .ensures) i ∷ [];
-      down = record { rates = (down .0) i; breaks = (down .1) i };
+      columns = hot-column i ∷ warm-column i ∷ cold-column i ∷ [];
+      up = record { rates = (ramp-up .0) i; breaks = (ramp-up .1) i };
+      dwells = first i ∷ second i ∷ third i ∷ [];
+      down = record { rates = (ramp-down .0) i; breaks = (ramp-down .1) i };
       deload = record { rates = getD ns 59 0 ∷ getD ns 60 0 ∷ []; breaks = getD ns 61 0 ∷ [] };
     }
 

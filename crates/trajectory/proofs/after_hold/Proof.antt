@@ -1,27 +1,20 @@
 use Rattle.trajectory.specs.Walk.{afterHold}
-use Rattle.trajectory.specs.declared.Place.{Place}
 use native.Mathlib.Omega.{arith}
 use mathlib.Core.Path.{_≡_}
 use Prim.Native.Nat.{_+_, _-_, min}
 use borrow.Author.Needs.{needs}
 use Rattle.trajectory.proofs.after_hold.Statement.{statement}
 use Rattle.trajectory.proofs.after_hold.Tie as tie
-use Rattle.trajectory.proofs.after_hold.Reads as reads
-use Rattle.trajectory.proofs.after_hold.Lts as lts
 
--- src/lib.rt:435:16
 sub-room : tie.Need-sub-room
 sub-room c = search needs
 
--- src/lib.rt:436:16
 cast-wide : tie.Need-cast-wide
 cast-wide c = search needs
 
--- src/lib.rt:441:19
 sub-t7 : tie.Need-sub-t7
 sub-t7 c = search needs
 
--- src/lib.rt:438:9
 returns : tie.Need-returns
 unfolding afterHold
 returns c =
@@ -31,15 +24,12 @@ returns c =
     let f : p .left - (n - p .second) ≡ p .second + p .left - n = omega arith in
     λ i. record { second = e i; level = p .level; left = f i }
 
--- src/lib.rt:444:16
 cast-held : tie.Need-cast-held
 cast-held c = search needs
 
--- src/lib.rt:446:17
 add-t8 : tie.Need-add-t8
 add-t8 c = search needs
 
--- src/lib.rt:431:1
 returns-2 : tie.Need-returns-2
 unfolding afterHold
 returns-2 c =

@@ -2,10 +2,7 @@ use Rattle.trajectory.specs.Walk.{afterRest}
 use mathlib.Core.Path.{refl}
 use Rattle.trajectory.proofs.after_rest.Statement.{statement}
 use Rattle.trajectory.proofs.after_rest.Tie as tie
-use Rattle.trajectory.proofs.after_rest.Reads as reads
-use Rattle.trajectory.proofs.after_rest.Lts as lts
 
--- src/lib.rt:453:1
 returns : tie.Need-returns
 unfolding afterRest
 returns c = refl

@@ -1,30 +1,22 @@
 use Rattle.trajectory.proofs.Nexts.{two-breaks}
-use Rattle.trajectory.specs.Ways.{headed, lower}
+use Rattle.trajectory.specs.Ways.{lower}
 use Rattle.course.specs.Course.{rising}
 use borrow.Author.Needs.{needs}
 use Rattle.trajectory.proofs.column_breaks.Statement.{statement}
 use Rattle.trajectory.proofs.column_breaks.Tie as tie
-use Rattle.trajectory.proofs.column_breaks.Reads as reads
-use Rattle.trajectory.proofs.column_breaks.Lts as lts
-use Rattle.trajectory.proofs.lower_break.Reads as lower-break-reads
 
--- src/lib.rt:281:39
 array-read-lower-break : tie.Need-array-read-lower-break
 array-read-lower-break c = search needs
 
--- src/lib.rt:281:9
 lower-break-requires : tie.Need-lower-break-requires
 lower-break-requires c κs = search needs
 
--- src/lib.rt:282:31
 array-read-lower-break-2 : tie.Need-array-read-lower-break-2
 array-read-lower-break-2 c = search needs
 
--- src/lib.rt:282:5
 lower-break-requires-2 : tie.Need-lower-break-requires-2
 lower-break-requires-2 c κs = search needs
 
--- src/lib.rt:278:1
 returns : tie.Need-returns
 returns c =
     let s = c .before .before in

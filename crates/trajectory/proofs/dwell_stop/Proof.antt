@@ -1,36 +1,25 @@
 use Rattle.trajectory.proofs.Nexts.{level-counts, level-no-minutes, level-out}
-use Rattle.trajectory.specs.Ways.{headed}
 use borrow.Author.Tests.{le-leb, lt-leb}
 use lib.Dec.{leb}
 use mathlib.Core.Path.{_∙_}
-use native.Mathlib.Omega.{arith}
 use borrow.Author.Needs.{needs}
 use Rattle.trajectory.proofs.dwell_stop.Statement.{statement}
 use Rattle.trajectory.proofs.dwell_stop.Tie as tie
-use Rattle.trajectory.proofs.dwell_stop.Reads as reads
-use Rattle.trajectory.proofs.dwell_stop.Lts as lts
-use Rattle.trajectory.proofs.grains_of.Reads as grains-of-reads
-use Rattle.trajectory.proofs.nearer.Reads as nearer-reads
 
--- src/lib.rt:295:9
 grains-of-requires : tie.Need-grains-of-requires
 grains-of-requires c κs = search needs
 
--- src/lib.rt:297:9
 returns : tie.Need-returns
 returns c = level-no-minutes _ _ _ _ _ _ (c .before .before .grains-of .ensures .0) (c .if1 .taken)
 
--- src/lib.rt:300:9
 returns-2 : tie.Need-returns-2
 returns-2 c =
     let s = c .before .before .before .before in
     level-out _ _ _ (leb (s .args .msg)) _ _ (c .before .before .before .grains-of .ensures .0) (lt-leb _ _ (c .if2 .taken))
 
--- src/lib.rt:302:5
 nearer-requires : tie.Need-nearer-requires
 nearer-requires c κs = search needs
 
--- src/lib.rt:292:1
 returns-3 : tie.Need-returns-3
 returns-3 c =
     let s = c .before .before .before .before .before in

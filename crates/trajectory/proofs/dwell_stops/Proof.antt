@@ -5,35 +5,25 @@ use lib.Dec.{leb}
 use borrow.Author.Needs.{needs}
 use Rattle.trajectory.proofs.dwell_stops.Statement.{statement}
 use Rattle.trajectory.proofs.dwell_stops.Tie as tie
-use Rattle.trajectory.proofs.dwell_stops.Reads as reads
-use Rattle.trajectory.proofs.dwell_stops.Lts as lts
-use Rattle.trajectory.proofs.dwell_stop.Reads as dwell-stop-reads
 
--- src/lib.rt:308:36
 array-copy-out-dwell-stop : tie.Need-array-copy-out-dwell-stop
 array-copy-out-dwell-stop c = search needs
 
--- src/lib.rt:308:9
 dwell-stop-requires : tie.Need-dwell-stop-requires
 dwell-stop-requires c κs = search needs
 
--- src/lib.rt:309:36
 array-copy-out-dwell-stop-2 : tie.Need-array-copy-out-dwell-stop-2
 array-copy-out-dwell-stop-2 c = search needs
 
--- src/lib.rt:309:9
 dwell-stop-requires-2 : tie.Need-dwell-stop-requires-2
 dwell-stop-requires-2 c κs = search needs
 
--- src/lib.rt:310:28
 array-copy-out-dwell-stop-3 : tie.Need-array-copy-out-dwell-stop-3
 array-copy-out-dwell-stop-3 c = search needs
 
--- src/lib.rt:310:5
 dwell-stop-requires-3 : tie.Need-dwell-stop-requires-3
 dwell-stop-requires-3 c κs = search needs
 
--- src/lib.rt:305:1
 returns : tie.Need-returns
 returns c =
     let s = c .before .before .before .before .before .before in

@@ -1,23 +1,15 @@
-use Prim.Native.Nat.{ℕ, _*_}
+use Prim.Native.Nat.{_*_}
 use mathlib.Core.Path.{_≡_, ap}
 use Rattle.level.specs.declared.Level.{Level}
 use Rattle.level.specs.Level.{fromKw, grains}
-use Prim.Native.Nat.{ℕ}
 use native.Mathlib.Omega.{arith}
-use Prim.Native.Nat.{_*_}
-use mathlib.Core.Path.{ap}
 use borrow.Author.Needs.{needs}
 use Rattle.trajectory.proofs.grains_of.Statement.{statement}
 use Rattle.trajectory.proofs.grains_of.Tie as tie
-use Rattle.trajectory.proofs.grains_of.Reads as reads
-use Rattle.trajectory.proofs.grains_of.Lts as lts
-use Rattle.level.proofs.Level.from_kw.Reads as from-kw-reads
 
--- src/lib.rt:15:9
 from-kw-requires : tie.Need-from-kw-requires
 from-kw-requires c κs = search needs
 
--- src/lib.rt:12:1
 returns : tie.Need-returns
 unfolding fromKw grains
 returns c =

@@ -3,29 +3,21 @@ use native.Mathlib.Omega.{arith}
 use borrow.Author.Needs.{needs}
 use Rattle.trajectory.proofs.held_one.Statement.{statement}
 use Rattle.trajectory.proofs.held_one.Tie as tie
-use Rattle.trajectory.proofs.held_one.Reads as reads
-use Rattle.trajectory.proofs.held_one.Lts as lts
-use Rattle.trajectory.proofs.grains_of.Reads as grains-of-reads
 
--- src/lib.rt:169:9
 grains-of-requires : tie.Need-grains-of-requires
 grains-of-requires c κs = search needs
 
--- src/lib.rt:171:17
 cast-result : tie.Need-cast-result
 cast-result c = search needs
 
--- src/lib.rt:171:16
 mul-result : tie.Need-mul-result
 mul-result c = search needs
 
--- src/lib.rt:171:9
 returns : tie.Need-returns
 returns c =
     let s = c .before .before .before in
     omega (arith, held-at (s .args .w) (s .args .g) (omega arith))
 
--- src/lib.rt:166:1
 returns-2 : tie.Need-returns-2
 returns-2 c =
     let s = c .before .before in

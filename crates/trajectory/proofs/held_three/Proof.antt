@@ -4,43 +4,31 @@ use native.Mathlib.Omega.{arith}
 use borrow.Author.Needs.{needs}
 use Rattle.trajectory.proofs.held_three.Statement.{statement}
 use Rattle.trajectory.proofs.held_three.Tie as tie
-use Rattle.trajectory.proofs.held_three.Reads as reads
-use Rattle.trajectory.proofs.held_three.Lts as lts
-use Rattle.trajectory.proofs.held_one.Reads as held-one-reads
 
--- src/lib.rt:179:25
 array-copy-out-held-one : tie.Need-array-copy-out-held-one
 array-copy-out-held-one c = search needs
 
--- src/lib.rt:179:9
 held-one-requires : tie.Need-held-one-requires
 held-one-requires c κs = search needs
 
--- src/lib.rt:180:25
 array-copy-out-held-one-2 : tie.Need-array-copy-out-held-one-2
 array-copy-out-held-one-2 c = search needs
 
--- src/lib.rt:180:9
 held-one-requires-2 : tie.Need-held-one-requires-2
 held-one-requires-2 c κs = search needs
 
--- src/lib.rt:181:25
 array-copy-out-held-one-3 : tie.Need-array-copy-out-held-one-3
 array-copy-out-held-one-3 c = search needs
 
--- src/lib.rt:181:9
 held-one-requires-3 : tie.Need-held-one-requires-3
 held-one-requires-3 c κs = search needs
 
--- src/lib.rt:182:5
 add-result : tie.Need-add-result
 add-result c = search needs
 
--- src/lib.rt:182:5
 add-result-2 : tie.Need-add-result-2
 add-result-2 c = search needs
 
--- src/lib.rt:176:1
 returns : tie.Need-returns
 returns c =
     let s = c .before .before .before .before .before .before in

@@ -4,31 +4,22 @@ use native.Mathlib.Omega.{arith}
 use borrow.Author.Needs.{needs}
 use Rattle.trajectory.proofs.held_two.Statement.{statement}
 use Rattle.trajectory.proofs.held_two.Tie as tie
-use Rattle.trajectory.proofs.held_two.Reads as reads
-use Rattle.trajectory.proofs.held_two.Lts as lts
-use Rattle.trajectory.proofs.held_one.Reads as held-one-reads
 
--- src/lib.rt:188:25
 array-copy-out-held-one : tie.Need-array-copy-out-held-one
 array-copy-out-held-one c = search needs
 
--- src/lib.rt:188:9
 held-one-requires : tie.Need-held-one-requires
 held-one-requires c κs = search needs
 
--- src/lib.rt:189:25
 array-copy-out-held-one-2 : tie.Need-array-copy-out-held-one-2
 array-copy-out-held-one-2 c = search needs
 
--- src/lib.rt:189:9
 held-one-requires-2 : tie.Need-held-one-requires-2
 held-one-requires-2 c κs = search needs
 
--- src/lib.rt:190:5
 add-result : tie.Need-add-result
 add-result c = search needs
 
--- src/lib.rt:185:1
 returns : tie.Need-returns
 returns c =
     let s = c .before .before .before .before in

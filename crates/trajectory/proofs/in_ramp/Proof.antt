@@ -1,15 +1,11 @@
 use Rattle.trajectory.specs.Ways.{ramping}
 use Rattle.trajectory.proofs.in_ramp.Statement.{statement}
 use Rattle.trajectory.proofs.in_ramp.Tie as tie
-use Rattle.trajectory.proofs.in_ramp.Reads as reads
-use Rattle.trajectory.proofs.in_ramp.Lts as lts
 
--- src/lib.rt:44:9
 returns : tie.Need-returns
 unfolding ramping
 returns c = rw (c .if1 .taken)
 
--- src/lib.rt:40:1
 returns-2 : tie.Need-returns-2
 unfolding ramping
 returns-2 c = rw (c .if1 .left)

@@ -1,35 +1,22 @@
 use Rattle.trajectory.proofs.Courses.{begins-short, level-is}
-use Rattle.trajectory.specs.Walk.{beginning, standing}
-use Rattle.trajectory.specs.Ways.{headed, listsIn}
-use Rattle.trajectory.specs.declared.Place.{Place}
-use Rattle.level.specs.Level.{grains}
+use Rattle.trajectory.specs.Walk.{beginning}
 use native.Mathlib.Omega.{arith}
-use mathlib.Core.Path.{_≡_, ap, _∙_}
 use borrow.Author.Needs.{needs}
 use Rattle.trajectory.proofs.level_after.Statement.{statement}
 use Rattle.trajectory.proofs.level_after.Tie as tie
-use Rattle.trajectory.proofs.level_after.Reads as reads
-use Rattle.trajectory.proofs.level_after.Lts as lts
-use Rattle.trajectory.proofs.begin_at.Reads as begin-at-reads
-use Rattle.trajectory.proofs.is_rising.Reads as is-rising-reads
-use Rattle.trajectory.proofs.walk_to.Reads as walk-to-reads
 
--- src/lib.rt:590:9
 is-rising-requires : tie.Need-is-rising-requires
 is-rising-requires c κs = search needs
 
--- src/lib.rt:591:9
 begin-at-requires : tie.Need-begin-at-requires
 begin-at-requires c κs = search needs
 
--- src/lib.rt:592:9
 walk-to-requires : tie.Need-walk-to-requires
 unfolding beginning
 walk-to-requires c κs =
     let s = c .before .before in
     rw (c .begin-at .ensures) (omega arith, begins-short (s .args .u) (s .args .c) (c .before .is-rising .result) (c .before .is-rising .ensures) 0)
 
--- src/lib.rt:587:1
 returns : tie.Need-returns
 returns c =
     let s = c .before .before .before in

@@ -1,26 +1,19 @@
 use Rattle.trajectory.proofs.Onward.{room-up, room-down}
 use native.Mathlib.Omega.{arith}
-use mathlib.Core.Path.{refl}
 use Rattle.course.specs.Course.{toward}
 use Rattle.trajectory.proofs.moved.Statement.{statement}
 use Rattle.trajectory.proofs.moved.Tie as tie
-use Rattle.trajectory.proofs.moved.Reads as reads
-use Rattle.trajectory.proofs.moved.Lts as lts
 
--- src/lib.rt:425:16
 add-result : tie.Need-add-result
 add-result c = omega (arith, room-up _ _ _ (c .if1 .taken) (c .before .pre))
 
--- src/lib.rt:425:9
 returns : tie.Need-returns
 unfolding toward
 returns c = rw (c .if1 .taken)
 
--- src/lib.rt:427:5
 sub-result : tie.Need-sub-result
 sub-result c = room-down _ _ _ (c .if1 .left) (c .before .pre)
 
--- src/lib.rt:420:1
 returns-2 : tie.Need-returns-2
 unfolding toward
 returns-2 c = rw (c .if1 .left)

@@ -2,30 +2,22 @@ use Rattle.trajectory.proofs.Nexts.{up-behind, up-near, up-far, down-be
 use native.Mathlib.Omega.{arith}
 use Rattle.trajectory.proofs.nearer.Statement.{statement}
 use Rattle.trajectory.proofs.nearer.Tie as tie
-use Rattle.trajectory.proofs.nearer.Reads as reads
-use Rattle.trajectory.proofs.nearer.Lts as lts
 
--- src/lib.rt:231:13
 returns : tie.Need-returns
 returns c = rw (c .before .if1 .taken) (up-behind _ _ _ (omega arith))
 
--- src/lib.rt:234:13
 returns-2 : tie.Need-returns-2
 returns-2 c = rw (c .before .before .if1 .taken) (up-near _ _ _ (omega arith) (omega arith))
 
--- src/lib.rt:236:9
 returns-3 : tie.Need-returns-3
 returns-3 c = rw (c .before .before .if1 .taken) (up-far _ _ _ (omega arith) (omega arith))
 
--- src/lib.rt:239:9
 returns-4 : tie.Need-returns-4
 returns-4 c = rw (c .before .if1 .left) (down-behind _ _ _ (omega arith))
 
--- src/lib.rt:242:9
 returns-5 : tie.Need-returns-5
 returns-5 c = rw (c .before .before .if1 .left) (down-near _ _ _ (omega arith) (omega arith))
 
--- src/lib.rt:226:1
 returns-6 : tie.Need-returns-6
 returns-6 c = rw (c .before .before .if1 .left) (down-far _ _ _ (omega arith) (omega arith))
 

@@ -1,24 +1,16 @@
 use borrow.Author.Needs.{needs}
 use Rattle.trajectory.proofs.next_stop.Statement.{statement}
 use Rattle.trajectory.proofs.next_stop.Tie as tie
-use Rattle.trajectory.proofs.next_stop.Reads as reads
-use Rattle.trajectory.proofs.next_stop.Lts as lts
-use Rattle.trajectory.proofs.stop_falling.Reads as stop-falling-reads
-use Rattle.trajectory.proofs.stop_rising.Reads as stop-rising-reads
 
--- src/lib.rt:373:9
 stop-rising-requires : tie.Need-stop-rising-requires
 stop-rising-requires c κs = search needs
 
--- src/lib.rt:373:9
 returns : tie.Need-returns
 returns c = rw (c .before .if1 .taken) (c .stop-rising .ensures)
 
--- src/lib.rt:375:5
 stop-falling-requires : tie.Need-stop-falling-requires
 stop-falling-requires c κs = search needs
 
--- src/lib.rt:369:1
 returns-2 : tie.Need-returns-2
 returns-2 c = rw (c .before .if1 .left) (c .stop-falling .ensures)
 

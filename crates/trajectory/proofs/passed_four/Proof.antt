@@ -4,55 +4,40 @@ use native.Mathlib.Omega.{arith}
 use borrow.Author.Needs.{needs}
 use Rattle.trajectory.proofs.passed_four.Statement.{statement}
 use Rattle.trajectory.proofs.passed_four.Tie as tie
-use Rattle.trajectory.proofs.passed_four.Reads as reads
-use Rattle.trajectory.proofs.passed_four.Lts as lts
-use Rattle.trajectory.proofs.passed_one.Reads as passed-one-reads
 
--- src/lib.rt:59:31
 array-read-passed-one : tie.Need-array-read-passed-one
 array-read-passed-one c = search needs
 
--- src/lib.rt:59:9
 passed-one-requires : tie.Need-passed-one-requires
 passed-one-requires c κs = search needs
 
--- src/lib.rt:60:31
 array-read-passed-one-2 : tie.Need-array-read-passed-one-2
 array-read-passed-one-2 c = search needs
 
--- src/lib.rt:60:9
 passed-one-requires-2 : tie.Need-passed-one-requires-2
 passed-one-requires-2 c κs = search needs
 
--- src/lib.rt:61:31
 array-read-passed-one-3 : tie.Need-array-read-passed-one-3
 array-read-passed-one-3 c = search needs
 
--- src/lib.rt:61:9
 passed-one-requires-3 : tie.Need-passed-one-requires-3
 passed-one-requires-3 c κs = search needs
 
--- src/lib.rt:62:31
 array-read-passed-one-4 : tie.Need-array-read-passed-one-4
 array-read-passed-one-4 c = search needs
 
--- src/lib.rt:62:9
 passed-one-requires-4 : tie.Need-passed-one-requires-4
 passed-one-requires-4 c κs = search needs
 
--- src/lib.rt:63:5
 add-result : tie.Need-add-result
 add-result c = search needs
 
--- src/lib.rt:63:5
 add-result-2 : tie.Need-add-result-2
 add-result-2 c = search needs
 
--- src/lib.rt:63:5
 add-result-3 : tie.Need-add-result-3
 add-result-3 c = search needs
 
--- src/lib.rt:56:1
 returns : tie.Need-returns
 returns c =
     let s = c .before .before .before .before in

@@ -1,31 +1,22 @@
 use Rattle.trajectory.proofs.Rates.{up-passed, up-ahead, down-passed, down-ahead}
 use mathlib.Core.Path.{sym}
 use native.Mathlib.Omega.{arith}
-use Prim.Native.Nat.{ℕ}
 use borrow.Author.Needs.{needs}
 use Rattle.trajectory.proofs.passed_one.Statement.{statement}
 use Rattle.trajectory.proofs.passed_one.Tie as tie
-use Rattle.trajectory.proofs.passed_one.Reads as reads
-use Rattle.trajectory.proofs.passed_one.Lts as lts
-use Rattle.trajectory.proofs.grains_of.Reads as grains-of-reads
 
--- src/lib.rt:42:9
 grains-of-requires : tie.Need-grains-of-requires
 grains-of-requires c κs = search needs
 
--- src/lib.rt:45:13
 returns : tie.Need-returns
 returns c = rw (c .before .if1 .taken) (sym (up-passed _ _ (omega arith)), omega arith)
 
--- src/lib.rt:47:9
 returns-2 : tie.Need-returns-2
 returns-2 c = rw (c .before .if1 .taken) (sym (up-ahead _ _ (omega arith)), omega arith)
 
--- src/lib.rt:50:9
 returns-3 : tie.Need-returns-3
 returns-3 c = rw (c .before .if1 .left) (sym (down-passed _ _ (omega arith)), omega arith)
 
--- src/lib.rt:39:1
 returns-4 : tie.Need-returns-4
 returns-4 c = rw (c .before .if1 .left) (sym (down-ahead _ _ (omega arith)), omega arith)
 

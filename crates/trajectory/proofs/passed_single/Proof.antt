@@ -4,19 +4,13 @@ use native.Mathlib.Omega.{arith}
 use borrow.Author.Needs.{needs}
 use Rattle.trajectory.proofs.passed_single.Statement.{statement}
 use Rattle.trajectory.proofs.passed_single.Tie as tie
-use Rattle.trajectory.proofs.passed_single.Reads as reads
-use Rattle.trajectory.proofs.passed_single.Lts as lts
-use Rattle.trajectory.proofs.passed_one.Reads as passed-one-reads
 
--- src/lib.rt:90:23
 array-read-passed-one : tie.Need-array-read-passed-one
 array-read-passed-one c = search needs
 
--- src/lib.rt:90:5
 passed-one-requires : tie.Need-passed-one-requires
 passed-one-requires c κs = search needs
 
--- src/lib.rt:87:1
 returns : tie.Need-returns
 returns c =
     let s = c .before in

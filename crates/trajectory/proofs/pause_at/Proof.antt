@@ -3,20 +3,14 @@ use mathlib.Core.Path.{sym, _∙_}
 use borrow.Author.Needs.{needs}
 use Rattle.trajectory.proofs.pause_at.Statement.{statement}
 use Rattle.trajectory.proofs.pause_at.Tie as tie
-use Rattle.trajectory.proofs.pause_at.Reads as reads
-use Rattle.trajectory.proofs.pause_at.Lts as lts
-use Rattle.trajectory.proofs.rests_at.Reads as rests-at-reads
 
--- src/lib.rt:692:8
 rests-at-requires : tie.Need-rests-at-requires
 rests-at-requires c κs = search needs
 
--- src/lib.rt:693:9
 returns : tie.Need-returns
 unfolding pause
 returns c = rw (sym (c .before .rests-at .ensures) ∙ c .if1 .taken)
 
--- src/lib.rt:689:1
 returns-2 : tie.Need-returns-2
 unfolding pause
 returns-2 c = rw (sym (c .before .rests-at .ensures) ∙ c .if1 .left)

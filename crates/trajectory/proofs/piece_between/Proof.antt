@@ -2,10 +2,7 @@ use Rattle.trajectory.specs.Walk.{pieceBetween}
 use mathlib.Core.Path.{refl}
 use Rattle.trajectory.proofs.piece_between.Statement.{statement}
 use Rattle.trajectory.proofs.piece_between.Tie as tie
-use Rattle.trajectory.proofs.piece_between.Reads as reads
-use Rattle.trajectory.proofs.piece_between.Lts as lts
 
--- src/lib.rt:566:1
 returns : tie.Need-returns
 unfolding pieceBetween
 returns c = refl

@@ -4,20 +4,15 @@ use borrow.Author.Tests.{ne-eqb}
 use native.Mathlib.Omega.{arith}
 use Rattle.trajectory.proofs.place_of.Statement.{statement}
 use Rattle.trajectory.proofs.place_of.Tie as tie
-use Rattle.trajectory.proofs.place_of.Reads as reads
-use Rattle.trajectory.proofs.place_of.Lts as lts
 
--- src/lib.rt:20:1
 returns : tie.Need-returns
 unfolding placeOf
 returns c = rw (c .match .keys1) (refl, omega arith)
 
--- src/lib.rt:20:1
 returns-2 : tie.Need-returns-2
 unfolding placeOf
 returns-2 c = rw (c .match .keys2) (refl, omega arith)
 
--- src/lib.rt:20:1
 returns-3 : tie.Need-returns-3
 unfolding placeOf
 returns-3 c = let r = c .match .rest in simp (ne-eqb _ _ (r .0 .1), ne-eqb _ _ (r .1)) (refl, omega arith)

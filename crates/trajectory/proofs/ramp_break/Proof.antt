@@ -1,32 +1,21 @@
 use Rattle.trajectory.proofs.Nexts.{ramp-counts, ramp-idles}
-use Rattle.trajectory.specs.Ways.{headed}
 use mathlib.Core.Path.{_∙_}
 use borrow.Author.Needs.{needs}
 use Rattle.trajectory.proofs.ramp_break.Statement.{statement}
 use Rattle.trajectory.proofs.ramp_break.Tie as tie
-use Rattle.trajectory.proofs.ramp_break.Reads as reads
-use Rattle.trajectory.proofs.ramp_break.Lts as lts
-use Rattle.trajectory.proofs.grains_of.Reads as grains-of-reads
-use Rattle.trajectory.proofs.in_ramp.Reads as in-ramp-reads
-use Rattle.trajectory.proofs.nearer.Reads as nearer-reads
 
--- src/lib.rt:251:9
 grains-of-requires : tie.Need-grains-of-requires
 grains-of-requires c κs = search needs
 
--- src/lib.rt:252:8
 in-ramp-requires : tie.Need-in-ramp-requires
 in-ramp-requires c κs = search needs
 
--- src/lib.rt:253:9
 nearer-requires : tie.Need-nearer-requires
 nearer-requires c κs = search needs
 
--- src/lib.rt:253:9
 returns : tie.Need-returns
 returns c = c .nearer .ensures ∙ ramp-counts _ _ _ _ _ _ _ (c .before .before .before .grains-of .ensures .0) (c .before .before .in-ramp .ensures) (c .before .if1 .taken)
 
--- src/lib.rt:248:1
 returns-2 : tie.Need-returns-2
 returns-2 c = ramp-idles _ _ _ _ _ _ _ (c .before .before .grains-of .ensures .0) (c .before .in-ramp .ensures) (c .if1 .left)
 

@@ -1,24 +1,16 @@
 use borrow.Author.Needs.{needs}
 use Rattle.trajectory.proofs.rate_at.Statement.{statement}
 use Rattle.trajectory.proofs.rate_at.Tie as tie
-use Rattle.trajectory.proofs.rate_at.Reads as reads
-use Rattle.trajectory.proofs.rate_at.Lts as lts
-use Rattle.trajectory.proofs.rate_falling.Reads as rate-falling-reads
-use Rattle.trajectory.proofs.rate_rising.Reads as rate-rising-reads
 
--- src/lib.rt:158:9
 rate-rising-requires : tie.Need-rate-rising-requires
 rate-rising-requires c κs = search needs
 
--- src/lib.rt:158:9
 returns : tie.Need-returns
 returns c = rw (c .before .if1 .taken) (c .rate-rising .ensures)
 
--- src/lib.rt:160:5
 rate-falling-requires : tie.Need-rate-falling-requires
 rate-falling-requires c κs = search needs
 
--- src/lib.rt:154:1
 returns-2 : tie.Need-returns-2
 returns-2 c = rw (c .before .if1 .left) (c .rate-falling .ensures)
 

@@ -5,37 +5,25 @@ use mathlib.Core.Path.{_∙_}
 use borrow.Author.Needs.{needs}
 use Rattle.trajectory.proofs.rate_falling.Statement.{statement}
 use Rattle.trajectory.proofs.rate_falling.Tie as tie
-use Rattle.trajectory.proofs.rate_falling.Reads as reads
-use Rattle.trajectory.proofs.rate_falling.Lts as lts
-use Rattle.trajectory.proofs.grains_of.Reads as grains-of-reads
-use Rattle.trajectory.proofs.in_ramp.Reads as in-ramp-reads
-use Rattle.trajectory.proofs.rate_of_deload.Reads as rate-of-deload-reads
-use Rattle.trajectory.proofs.rate_of_ramp.Reads as rate-of-ramp-reads
 
--- src/lib.rt:144:9
 grains-of-requires : tie.Need-grains-of-requires
 grains-of-requires c κs = search needs
 
--- src/lib.rt:145:8
 in-ramp-requires : tie.Need-in-ramp-requires
 in-ramp-requires c κs = search needs
 
--- src/lib.rt:147:9
 rate-of-ramp-requires : tie.Need-rate-of-ramp-requires
 rate-of-ramp-requires c κs = search needs
 
--- src/lib.rt:147:9
 returns : tie.Need-returns
 unfolding listsOf ratesOf
 returns c =
     let s = c .before .before .before .before .before in
     c .rate-of-ramp .ensures ∙ rate-down (listsIn (s .args .u) (s .args .c)) _ _ _ (c .before .before .before .before .grains-of .ensures .0) (c .before .before .before .in-ramp .ensures) (c .before .before .if1 .taken)
 
--- src/lib.rt:150:5
 rate-of-deload-requires : tie.Need-rate-of-deload-requires
 rate-of-deload-requires c κs = search needs
 
--- src/lib.rt:141:1
 returns-2 : tie.Need-returns-2
 unfolding listsOf ratesOf
 returns-2 c =

@@ -1,27 +1,19 @@
 use borrow.Author.Needs.{needs}
 use Rattle.trajectory.proofs.rate_of_column.Statement.{statement}
 use Rattle.trajectory.proofs.rate_of_column.Tie as tie
-use Rattle.trajectory.proofs.rate_of_column.Reads as reads
-use Rattle.trajectory.proofs.rate_of_column.Lts as lts
-use Rattle.trajectory.proofs.passed_two.Reads as passed-two-reads
 
--- src/lib.rt:117:9
 passed-two-requires : tie.Need-passed-two-requires
 passed-two-requires c κs = search needs
 
--- src/lib.rt:118:5
 mul-result : tie.Need-mul-result
 mul-result c = search needs
 
--- src/lib.rt:118:5
 element-copy-out-result : tie.Need-element-copy-out-result
 element-copy-out-result c = search needs
 
--- src/lib.rt:118:5
 cast-result : tie.Need-cast-result
 cast-result c = search needs
 
--- src/lib.rt:113:1
 returns : tie.Need-returns
 returns c = rw (c .before .passed-two .ensures .0)
 

@@ -1,20 +1,13 @@
 use borrow.Author.Needs.{needs}
 use Rattle.trajectory.proofs.rate_of_ramp.Statement.{statement}
 use Rattle.trajectory.proofs.rate_of_ramp.Tie as tie
-use Rattle.trajectory.proofs.rate_of_ramp.Reads as reads
-use Rattle.trajectory.proofs.rate_of_ramp.Lts as lts
-use Rattle.trajectory.proofs.passed_four.Reads as passed-four-reads
-use Rattle.trajectory.proofs.replaced_rate.Reads as replaced-rate-reads
 
--- src/lib.rt:108:9
 passed-four-requires : tie.Need-passed-four-requires
 passed-four-requires c κs = search needs
 
--- src/lib.rt:110:5
 replaced-rate-requires : tie.Need-replaced-rate-requires
 replaced-rate-requires c κs = search needs
 
--- src/lib.rt:104:1
 returns : tie.Need-returns
 returns c = rw (c .replaced-rate .ensures, c .before .before .passed-four .ensures .0)
 

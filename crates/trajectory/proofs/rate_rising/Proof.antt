@@ -5,42 +5,28 @@ use mathlib.Core.Path.{_∙_}
 use borrow.Author.Needs.{needs}
 use Rattle.trajectory.proofs.rate_rising.Statement.{statement}
 use Rattle.trajectory.proofs.rate_rising.Tie as tie
-use Rattle.trajectory.proofs.rate_rising.Reads as reads
-use Rattle.trajectory.proofs.rate_rising.Lts as lts
-use Rattle.trajectory.proofs.column_for.Reads as column-for-reads
-use Rattle.trajectory.proofs.grains_of.Reads as grains-of-reads
-use Rattle.trajectory.proofs.in_ramp.Reads as in-ramp-reads
-use Rattle.trajectory.proofs.rate_of_column.Reads as rate-of-column-reads
-use Rattle.trajectory.proofs.rate_of_ramp.Reads as rate-of-ramp-reads
 
--- src/lib.rt:132:9
 grains-of-requires : tie.Need-grains-of-requires
 grains-of-requires c κs = search needs
 
--- src/lib.rt:133:8
 in-ramp-requires : tie.Need-in-ramp-requires
 in-ramp-requires c κs = search needs
 
--- src/lib.rt:135:9
 rate-of-ramp-requires : tie.Need-rate-of-ramp-requires
 rate-of-ramp-requires c κs = search needs
 
--- src/lib.rt:135:9
 returns : tie.Need-returns
 unfolding listsOf ratesOf
 returns c =
     let s = c .before .before .before .before .before in
     c .rate-of-ramp .ensures ∙ rate-up (listsIn (s .args .u) (s .args .c)) _ _ _ (c .before .before .before .before .grains-of .ensures .0) (c .before .before .before .in-ramp .ensures) (c .before .before .if1 .taken)
 
--- src/lib.rt:137:9
 column-for-requires : tie.Need-column-for-requires
 column-for-requires c κs = search needs
 
--- src/lib.rt:138:5
 rate-of-column-requires : tie.Need-rate-of-column-requires
 rate-of-column-requires c κs = search needs
 
--- src/lib.rt:129:1
 returns-2 : tie.Need-returns-2
 unfolding listsOf ratesOf
 returns-2 c =

@@ -2,26 +2,19 @@ use Rattle.trajectory.proofs.Rates.{own-rate, given-rate}
 use borrow.Author.Needs.{needs}
 use Rattle.trajectory.proofs.replaced_rate.Statement.{statement}
 use Rattle.trajectory.proofs.replaced_rate.Tie as tie
-use Rattle.trajectory.proofs.replaced_rate.Reads as reads
-use Rattle.trajectory.proofs.replaced_rate.Lts as lts
 
--- src/lib.rt:99:16
 mul-result : tie.Need-mul-result
 mul-result c = search needs
 
--- src/lib.rt:99:16
 array-read-result : tie.Need-array-read-result
 array-read-result c = search needs
 
--- src/lib.rt:99:16
 cast-result : tie.Need-cast-result
 cast-result c = search needs
 
--- src/lib.rt:99:9
 returns : tie.Need-returns
 returns c = own-rate _ _ _ (c .if1 .taken)
 
--- src/lib.rt:94:1
 returns-2 : tie.Need-returns-2
 returns-2 c = given-rate _ _ _ (c .if1 .left) (c .before .pre)
 

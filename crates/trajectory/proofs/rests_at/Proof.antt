@@ -2,30 +2,22 @@ use Rattle.trajectory.proofs.Arrivals.{rests-target, rests-rate}
 use Rattle.trajectory.specs.Ways.{headed, listsIn}
 use Rattle.level.specs.Level.{grains}
 use native.Mathlib.Omega.{arith}
-use mathlib.Core.Path.{sym, _∙_}
+use mathlib.Core.Path.{sym}
 use borrow.Author.Needs.{needs}
 use Rattle.trajectory.proofs.rests_at.Statement.{statement}
 use Rattle.trajectory.proofs.rests_at.Tie as tie
-use Rattle.trajectory.proofs.rests_at.Reads as reads
-use Rattle.trajectory.proofs.rests_at.Lts as lts
-use Rattle.trajectory.proofs.grains_of.Reads as grains-of-reads
-use Rattle.trajectory.proofs.rate_at.Reads as rate-at-reads
 
--- src/lib.rt:681:9
 grains-of-requires : tie.Need-grains-of-requires
 grains-of-requires c κs = search needs
 
--- src/lib.rt:682:9
 rate-at-requires : tie.Need-rate-at-requires
 rate-at-requires c κs = search needs
 
--- src/lib.rt:684:9
 returns : tie.Need-returns
 returns c =
     let s = c .before .before .before in
     sym (rests-target (headed (s .args .up)) (listsIn (s .args .u) (s .args .c)) (grains (s .args .c .target)) (s .args .v) (omega arith))
 
--- src/lib.rt:678:1
 returns-2 : tie.Need-returns-2
 returns-2 c =
     let s = c .before .before .before in

@@ -1,30 +1,22 @@
 use Rattle.trajectory.proofs.Arrivals.{full-seconds, one-second-more, full-below}
-use Prim.Native.Nat.{_*_, _/_, _≤_}
-use native.Mathlib.Nat.{div-mul-le-self, mul-le-mul-left}
+use native.Mathlib.Nat.{div-mul-le-self}
 use native.Mathlib.Omega.{arith}
 use borrow.Author.Needs.{needs}
 use Rattle.trajectory.proofs.seconds_of.Statement.{statement}
 use Rattle.trajectory.proofs.seconds_of.Tie as tie
-use Rattle.trajectory.proofs.seconds_of.Reads as reads
-use Rattle.trajectory.proofs.seconds_of.Lts as lts
 
--- src/lib.rt:670:16
 div-full : tie.Need-div-full
 div-full c = search needs
 
--- src/lib.rt:671:8
 mul-if1 : tie.Need-mul-if1
 mul-if1 c = omega (arith, div-mul-le-self (c .before .before .args .s .way) (c .before .before .args .s .rate))
 
--- src/lib.rt:672:9
 returns : tie.Need-returns
 returns c = let s = c .before .before .before .before in full-seconds (s .args .s) (s .pre) (c .if1 .taken)
 
--- src/lib.rt:674:5
 add-result : tie.Need-add-result
 add-result c = let s = c .before .before .before .before in omega (arith, full-below (s .args .s) (s .pre) (c .if1 .left))
 
--- src/lib.rt:666:1
 returns-2 : tie.Need-returns-2
 returns-2 c = let s = c .before .before .before .before in one-second-more (s .args .s) (s .pre) (c .if1 .left)
 

@@ -2,20 +2,13 @@ use Rattle.trajectory.specs.Walk.{segmentFrom}
 use borrow.Author.Needs.{needs}
 use Rattle.trajectory.proofs.segment_from.Statement.{statement}
 use Rattle.trajectory.proofs.segment_from.Tie as tie
-use Rattle.trajectory.proofs.segment_from.Reads as reads
-use Rattle.trajectory.proofs.segment_from.Lts as lts
-use Rattle.trajectory.proofs.next_stop.Reads as next-stop-reads
-use Rattle.trajectory.proofs.segment_to.Reads as segment-to-reads
 
--- src/lib.rt:405:9
 next-stop-requires : tie.Need-next-stop-requires
 next-stop-requires c κs = search needs
 
--- src/lib.rt:406:5
 segment-to-requires : tie.Need-segment-to-requires
 segment-to-requires c κs = search needs
 
--- src/lib.rt:402:1
 returns : tie.Need-returns
 unfolding segmentFrom
 returns c = rw (c .segment-to .ensures, c .before .next-stop .ensures)

@@ -4,28 +4,21 @@ use Rattle.trajectory.specs.Arrival.{arrivalOf}
 use Rattle.trajectory.specs.Walk.{beginning}
 use Rattle.segments.specs.declared.Segment.{Segment}
 use mathlib.Core.List.{List}
-use Prim.Native.Nat.{ℕ, _-_}
+use Prim.Native.Nat.{_-_}
 use mathlib.Core.Path.{ap, _∙_}
 use borrow.Author.Needs.{needs}
 use Rattle.trajectory.proofs.since_arrival.Statement.{statement}
 use Rattle.trajectory.proofs.since_arrival.Tie as tie
-use Rattle.trajectory.proofs.since_arrival.Reads as reads
-use Rattle.trajectory.proofs.since_arrival.Lts as lts
-use Rattle.trajectory.proofs.is_rising.Reads as is-rising-reads
-use Rattle.trajectory.proofs.since_last_stop.Reads as since-last-stop-reads
 
--- src/lib.rt:730:9
 is-rising-requires : tie.Need-is-rising-requires
 is-rising-requires c κs = search needs
 
--- src/lib.rt:732:5
 since-last-stop-requires : tie.Need-since-last-stop-requires
 unfolding beginning
 since-last-stop-requires c κs =
     let s = c .before .before in
     begins-short (s .args .u) (s .args .c) (c .before .is-rising .result) (c .before .is-rising .ensures) 0
 
--- src/lib.rt:727:1
 returns : tie.Need-returns
 returns c =
     let s = c .before .before .before in

@@ -5,24 +5,16 @@ use Rattle.trajectory.specs.Arrival.{arrivalOf, resting, pause}
 use Rattle.trajectory.specs.Walk.{segmentTo, segmentFrom, segmentsFrom}
 use Rattle.trajectory.specs.Ways.{headed, listsIn}
 use Rattle.course.proofs.Ahead.{next-past}
-use Rattle.course.proofs.Near.{Past, Short, short-past, gap-to}
+use Rattle.course.proofs.Near.{Past, Short, short-past}
 use Rattle.course.specs.Course.{toward, nextStop}
-use Rattle.segments.specs.Segments.{seconds}
 use Rattle.level.specs.Level.{grains}
 use borrow.Author.Needs.{needs}
 use native.Mathlib.Omega.{arith}
 use mathlib.Core.Bool.{false}
 use mathlib.Core.Path.{_≡_, refl, sym, ap, _∙_}
-use Prim.Native.Nat.{ℕ, _+_, _-_, _≤_, _<_}
+use Prim.Native.Nat.{_+_, _-_, _≤_}
 use Rattle.trajectory.proofs.since_last_stop.Statement.{statement}
 use Rattle.trajectory.proofs.since_last_stop.Tie as tie
-use Rattle.trajectory.proofs.since_last_stop.Reads as reads
-use Rattle.trajectory.proofs.since_last_stop.Lts as lts
-use Rattle.trajectory.proofs.moved.Reads as moved-reads
-use Rattle.trajectory.proofs.pause_at.Reads as pause-at-reads
-use Rattle.trajectory.proofs.rests_at.Reads as rests-at-reads
-use Rattle.trajectory.proofs.seconds_of.Reads as seconds-of-reads
-use Rattle.trajectory.proofs.segment_from.Reads as segment-from-reads
 
 abbrev Inv-loop : tie.InvT-loop
 Inv-loop u c up from k v₀ left₀ v left =
@@ -93,15 +85,12 @@ stepped c =
     c .before .moved .ensures ∙ ap (λ (g : Segment). toward h v (g .way)) (c .before .before .before .before .segment-from .ensures) ∙ to-stop h l t v (o .0) in
     rw (c .pause-at .ensures, e) (next-past h l t v (o .0) .1, arrives (c .before .before .before) .1)
 
--- src/lib.rt:705:5
 loop-holds : tie.Need-loop-holds Inv-loop μ-loop
 loop-holds c = (c .pre, refl, omega arith)
 
--- src/lib.rt:706:12
 rests-at-requires : tie.Need-rests-at-requires Inv-loop μ-loop
 rests-at-requires c κs = search needs
 
--- src/lib.rt:707:13
 returns : tie.Need-returns Inv-loop μ-loop
 returns c =
     let s = c .before .before .before .before in
@@ -110,25 +99,20 @@ returns c =
     at-rest (headed (s .args .up)) (listsIn (s .args .u) (s .args .c)) (grains (s .args .c .target)) (l .v) (l .inv .0) (sym (c .before .rests-at .ensures) ∙ c .if1 .taken) in
     omega (arith, l .inv .1)
 
--- src/lib.rt:709:13
 segment-from-requires : tie.Need-segment-from-requires Inv-loop μ-loop
 segment-from-requires c κs = search needs
 
--- src/lib.rt:710:13
 seconds-of-requires : tie.Need-seconds-of-requires Inv-loop μ-loop
 seconds-of-requires c κs = rw (c .segment-from .ensures) (on (c .before) .1)
 
--- src/lib.rt:711:12
 cast-if2 : tie.Need-cast-if2 Inv-loop μ-loop
 cast-if2 c = omega arith
 
--- src/lib.rt:712:13
 returns-2 : tie.Need-returns-2 Inv-loop μ-loop
 returns-2 c =
     let lo = c .before .before .before .before .before .before .loop in
     omega (arith, arrives (c .before) .1, lo .inv .1)
 
--- src/lib.rt:714:13
 moved-requires : tie.Need-moved-requires Inv-loop μ-loop
 moved-requires c κs =
     let s = c .before .before .before .before .before .before .before in
@@ -137,48 +121,38 @@ moved-requires c κs =
     rw (c .before .before .segment-from .ensures)
     (reaches-stop (headed (s .args .up)) (listsIn (s .args .u) (s .args .c)) (grains (s .args .c .target)) (lo .v) (o .0) (grains-low _ (s .good .1 .0 .1 .1 .1 .1 .0 .1)))
 
--- src/lib.rt:715:13
 pause-at-requires : tie.Need-pause-at-requires Inv-loop μ-loop
 pause-at-requires c κs = search needs
 
--- src/lib.rt:716:27
 cast-rest : tie.Need-cast-rest Inv-loop μ-loop
 cast-rest c = omega arith
 
--- src/lib.rt:716:20
 sub-rest : tie.Need-sub-rest Inv-loop μ-loop
 sub-rest c = omega arith
 
--- src/lib.rt:717:12
 cast-if3 : tie.Need-cast-if3 Inv-loop μ-loop
 cast-if3 c = omega arith
 
--- src/lib.rt:718:13
 returns-3 : tie.Need-returns-3 Inv-loop μ-loop
 returns-3 c =
     let lo = c .before .before .before .before .before .before .before .before .before .loop in
     omega (arith, stepped (c .before) .1, lo .inv .1)
 
--- src/lib.rt:720:23
 cast-left : tie.Need-cast-left Inv-loop μ-loop
 cast-left c = omega arith
 
--- src/lib.rt:720:16
 sub-left : tie.Need-sub-left Inv-loop μ-loop
 sub-left c = omega arith
 
--- src/lib.rt:705:5
 loop-less : tie.Need-loop-less Inv-loop μ-loop
 loop-less c = omega (arith, arrives (c .before .before .before .before) .0)
 
--- src/lib.rt:705:5
 loop-again : tie.Need-loop-again Inv-loop μ-loop
 loop-again c =
     let lo = c .before .before .before .before .before .before .before .before .before .loop in
     let g = stepped (c .before) in
     (g .0, omega (arith, g .1, lo .inv .1), omega (arith, lo .inv .2))
 
--- src/lib.rt:699:1
 returns-4 : tie.Need-returns-4 Inv-loop μ-loop
 returns-4 c =
     let lo = c .before .loop in

@@ -1,31 +1,23 @@
 use Rattle.trajectory.proofs.Nexts.{two-levels}
-use Rattle.trajectory.specs.Ways.{headed, lower}
+use Rattle.trajectory.specs.Ways.{lower}
 use Rattle.course.specs.Course.{rising}
 use Rattle.records.specs.declared.Trigger.{Trigger}
 use borrow.Author.Needs.{needs}
 use Rattle.trajectory.proofs.soak_stops.Statement.{statement}
 use Rattle.trajectory.proofs.soak_stops.Tie as tie
-use Rattle.trajectory.proofs.soak_stops.Reads as reads
-use Rattle.trajectory.proofs.soak_stops.Lts as lts
-use Rattle.trajectory.proofs.soak_stop.Reads as soak-stop-reads
 
--- src/lib.rt:330:31
 array-copy-out-soak-stop : tie.Need-array-copy-out-soak-stop
 array-copy-out-soak-stop c = search needs
 
--- src/lib.rt:330:9
 soak-stop-requires : tie.Need-soak-stop-requires
 soak-stop-requires c κs = search needs
 
--- src/lib.rt:331:23
 array-copy-out-soak-stop-2 : tie.Need-array-copy-out-soak-stop-2
 array-copy-out-soak-stop-2 c = search needs
 
--- src/lib.rt:331:5
 soak-stop-requires-2 : tie.Need-soak-stop-requires-2
 soak-stop-requires-2 c κs = search needs
 
--- src/lib.rt:327:1
 returns : tie.Need-returns
 returns c =
     let s = c .before .before .before .before in

@@ -7,20 +7,13 @@ use native.Mathlib.Omega.{arith}
 use borrow.Author.Needs.{needs}
 use Rattle.trajectory.proofs.soaked.Statement.{statement}
 use Rattle.trajectory.proofs.soaked.Tie as tie
-use Rattle.trajectory.proofs.soaked.Reads as reads
-use Rattle.trajectory.proofs.soaked.Lts as lts
-use Rattle.trajectory.proofs.column_for.Reads as column-for-reads
-use Rattle.trajectory.proofs.held_two.Reads as held-two-reads
 
--- src/lib.rt:200:13
 column-for-requires : tie.Need-column-for-requires
 column-for-requires c κs = search needs
 
--- src/lib.rt:202:9
 held-two-requires : tie.Need-held-two-requires
 held-two-requires c κs = search needs
 
--- src/lib.rt:202:9
 returns : tie.Need-returns
 unfolding listsOf
 returns c =
@@ -28,7 +21,6 @@ returns c =
     rw (c .before .before .before .if1 .taken)
     (c .held-two .ensures .0 ∙ (rw (c .before .before .column-for .ensures) (sym (hold-soak (listsIn (s .args .u) (s .args .c)) (grains (s .args .c .target)) (s .args .w) (s .pre .1) (s .pre .0)))), omega arith)
 
--- src/lib.rt:194:1
 returns-2 : tie.Need-returns-2
 unfolding listsOf
 returns-2 c =

@@ -3,39 +3,25 @@ use Rattle.level.specs.Level.{grains}
 use borrow.Author.Needs.{needs}
 use Rattle.trajectory.proofs.stop_falling.Statement.{statement}
 use Rattle.trajectory.proofs.stop_falling.Tie as tie
-use Rattle.trajectory.proofs.stop_falling.Reads as reads
-use Rattle.trajectory.proofs.stop_falling.Lts as lts
-use Rattle.trajectory.proofs.deload_break.Reads as deload-break-reads
-use Rattle.trajectory.proofs.dwell_stops.Reads as dwell-stops-reads
-use Rattle.trajectory.proofs.grains_of.Reads as grains-of-reads
-use Rattle.trajectory.proofs.nearer.Reads as nearer-reads
-use Rattle.trajectory.proofs.ramp_breaks.Reads as ramp-breaks-reads
 
--- src/lib.rt:355:9
 grains-of-requires : tie.Need-grains-of-requires
 grains-of-requires c κs = search needs
 
--- src/lib.rt:356:9
 grains-of-requires-2 : tie.Need-grains-of-requires-2
 grains-of-requires-2 c κs = search needs
 
--- src/lib.rt:358:9
 dwell-stops-requires : tie.Need-dwell-stops-requires
 dwell-stops-requires c κs = search needs
 
--- src/lib.rt:361:9
 deload-break-requires : tie.Need-deload-break-requires
 deload-break-requires c κs = search needs
 
--- src/lib.rt:364:9
 ramp-breaks-requires : tie.Need-ramp-breaks-requires
 ramp-breaks-requires c κs = search needs
 
--- src/lib.rt:365:5
 nearer-requires : tie.Need-nearer-requires
 nearer-requires c κs = search needs
 
--- src/lib.rt:352:1
 returns : tie.Need-returns
 returns c =
     let s = c .before .before .before .before .before .before .before .before .before .before .before in

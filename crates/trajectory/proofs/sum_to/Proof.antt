@@ -1,18 +1,14 @@
 use Rattle.trajectory.proofs.Areas.{twice-on, twice-here}
 use Rattle.trajectory.proofs.Goes.{Goes, onward-goes, standing-on, standing-here}
-use Rattle.trajectory.specs.Walk.{onward, standing, twiceTo}
+use Rattle.trajectory.specs.Walk.{standing, twiceTo}
 use Rattle.trajectory.specs.Ways.{headed, listsIn}
 use Rattle.course.proofs.Near.{Short}
 use Rattle.level.specs.Level.{grains}
 use native.Mathlib.Omega.{arith}
 use Prim.Native.Nat.{_≤_, _<_, _+_, _*_, _-_}
-use mathlib.Core.Path.{_≡_, refl, sym, ap, _∙_}
+use mathlib.Core.Path.{_≡_, refl, sym, _∙_}
 use Rattle.trajectory.proofs.sum_to.Statement.{statement}
 use Rattle.trajectory.proofs.sum_to.Tie as tie
-use Rattle.trajectory.proofs.sum_to.Reads as reads
-use Rattle.trajectory.proofs.sum_to.Lts as lts
-use Rattle.trajectory.proofs.twice_between.Reads as twice-between-reads
-use Rattle.trajectory.proofs.walk_on.Reads as walk-on-reads
 
 abbrev Inv-loop : tie.InvT-loop
 Inv-loop u c up n p₀ twice₀ p twice =
@@ -38,15 +34,12 @@ low c =
     let k : c .before .before .before .before .args .c .target < 4294967296 = c .before .before .before .before .good .1 .0 .1 .1 .1 .1 .0 .1 in
     omega (arith, gone c .low, c .before .before .before .loop .inv .3)
 
--- src/lib.rt:637:5
 loop-holds : tie.Need-loop-holds Inv-loop μ-loop
 loop-holds c = (omega arith, omega arith, c .pre .1 .0, omega arith, refl, omega arith, omega arith)
 
--- src/lib.rt:638:13
 walk-on-requires : tie.Need-walk-on-requires Inv-loop μ-loop
 walk-on-requires c κs = (c .if1 .taken, c .before .before .loop .inv .2)
 
--- src/lib.rt:639:18
 twice-between-requires : tie.Need-twice-between-requires Inv-loop μ-loop
 twice-between-requires c κs =
     let g = gone c in
@@ -54,18 +47,15 @@ twice-between-requires c κs =
     let s = c .before .before .before .before in
     ((omega (arith, g .later), omega (arith, g .within, s .pre .0 .1)), (inv .3, low c))
 
--- src/lib.rt:639:9
 add-twice : tie.Need-add-twice Inv-loop μ-loop
 add-twice c =
     let g = gone (c .before) in
     let inv = c .before .before .before .before .loop .inv in
     omega (arith, g .later, g .within, inv .0, inv .6, c .twice-between .ensures .1, c .before .before .before .before .before .pre .0 .1)
 
--- src/lib.rt:637:5
 loop-less : tie.Need-loop-less Inv-loop μ-loop
 loop-less c = let g = gone (c .before) in omega (arith, g .later, g .within)
 
--- src/lib.rt:637:5
 loop-again : tie.Need-loop-again Inv-loop μ-loop
 loop-again c =
     let g = gone (c .before) in
@@ -79,7 +69,6 @@ loop-again c =
       omega (arith, g .later, inv .0, inv .6, c .twice-between .ensures .1),
     )
 
--- src/lib.rt:629:1
 returns : tie.Need-returns Inv-loop μ-loop
 returns c =
     let l = c .before .before .loop in
@@ -90,6 +79,8 @@ returns c =
       sym (standing-here h ls t (s .args .n) (l .p) (omega arith)) ∙ l .inv .4,
       omega (arith, twice-here h ls t (s .args .n) (l .p) (omega arith), l .inv .5),
       omega (arith, l .inv .6, l .inv .1),
+      l .inv .2,
+      l .inv .3,
     )
 
 pub sum-to-spec : {M : Type 1} → statement M

@@ -1,47 +1,35 @@
 use Rattle.trajectory.proofs.Areas.{no-area, twice-is}
 use Rattle.trajectory.proofs.Courses.{begins-short}
-use Rattle.trajectory.specs.Walk.{beginning, standing, twiceTo}
-use Rattle.trajectory.specs.Ways.{headed, listsIn}
+use Rattle.trajectory.specs.Walk.{beginning, standing}
 use Rattle.trajectory.specs.declared.Place.{Place}
 use Rattle.course.specs.Course.{levelAt, trajectoryOf}
 use Rattle.segments.specs.Segments.{area}
 use Rattle.level.specs.Level.{grains}
 use native.Mathlib.Nat.{sub-zero}
 use native.Mathlib.Omega.{arith}
-use mathlib.Core.Path.{_≡_, refl, sym, ap, _∙_}
-use Prim.Native.Nat.{ℕ, _<_, _≤_, _-_, max}
+use mathlib.Core.Path.{_≡_, sym, ap, _∙_}
+use Prim.Native.Nat.{ℕ, _<_, _-_}
 use borrow.Author.Needs.{needs}
 use Rattle.trajectory.proofs.twice_in.Statement.{statement}
 use Rattle.trajectory.proofs.twice_in.Tie as tie
-use Rattle.trajectory.proofs.twice_in.Reads as reads
-use Rattle.trajectory.proofs.twice_in.Lts as lts
-use Rattle.trajectory.proofs.begin_at.Reads as begin-at-reads
-use Rattle.trajectory.proofs.is_rising.Reads as is-rising-reads
-use Rattle.trajectory.proofs.sum_to.Reads as sum-to-reads
-use Rattle.trajectory.proofs.walk_to.Reads as walk-to-reads
 
--- src/lib.rt:653:9
 returns : tie.Need-returns
 returns c =
     let s = c .before in
     (sym (no-area (levelAt (trajectoryOf (s .args .u) (s .args .c))) (s .args .from) (s .args .to - s .args .from) (omega arith)), omega arith)
 
--- src/lib.rt:655:9
 is-rising-requires : tie.Need-is-rising-requires
 is-rising-requires c κs = search needs
 
--- src/lib.rt:656:9
 begin-at-requires : tie.Need-begin-at-requires
 begin-at-requires c κs = search needs
 
--- src/lib.rt:657:9
 walk-to-requires : tie.Need-walk-to-requires
 unfolding beginning
 walk-to-requires c κs =
     let s = c .before .before .before in
     rw (c .begin-at .ensures) (omega arith, begins-short (s .args .u) (s .args .c) (c .before .is-rising .result) (c .before .is-rising .ensures) 0)
 
--- src/lib.rt:658:9
 sum-to-requires : tie.Need-sum-to-requires
 unfolding standing grains beginning
 sum-to-requires c κs =
@@ -51,7 +39,6 @@ sum-to-requires c κs =
     let f : c .before .begin-at .result .level ≡ s .args .c .start .grains = ap (λ (p : Place). p .level) (c .before .begin-at .ensures) in
     ((omega arith, s .pre .0), (c .walk-to .ensures .1, omega (arith, c .walk-to .ensures .2)))
 
--- src/lib.rt:647:1
 returns-2 : tie.Need-returns-2
 unfolding standing
 returns-2 c =

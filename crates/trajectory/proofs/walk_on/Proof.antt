@@ -3,47 +3,33 @@ use Rattle.trajectory.specs.Ways.{headed, listsIn}
 use Rattle.course.proofs.Near.{short-past}
 use Rattle.level.specs.Level.{grains}
 use native.Mathlib.Omega.{arith}
-use mathlib.Core.Path.{_∙_, _≡_, sym}
+use mathlib.Core.Path.{_∙_}
 use borrow.Author.Needs.{needs}
 use Rattle.trajectory.proofs.walk_on.Statement.{statement}
 use Rattle.trajectory.proofs.walk_on.Tie as tie
-use Rattle.trajectory.proofs.walk_on.Reads as reads
-use Rattle.trajectory.proofs.walk_on.Lts as lts
-use Rattle.trajectory.proofs.after_hold.Reads as after-hold-reads
-use Rattle.trajectory.proofs.after_rest.Reads as after-rest-reads
-use Rattle.trajectory.proofs.along_segment.Reads as along-segment-reads
-use Rattle.trajectory.proofs.grains_of.Reads as grains-of-reads
-use Rattle.trajectory.proofs.segment_from.Reads as segment-from-reads
 
--- src/lib.rt:536:9
 after-hold-requires : tie.Need-after-hold-requires
 after-hold-requires c κs = search needs
 
--- src/lib.rt:536:9
 returns : tie.Need-returns
 returns c =
     let s = c .before .before .before in
     c .after-hold .ensures ∙ onward-hold (headed (s .args .up)) (listsIn (s .args .u) (s .args .c)) (grains (s .args .c .target)) (s .args .n) (s .args .p) (c .before .if1 .taken)
 
--- src/lib.rt:538:9
 grains-of-requires : tie.Need-grains-of-requires
 grains-of-requires c κs = search needs
 
--- src/lib.rt:540:9
 after-rest-requires : tie.Need-after-rest-requires
 after-rest-requires c κs = search needs
 
--- src/lib.rt:540:9
 returns-2 : tie.Need-returns-2
 returns-2 c =
     let s = c .before .before .before .before .before .before in
     c .after-rest .ensures ∙ onward-rest (headed (s .args .up)) (listsIn (s .args .u) (s .args .c)) (grains (s .args .c .target)) (s .args .n) (s .args .p) (c .before .before .before .before .if1 .left) (omega arith)
 
--- src/lib.rt:542:9
 segment-from-requires : tie.Need-segment-from-requires
 segment-from-requires c κs = search needs
 
--- src/lib.rt:543:5
 along-segment-requires : tie.Need-along-segment-requires
 along-segment-requires c κs =
     let s = c .before .before .before .before .before .before in
@@ -51,7 +37,6 @@ along-segment-requires c κs =
     let t = grains (s .args .c .target) in
     (s .pre .0, rw (c .segment-from .ensures) (reaches-stop h (listsIn (s .args .u) (s .args .c)) t (s .args .p .level) (short-past h t (s .args .p .level) (s .pre .1) (λ e. omega arith)) (omega arith)))
 
--- src/lib.rt:530:1
 returns-3 : tie.Need-returns-3
 returns-3 c =
     let s = c .before .before .before .before .before .before .before in

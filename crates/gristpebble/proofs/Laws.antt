@@ -1,0 +1,106 @@
+-- Laws of a run of records.
+-- Assumes nothing.
+use Prim.Native.Nat.{ℕ, zero, suc, _+_, _*_, _-_, _<_, _≤_}
+use native.Mathlib.Omega.{arith}
+use mathlib.Core.Path.{_≡_, refl, sym, ap, _∙_}
+use mathlib.Core.List.{List}
+use mathlib.Core.Bool.{Bool, true, false}
+use lib.ListN.{length, take, drop, length-drop}
+use lib.Seq.{take-all, drop-drop}
+use Rattle.records.specs.declared.Answer.{Answer}
+use Rattle.records.specs.declared.Answer.the-variants.{Accepted, Refused}
+use Rattle.records.specs.declared.Refusal.{Refusal}
+use Rattle.records.specs.declared.Refusal.the-variants.{TooFewBytes}
+use Rattle.records.specs.Answers.{refusalNumber}
+use Rattle.profile.specs.Profile.{paper}
+use Rattle.day.specs.declared.Day.{Day}
+use Rattle.day.specs.declared.Stepped.{Stepped}
+use Rattle.day.specs.declared.Ran.{Ran}
+use Rattle.day.specs.Day.{empty, foundIn}
+use Rattle.day.specs.Step.{stepOf}
+use Rattle.listing.specs.declared.Listed.{Listed}
+use Rattle.listing.specs.Listing.{listOf, lentAfter}
+use Rattle.gristpebble.specs.Listed.{inOne, listResult, afterRun, lentRun, listedResult, listedLent}
+use Rattle.taking.proofs.Laws.{step-used}
+use Rattle.contract.specs.Program.{runBy, ranBy}
+
+pub tail-is : (n : ℕ) (s : List ℕ) → take (length s - n) (drop n s) ≡ drop n s
+tail-is n s = take-all (length s - n) (drop n s) (simp length-drop (omega arith))
+
+-- what n records at most come to, from the place at on
+abbrev pub rest : ℕ → Day → List ℕ → ℕ → Ran
+rest n d s at = runBy (foundIn paper) n d (drop at s)
+
+on : (n : ℕ) (d : Day) (s : List ℕ) (at : ℕ) → 0 < n → stepOf d (drop at s) .answer ≡ Accepted → stepOf d (drop at s) .day .closed ≡ false →
+    rest n d s at ≡ rest (n - 1) (stepOf d (drop at s) .day) s (at + stepOf d (drop at s) .used)
+unfolding runBy
+on zero d s at p e c = absurd (omega arith)
+on (suc m) d s at p e c =
+    let q : suc m - 1 ≡ m = omega arith in
+    rw (q, e, runBy, c) (ap (runBy (foundIn paper) m (stepOf d (drop at s) .day)) (drop-drop (stepOf d (drop at s) .used) at s))
+
+stop : (n : ℕ) (d : Day) (s : List ℕ) (at : ℕ) → 0 < n → (r : Refusal) → stepOf d (drop at s) .answer ≡ Refused r →
+    record { answer = Refused r; day = stepOf d (drop at s) .day } ≡ rest n d s at
+unfolding runBy
+stop zero d s at p r e = absurd (omega arith)
+stop (suc m) d s at p r e = rw (e, runBy) refl
+
+shut : (n : ℕ) (d : Day) (s : List ℕ) (at : ℕ) → 0 < n → stepOf d (drop at s) .answer ≡ Accepted → stepOf d (drop at s) .day .closed ≡ true →
+    record { answer = Accepted; day = stepOf d (drop at s) .day } ≡ rest n d s at
+unfolding runBy
+shut zero d s at p e c = absurd (omega arith)
+shut (suc m) d s at p e c = rw (e, runBy, c) refl
+
+module _ (n : ℕ) (d : Day) (s : List ℕ) (at : ℕ) (st : Stepped) (made : st ≡ stepOf d (take (length s - at) (drop at s))) where
+  is-step : st ≡ stepOf d (drop at s)
+  is-step = made ∙ ap (stepOf d) (tail-is at s)
+
+  pub used-within : at ≤ length s → at + st .used ≤ length s
+  used-within h = omega (arith, ap (λ (r : Stepped). r .used) is-step, step-used (foundIn paper) d (drop at s), length-drop at s)
+
+  pub run-on : 0 < n → st .answer ≡ Accepted → st .day .closed ≡ false → rest n d s at ≡ rest (n - 1) (st .day) s (at + st .used)
+  run-on p e c =
+      on n d s at p (sym (ap (λ (r : Stepped). r .answer) is-step) ∙ e) (sym (ap (λ (r : Stepped). r .day .closed) is-step) ∙ c)
+      ∙ ap (λ (r : Stepped). rest (n - 1) (r .day) s (at + r .used)) (sym is-step)
+
+  pub run-stop : 0 < n → (r : Refusal) → st .answer ≡ Refused r → record { answer = Refused r; day = st .day } ≡ rest n d s at
+  run-stop p r e =
+      ap (λ (t : Stepped). record { answer = Refused r; day = t .day }) is-step ∙ stop n d s at p r (sym (ap (λ (t : Stepped). t .answer) is-step) ∙ e)
+
+  pub run-shut : 0 < n → st .answer ≡ Accepted → st .day .closed ≡ true → record { answer = Accepted; day = st .day } ≡ rest n d s at
+  run-shut p e c =
+      ap (λ (t : Stepped). record { answer = Accepted; day = t .day }) is-step
+      ∙ shut n d s at p (sym (ap (λ (r : Stepped). r .answer) is-step) ∙ e) (sym (ap (λ (r : Stepped). r .day .closed) is-step) ∙ c)
+
+pub run-first : (d : Day) (s : List ℕ) → d ≡ empty → rest (length s) d s 0 ≡ ranBy (foundIn paper) s
+unfolding ranBy
+run-first d s e = ap (λ (x : Day). runBy (foundIn paper) (length s) x s) e
+
+pub run-none : (d : Day) (s : List ℕ) (at : ℕ) → record { answer = Refused TooFewBytes; day = d } ≡ rest 0 d s at
+unfolding runBy
+run-none d s at = refl
+
+-- ---- the listing's result
+module _ (d : Day) (o : List ℕ) (l : Listed) (made : l ≡ listOf d o) where
+  pub list-accepted : l .answer ≡ Accepted → l .count ≡ listResult d o
+  list-accepted a =
+      ap (λ (x : Listed). x .count) made ∙ ap (λ (x : Answer). inOne x (listOf d o .count)) (sym (sym (ap (λ (x : Listed). x .answer) made) ∙ a))
+
+  pub list-refused : {r : Refusal} → l .answer ≡ Refused r → refusalNumber r * 4294967296 ≡ listResult d o
+  list-refused a = ap (λ (x : Answer). inOne x (listOf d o .count)) (sym (sym (ap (λ (x : Listed). x .answer) made) ∙ a))
+
+-- ---- a run's result
+module _ (s o : List ℕ) (r : Ran) (made : r ≡ ranBy (foundIn paper) s) where
+  result-is : (a : Answer) → r .answer ≡ a → afterRun a (r .day) o ≡ listedResult s o
+  unfolding listedResult
+  result-is a e = ap (λ (x : Answer). afterRun x (r .day) o) (sym e) ∙ ap (λ (x : Ran). afterRun (x .answer) (x .day) o) made
+
+  lent-is : (a : Answer) → r .answer ≡ a → lentRun a (r .day) o ≡ listedLent s o
+  unfolding listedLent
+  lent-is a e = ap (λ (x : Answer). lentRun x (r .day) o) (sym e) ∙ ap (λ (x : Ran). lentRun (x .answer) (x .day) o) made
+
+  pub run-listed : r .answer ≡ Accepted → (listResult (r .day) o ≡ listedResult s o) × (lentAfter (r .day) o ≡ listedLent s o)
+  run-listed e = (result-is Accepted e, lent-is Accepted e)
+
+  pub run-refused : {x : Refusal} → r .answer ≡ Refused x → (refusalNumber x * 4294967296 ≡ listedResult s o) × (o ≡ listedLent s o)
+  run-refused {x} e = (result-is (Refused x) e, lent-is (Refused x) e)

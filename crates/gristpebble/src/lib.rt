@@ -1,0 +1,81 @@
+// The library for others: records in, the listing out.
+ghost use mathlib.Core.Path.{_≡_};
+ghost use Prim.Native.Nat.{ℕ, _+_, _*_, _<_, _≤_};
+ghost use lib.ListN.{length, take, drop};
+ghost use Rattle.profile.specs.Profile.{paper};
+ghost use Rattle.day.specs.Day.{foundIn};
+ghost use Rattle.contract.specs.Program.{ranBy};
+ghost use Rattle.records.specs.Answers.{refusalNumber};
+ghost use Rattle.listing.specs.Listing.{lentAfter};
+ghost use Rattle.gristpebble.specs.Listed.{listResult, listedResult, listedLent};
+use day::Ran;
+use records::Answer;
+use records::Refusal;
+
+// Records from the empty day on, up to close or the first refusal.
+pub fn run(input: &[u8]) -> Ran
+    ensures { λ r. ⌜ r ≡ ranBy (foundIn paper) (now (input .entry)) ⌝ }
+{
+    let mut d = taking::empty_day();
+    let mut at: usize = 0;
+    let mut n = input.len();
+    while 0 < n {
+        let st = taking::step(d, &input[at..]);
+        let a = st.answer;
+        match a {
+            Answer::Accepted => {
+                let next = st.day;
+                let used = st.used;
+                if next.closed {
+                    let answer = Answer::Accepted;
+                    return Ran { answer, day: next };
+                }
+                d = next;
+                at += used;
+            }
+            Answer::Refused(r) => {
+                let day = st.day;
+                let answer = Answer::Refused(r);
+                return Ran { answer, day };
+            }
+        }
+        n -= 1;
+    }
+    let answer = Answer::Refused(Refusal::TooFewBytes);
+    Ran { answer, day: d }
+}
+
+// The number of a refusal, as the result of a call.
+fn refusal_result(r: Refusal) -> u64
+    ensures { λ n. ⌜ n ≡ refusalNumber r * 4294967296 ⌝ }
+{
+    let number = records::refusal_number(r);
+    (number as u64) * 4294967296
+}
+
+// The listing of a day into the lent slice, and its result.
+fn list_day(day: day::Day, out: &mut [u8]) -> u64
+    ensures { λ r. ⌜ (r ≡ listResult day (now (out .entry))) × (now (out .exit) ≡ lentAfter day (now (out .entry))) ⌝ }
+{
+    let l = printing::list(day, out);
+    let a = l.answer;
+    match a {
+        Answer::Accepted => l.count as u64,
+        Answer::Refused(r) => refusal_result(r),
+    }
+}
+
+// The records of `input` up to close are taken, and the listing is written to the front of `out`. The result is the count
+// of bytes written, or, at a refusal, its number times 2^32; then `out` is as it was.
+#[no_mangle]
+pub extern "C" fn gristpebble_listing(input: &[u8], out: &mut [u8]) -> u64
+    ensures { λ r. ⌜ (r ≡ listedResult (now (input .entry)) (now (out .entry))) × (now (out .exit) ≡ listedLent (now (input .entry)) (now (out .entry))) ⌝ }
+{
+    let ran = run(input);
+    let a = ran.answer;
+    let day = ran.day;
+    match a {
+        Answer::Accepted => list_day(day, out),
+        Answer::Refused(r) => refusal_result(r),
+    }
+}

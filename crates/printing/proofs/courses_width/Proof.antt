@@ -1,0 +1,97 @@
+use Prim.Native.Nat.{_+_, _*_, _-_, _≤_}
+use mathlib.Core.Path.{_≡_, ap}
+use native.Mathlib.Omega.{arith}
+use borrow.Author.Needs.{needs}
+use lib.ListN.{length, getD}
+use Rattle.course.specs.declared.Course.{Course}
+use Rattle.day.specs.Day.{noCourse}
+use Rattle.printing.specs.Rest.{courseLines}
+use Rattle.printing.proofs.Laws.{left-shorter, courses-left, courses-more, courses-none}
+use Rattle.printing.proofs.courses_width.Statement.{statement}
+use Rattle.printing.proofs.courses_width.Tie as tie
+use Rattle.printing.proofs.courses_width.Reads as reads
+use Rattle.printing.proofs.courses_width.Lts as lts
+use Rattle.printing.proofs.at_most.Reads as at-most-reads
+use Rattle.printing.proofs.course_width.Reads as course-width-reads
+use Rattle.printing.proofs.end_of.Reads as end-of-reads
+
+abbrev Inv-loop : tie.InvT-loop
+Inv-loop u started cs n width₀ i₀ width i = (i ≤ n) × (width + length (courses-left u cs started i) ≡ length (courses-left u cs started 0)) × (width ≤ 369367187370 * i)
+
+abbrev μ-loop : tie.MeasureT-loop
+μ-loop u started cs n width₀ i₀ width i = n - i
+
+-- src/lib.rt:135:9
+at-most-requires : tie.Need-at-most-requires Inv-loop μ-loop
+at-most-requires c κs = search needs
+
+-- src/lib.rt:138:5
+loop-holds : tie.Need-loop-holds Inv-loop μ-loop
+loop-holds c = (omega arith, omega arith, omega arith)
+
+-- src/lib.rt:139:13
+end-of-requires : tie.Need-end-of-requires Inv-loop μ-loop
+end-of-requires c κs = omega arith
+
+-- src/lib.rt:140:17
+mul-c : tie.Need-mul-c Inv-loop μ-loop
+mul-c c = omega arith
+
+-- src/lib.rt:140:17
+array-copy-out-c : tie.Need-array-copy-out-c Inv-loop μ-loop
+array-copy-out-c c = omega arith
+
+-- src/lib.rt:141:18
+course-width-requires : tie.Need-course-width-requires Inv-loop μ-loop
+course-width-requires c κs = search needs
+
+-- src/lib.rt:141:9
+add-width : tie.Need-add-width Inv-loop μ-loop
+add-width c = omega arith
+
+-- src/lib.rt:142:9
+add-i : tie.Need-add-i Inv-loop μ-loop
+add-i c = omega arith
+
+-- src/lib.rt:138:5
+loop-less : tie.Need-loop-less Inv-loop μ-loop
+loop-less c = omega arith
+
+-- src/lib.rt:138:5
+loop-again : tie.Need-loop-again Inv-loop μ-loop
+loop-again c =
+    let s = c .before .before .before .before .before .before in
+    let a = s .args in
+    let l = c .before .before .before .before .loop in
+    let end = c .before .before .end-of in
+    let d : Course = getD (a .t2) (l .i) noCourse in
+    let left = courses-left (a .u) (a .t2) (a .started) in
+    let e = courses-more (a .u) (a .t2) (a .started) (l .i) (end .result) (omega (arith, s .good .1 .0 .1 .0 .1)) (end .ensures) in
+    let r = left-shorter (left (l .i)) (courseLines (a .u) d (end .result)) (left (l .i + 1)) e in
+    (omega arith, omega (arith, r, c .course-width .ensures .0, l .inv .1), omega (arith, c .course-width .ensures .1, l .inv .2))
+
+-- src/lib.rt:132:1
+returns : tie.Need-returns Inv-loop μ-loop
+returns c =
+    let s = c .before .before .before in
+    let a = s .args in
+    let l = c .before .loop in
+    (omega (arith, l .inv .1, ap length (courses-none (a .u) (a .t2) (a .started) (l .i) (omega (arith, s .good .1 .0 .1 .0 .1)))), omega (arith, l .inv .2))
+
+pub courses-width-spec : {M : Type 1} → statement M
+courses-width-spec =
+    tie.close
+    (tie.spec
+    Inv-loop
+    μ-loop
+    at-most-requires
+    loop-holds
+    end-of-requires
+    mul-c
+    array-copy-out-c
+    course-width-requires
+    add-width
+    add-i
+    loop-less
+    loop-again
+    returns)

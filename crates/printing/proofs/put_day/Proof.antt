@@ -1,0 +1,89 @@
+use Prim.Native.Nat.{ℕ, _+_, _≤_}
+use mathlib.Core.Path.{_≡_}
+use mathlib.Core.List.{List}
+use native.Mathlib.Omega.{arith}
+use borrow.Author.Needs.{needs}
+use lib.ListN.{length}
+use Rattle.lines.proofs.Laws.{part-length}
+use Rattle.day.specs.declared.Day.{Day}
+use Rattle.listing.specs.Listing.{printedDay}
+use Rattle.printing.specs.Rest.{fateLines, fromS}
+use Rattle.printing.proofs.Whole.{first-room, second-room, both-laid, from-f}
+use Rattle.printing.proofs.put_day.Statement.{statement}
+use Rattle.printing.proofs.put_day.Tie as tie
+use Rattle.printing.proofs.put_day.Reads as reads
+use Rattle.printing.proofs.put_day.Lts as lts
+use Rattle.printing.proofs.put_fates.Reads as put-fates-reads
+use Rattle.printing.proofs.put_from_s.Reads as put-from-s-reads
+
+-- the two parts
+abbrev front : Day → List ℕ
+front d = fateLines (d .count) (d .fates)
+
+abbrev back : Day → List ℕ
+back d = fromS d
+
+-- the second has room after the first
+room : (c : tie.After-slice-known2) →
+    let s = c .before .before .before .before .before .before in
+    let p = c .before .before .put-fates in
+    (length (p .last .0) ≡ length (s .args .out .now)) × (p .result + length (back (s .args .day)) ≤ length (p .last .0))
+room c =
+    let s = c .before .before .before .before .before .before in
+    let p = c .before .before .put-fates in
+    second-room (printedDay (s .args .day)) (front (s .args .day)) (back (s .args .day)) (s .args .out .now) (s .pre) (from-f (s .args .day)) (p .last .0) (p .result) (p .ensures .0) (p .ensures .1)
+
+-- src/lib.rt:307:9
+put-fates-requires : tie.Need-put-fates-requires
+put-fates-requires c κs =
+    let s = c .before .before .before in
+    first-room (printedDay (s .args .day)) (front (s .args .day)) (back (s .args .day)) (s .args .out .now) (s .pre) (from-f (s .args .day))
+
+-- src/lib.rt:308:24
+sub-put-from-s : tie.Need-sub-put-from-s
+sub-put-from-s c = omega (arith, room c)
+
+-- src/lib.rt:308:24
+part-put-from-s-start : tie.Need-part-put-from-s-start
+part-put-from-s-start c = omega (arith, room c)
+
+-- src/lib.rt:308:24
+part-put-from-s-end : tie.Need-part-put-from-s-end
+part-put-from-s-end c = search needs
+
+-- src/lib.rt:308:9
+put-from-s-requires : tie.Need-put-from-s-requires
+put-from-s-requires c κs =
+    let p = c .before .before .before .put-fates in
+    omega (arith, part-length (p .result) (p .last .0), room (c .before))
+
+-- src/lib.rt:309:5
+add-result : tie.Need-add-result
+add-result c = omega (arith, room (c .before .before .before .before), c .before .before .put-from-s .ensures .0)
+
+-- src/lib.rt:302:1
+same-length : tie.Need-same-length
+same-length c = search needs
+
+-- src/lib.rt:302:1
+returns : tie.Need-returns
+returns c =
+    let w = c .before .before .before .before in
+    let s = w .before .before .before .before .before .before in
+    let d = s .args .day in
+    let p = w .before .before .put-fates in
+    let q = c .before .before .put-from-s in
+    both-laid (printedDay d) (front d) (back d) (s .args .out .now) (s .pre) (from-f d) (p .last .0) (q .last .0) (p .result) (q .result) (p .ensures .0) (p .ensures .1) (q .ensures .0) (q .ensures .1)
+
+pub put-day-spec : {M : Type 1} → statement M
+put-day-spec =
+    tie.close
+    (tie.spec
+    put-fates-requires
+    sub-put-from-s
+    part-put-from-s-start
+    part-put-from-s-end
+    put-from-s-requires
+    add-result
+    same-length
+    returns)
