@@ -226,10 +226,10 @@ fn put_quantities(out: &mut [u8], sums: [u64; 49]) -> usize
     let mut at: usize = 0;
     let mut i: usize = 0;
     while i < 48 {
-        let kw = quantity_at(sums, i);
+        let quantity = quantity_at(sums, i);
         let first = i + 1;
-        let last = run_end(sums, kw, first);
-        let w = lines::put_q(&mut out[at..], first as u64, last as u64, kw);
+        let last = run_end(sums, quantity, first);
+        let w = lines::put_q(&mut out[at..], first as u64, last as u64, quantity);
         at += w;
         i = last;
     }

@@ -21,43 +21,43 @@ Inv-loop u started cs n width₀ i₀ width i = (i ≤ n) × (width + length (co
 abbrev μ-loop : tie.MeasureT-loop
 μ-loop u started cs n width₀ i₀ width i = n - i
 
--- src/lib.rt:135:9
+-- src/lib.rt:132:9
 at-most-requires : tie.Need-at-most-requires Inv-loop μ-loop
 at-most-requires c κs = search needs
 
--- src/lib.rt:138:5
+-- src/lib.rt:135:5
 loop-holds : tie.Need-loop-holds Inv-loop μ-loop
 loop-holds c = (omega arith, omega arith, omega arith)
 
--- src/lib.rt:139:13
+-- src/lib.rt:136:13
 end-of-requires : tie.Need-end-of-requires Inv-loop μ-loop
 end-of-requires c κs = omega arith
 
--- src/lib.rt:140:17
+-- src/lib.rt:137:17
 mul-c : tie.Need-mul-c Inv-loop μ-loop
 mul-c c = omega arith
 
--- src/lib.rt:140:17
+-- src/lib.rt:137:17
 array-copy-out-c : tie.Need-array-copy-out-c Inv-loop μ-loop
 array-copy-out-c c = omega arith
 
--- src/lib.rt:141:18
+-- src/lib.rt:138:18
 course-width-requires : tie.Need-course-width-requires Inv-loop μ-loop
 course-width-requires c κs = search needs
 
--- src/lib.rt:141:9
+-- src/lib.rt:138:9
 add-width : tie.Need-add-width Inv-loop μ-loop
 add-width c = omega arith
 
--- src/lib.rt:142:9
+-- src/lib.rt:139:9
 add-i : tie.Need-add-i Inv-loop μ-loop
 add-i c = omega arith
 
--- src/lib.rt:138:5
+-- src/lib.rt:135:5
 loop-less : tie.Need-loop-less Inv-loop μ-loop
 loop-less c = omega arith
 
--- src/lib.rt:138:5
+-- src/lib.rt:135:5
 loop-again : tie.Need-loop-again Inv-loop μ-loop
 loop-again c =
     let s = c .before .before .before .before .before .before in
@@ -70,7 +70,7 @@ loop-again c =
     let r = left-shorter (left (l .i)) (courseLines (a .u) d (end .result)) (left (l .i + 1)) e in
     (omega arith, omega (arith, r, c .course-width .ensures .0, l .inv .1), omega (arith, c .course-width .ensures .1, l .inv .2))
 
--- src/lib.rt:132:1
+-- src/lib.rt:129:1
 returns : tie.Need-returns Inv-loop μ-loop
 returns c =
     let s = c .before .before .before in

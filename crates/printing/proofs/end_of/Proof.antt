@@ -8,27 +8,27 @@ use Rattle.printing.proofs.end_of.Reads as reads
 use Rattle.printing.proofs.end_of.Lts as lts
 use Rattle.printing.proofs.at_most.Reads as at-most-reads
 
--- src/lib.rt:122:9
+-- src/lib.rt:119:9
 at-most-requires : tie.Need-at-most-requires
 at-most-requires c κs = search needs
 
--- src/lib.rt:123:13
+-- src/lib.rt:120:13
 add-j : tie.Need-add-j
 add-j c = search needs
 
--- src/lib.rt:125:20
+-- src/lib.rt:122:20
 mul-next : tie.Need-mul-next
 mul-next c = search needs
 
--- src/lib.rt:125:20
+-- src/lib.rt:122:20
 array-copy-out-next : tie.Need-array-copy-out-next
 array-copy-out-next c = search needs
 
--- src/lib.rt:126:9
+-- src/lib.rt:123:9
 returns : tie.Need-returns
 returns c = let s = c .before .before .before in end-next (s .args .t1) (s .args .started) (s .args .i + 1) (omega (arith, s .good .0 .1 .0 .1))
 
--- src/lib.rt:118:1
+-- src/lib.rt:115:1
 returns-2 : tie.Need-returns-2
 returns-2 c = let s = c .before .before in end-last (s .args .t1) (s .args .started) (s .args .i + 1) (omega (arith, s .good .0 .1 .0 .1))
 

@@ -6,19 +6,19 @@ use Rattle.printing.proofs.piece_width.Reads as reads
 use Rattle.printing.proofs.piece_width.Lts as lts
 use Rattle.lines.proofs.s_width.Reads as s-width-reads
 
--- src/lib.rt:63:16
+-- src/lib.rt:67:16
 cast-from : tie.Need-cast-from
 cast-from c = search needs
 
--- src/lib.rt:64:14
+-- src/lib.rt:68:14
 cast-to : tie.Need-cast-to
 cast-to c = search needs
 
--- src/lib.rt:65:5
+-- src/lib.rt:69:5
 s-width-requires : tie.Need-s-width-requires
 s-width-requires c κs = search needs
 
--- src/lib.rt:60:1
+-- src/lib.rt:64:1
 returns : tie.Need-returns
 unfolding pieceLine
 returns c = c .s-width .ensures

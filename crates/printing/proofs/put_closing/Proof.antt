@@ -6,15 +6,15 @@ use Rattle.printing.proofs.put_closing.Reads as reads
 use Rattle.printing.proofs.put_closing.Lts as lts
 use Rattle.lines.proofs.put_e.Reads as put-e-reads
 
--- src/lib.rt:255:37
+-- src/lib.rt:258:9
 cast-put-e : tie.Need-cast-put-e
 cast-put-e c = search needs
 
--- src/lib.rt:255:54
+-- src/lib.rt:259:9
 cast-put-e-2 : tie.Need-cast-put-e-2
 cast-put-e-2 c = search needs
 
--- src/lib.rt:255:69
+-- src/lib.rt:260:9
 cast-put-e-3 : tie.Need-cast-put-e-3
 cast-put-e-3 c = search needs
 

@@ -7,39 +7,39 @@ use Rattle.printing.proofs.quantity_at.Reads as reads
 use Rattle.printing.proofs.quantity_at.Lts as lts
 use Rattle.printing.proofs.rounded_kw.Reads as rounded-kw-reads
 
--- src/lib.rt:179:18
+-- src/lib.rt:181:18
 mul-before : tie.Need-mul-before
 mul-before c = search needs
 
--- src/lib.rt:179:18
+-- src/lib.rt:181:18
 array-read-before : tie.Need-array-read-before
 array-read-before c = search needs
 
--- src/lib.rt:180:22
+-- src/lib.rt:182:22
 add-after : tie.Need-add-after
 add-after c = search needs
 
--- src/lib.rt:180:17
+-- src/lib.rt:182:17
 mul-after : tie.Need-mul-after
 mul-after c = search needs
 
--- src/lib.rt:180:17
+-- src/lib.rt:182:17
 array-read-after : tie.Need-array-read-after
 array-read-after c = search needs
 
--- src/lib.rt:182:9
+-- src/lib.rt:184:9
 returns : tie.Need-returns
 returns c = quantity-none (c .before .args .t1) (c .before .args .i) (c .if1 .taken)
 
--- src/lib.rt:184:16
+-- src/lib.rt:186:16
 sub-rounded-kw : tie.Need-sub-rounded-kw
 sub-rounded-kw c = search needs
 
--- src/lib.rt:184:5
+-- src/lib.rt:186:5
 rounded-kw-requires : tie.Need-rounded-kw-requires
 rounded-kw-requires c κs = search needs
 
--- src/lib.rt:175:1
+-- src/lib.rt:177:1
 returns-2 : tie.Need-returns-2
 returns-2 c = c .rounded-kw .ensures ∙ quantity-some (c .before .before .args .t1) (c .before .before .args .i)
 

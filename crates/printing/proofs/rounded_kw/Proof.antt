@@ -6,15 +6,15 @@ use Rattle.printing.proofs.rounded_kw.Tie as tie
 use Rattle.printing.proofs.rounded_kw.Reads as reads
 use Rattle.printing.proofs.rounded_kw.Lts as lts
 
--- src/lib.rt:171:23
+-- src/lib.rt:173:23
 add-result : tie.Need-add-result
 add-result c = search needs
 
--- src/lib.rt:171:5
+-- src/lib.rt:173:5
 add-result-2 : tie.Need-add-result-2
 add-result-2 c = search needs
 
--- src/lib.rt:168:1
+-- src/lib.rt:170:1
 returns : tie.Need-returns
 unfolding rounded
 returns c = by-parts (c .args .twice)
