@@ -1,25 +1,26 @@
 // What close does: which instructions start a course, the fates, the sums at the half-hour boundaries, the closing state.
 ghost use mathlib.Core.Path.{_≡_};
 ghost use mathlib.Core.List.{[], _∷_};
-ghost use Prim.Native.Nat.{_+_, _-_, min, max, _<_, _≤_};
+ghost use Prim.Native.Nat.{suc, _+_, _-_, min, max, _<_, _≤_};
 ghost use lib.Dec.{eqb};
-ghost use lib.ListN.{take, drop};
+ghost use lib.ListN.{length, take};
 ghost use Rattle.level.specs.Choice.{pick};
 ghost use Rattle.level.specs.Lists.{All, listFrom};
 ghost use Rattle.records.specs.declared.Effect.the-variants.{Trip, Mwof, Mxon, Sync, Mxof, Desy};
 ghost use Rattle.course.specs.Course.{trajectoryOf};
-ghost use Rattle.course.specs.Pieces.{piecesIn, twiceArea};
 ghost use Rattle.course.specs.declared.Course.{Course};
 ghost use Rattle.validation.specs.Kept.{acting};
 ghost use Rattle.validation.specs.declared.Numbered.{Numbered};
 ghost use Rattle.profile.specs.Effects.{idle, heatBy, setting, stepped, courseFrom, underWay, opened, begun, stateAt};
-ghost use Rattle.profile.specs.Profile.{beginOf, spansOf, piecesTo, twinTo, closingBy, rounded};
+ghost use Rattle.profile.specs.Profile.{spansOf, twinTo, closingBy, rounded};
 ghost use Rattle.profile.specs.State.{held, byRule};
 ghost use Rattle.day.specs.Day.{noCourse, quantityAt};
 ghost use Rattle.close.specs.Finding.{findingOf, findingBy, someAbove};
 ghost use Rattle.close.specs.Laying.{laid, laidAll, marksFrom};
 ghost use Rattle.close.specs.Walk.{walkOf, walkAll, wentOn, replacedBy, actedOn};
 ghost use Rattle.close.specs.Watching.{offStarting, offBetween};
+ghost use Rattle.close.specs.Summing.{firstSum, Adds};
+ghost use Rattle.trajectory.specs.Walk.{notedAt};
 
 // ---- what each instruction does at its acting second
 
@@ -573,61 +574,63 @@ const DAY: u32 = 86400;
 
 const HALF_HOUR: u32 = 1800;
 
-// Where the course at a place ends: where the next one begins, else at the day's end.
-fn end_of(courses: [course::Course; 41], n: usize, at: usize) -> u32
-    requires { ⌜ (at < n) × (n ≤ 41) ⌝ }
-    ensures { λ r. ⌜ r ≡ beginOf 86400 (drop (at + 1) (take n courses)) ⌝ }
-{
-    if at + 1 < n {
-        let next = courses[at + 1];
-        return next.begin;
-    }
-    DAY
-}
-
-// Twice the area of a course that lasts to the second `end`, up to the second x.
-fn twice_up_to(u: records::UnitData, c: course::Course, end: u32, x: u32) -> u64
-    requires { ⌜ x ≤ 86400 ⌝ }
+// Twice the area of a course that lasts to the second `end`, added half-hour by half-hour: at each boundary what lies
+// since the boundary before.
+fn add_course(parts: &mut [u64; 49], u: records::UnitData, c: course::Course, end: u32)
     requires { ⌜ c .start .grains < 274877906944 ⌝ }
-    ensures { λ r. ⌜ (r ≡ twiceArea (piecesIn (trajectoryOf u c) 0 (min end x - c .begin))) × (r ≤ 47498902319923200) ⌝ }
+    requires { ⌜ (length (now parts) ≡ 49) × (firstSum 49 (now parts) ≤ 1899956092796928000) ⌝ }
+    ensures { λ r. ⌜ (length (now (parts .exit)) ≡ 49) × Adds (notedAt u c end) (now (parts .entry)) (now (parts .exit))
+        × (firstSum 49 (now (parts .exit)) ≤ firstSum 49 (now (parts .entry)) + 47498902319923200) ⌝ }
 {
-    let last = smaller(end, x);
-    let to = seconds_from(c.begin, last);
-    trajectory::twice_in(u, c, 0, to)
-}
-
-// Twice the area of the first n courses, up to the second x.
-fn sum_up_to(u: records::UnitData, courses: [course::Course; 41], n: usize, x: u32) -> u64
-    requires { ⌜ (n ≤ 41) × (x ≤ 86400) ⌝ }
-    requires { ⌜ All (λ (c : Course). c .start .grains < 274877906944) (take n courses) ⌝ }
-    ensures { λ r. ⌜ r ≡ piecesTo (spansOf u 86400 (take n courses)) x ⌝ }
-{
-    let mut sum: u64 = 0;
-    let mut i: usize = 0;
-    while i < n {
-        let c = courses[i];
-        let end = end_of(courses, n, i);
-        sum += twice_up_to(u, c, end, x);
-        i += 1;
+    let up = trajectory::is_rising(c);
+    let last = seconds_from(c.begin, smaller(end, DAY));
+    let mut p = trajectory::begin_at(c, 0);
+    let half = c.begin / HALF_HOUR;
+    let mut b = half as usize;
+    let mut x = half * HALF_HOUR;
+    while p.second < last {
+        b += 1;
+        x += HALF_HOUR;
+        let n = seconds_from(c.begin, smaller(end, x));
+        let s = trajectory::sum_to(u, c, up, p, n);
+        parts[b] = parts[b] + s.twice;
+        p = s.place;
     }
-    sum
 }
 
-// The sum up to each of the 49 boundaries.
+// The sum of the parts up to each boundary.
+fn running_sums(parts: &[u64; 49]) -> [u64; 49]
+    requires { ⌜ firstSum 49 (now parts) ≤ 18446744073709551615 ⌝ }
+    ensures { λ r. ⌜ r ≡ listFrom (λ b. firstSum (suc b) (now (parts .entry))) 0 49 ⌝ }
+{
+    let mut out = [0u64; 49];
+    let mut total: u64 = 0;
+    let mut b: usize = 0;
+    while b < 49 {
+        total += parts[b];
+        out[b] = total;
+        b += 1;
+    }
+    out
+}
+
+// Twice the area of the first n courses up to each of the 49 boundaries, from the last course back: each ends where the
+// next one begins, the last at the day's end.
 fn sums_of(u: records::UnitData, courses: [course::Course; 41], n: usize) -> [u64; 49]
     requires { ⌜ n ≤ 41 ⌝ }
     requires { ⌜ All (λ (c : Course). c .start .grains < 274877906944) (take n courses) ⌝ }
     ensures { λ r. ⌜ r ≡ listFrom (twinTo (spansOf u 86400 (take n courses))) 0 49 ⌝ }
 {
-    let mut out = [0u64; 49];
-    let mut b: usize = 0;
-    let mut x: u32 = 0;
-    while b < 49 {
-        out[b] = sum_up_to(u, courses, n, x);
-        b += 1;
-        x += HALF_HOUR;
+    let mut parts = [0u64; 49];
+    let mut end = DAY;
+    let mut i = n;
+    while 0 < i {
+        i -= 1;
+        let c = courses[i];
+        add_course(&mut parts, u, c, end);
+        end = c.begin;
     }
-    out
+    running_sums(&parts)
 }
 
 // ---- what close finds

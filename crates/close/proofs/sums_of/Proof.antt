@@ -1,73 +1,81 @@
-use Rattle.profile.specs.Profile.{piecesTo}
-use mathlib.Core.Path.{_≡_, refl, ap, sym, _∙_}
+use mathlib.Core.Path.{_≡_, refl, ap, _∙_}
 use native.Mathlib.Omega.{arith}
-use Prim.Native.Nat.{_*_, _-_, _≤_}
-use lib.ListN.{length, take, length-set}
-use lib.Seq.{take-all}
-use Rattle.level.specs.Lists.{listFrom}
-use Rattle.profile.specs.Profile.{spansOf, twinTo}
-use Rattle.close.proofs.Summing.{list-set}
+use Prim.Native.Nat.{ℕ, suc, _*_, _-_, _≤_, _<_}
+use mathlib.Core.List.{List}
+use lib.ListN.{length, take, drop}
+use Rattle.course.specs.declared.Course.{Course}
+use Rattle.profile.specs.Profile.{beginOf, spansOf, piecesTo, twinTo}
+use Rattle.day.specs.Day.{noCourse}
+use Rattle.close.specs.Summing.{firstSum}
+use Rattle.close.proofs.Walking.{all-first}
+use Rattle.close.proofs.Summing.{begin-next, begin-last, first-zeros, FromOn, from-last, from-next, few, one-more, boundaries-same}
 use Rattle.close.proofs.sums_of.Statement.{statement}
 use Rattle.close.proofs.sums_of.Tie as tie
 use Rattle.close.proofs.sums_of.Reads as reads
 use Rattle.close.proofs.sums_of.Lts as lts
-use Rattle.close.proofs.sum_up_to.Reads as sum-up-to-reads
+use Rattle.close.proofs.add_course.Reads as add-course-reads
+use Rattle.close.proofs.running_sums.Reads as running-sums-reads
 
--- the first b places are the first b sums
+-- the courses from the place i on are added
 abbrev Inv-loop : tie.InvT-loop
-Inv-loop u courses n out₀ b₀ x₀ out b x =
-    (b ≤ 49) × (x ≡ 1800 * b) × (length out ≡ 49) × (take b out ≡ listFrom (twinTo (spansOf u 86400 (take n courses))) 0 b)
+Inv-loop u n courses parts₀ end₀ i₀ parts end i =
+    (i ≤ n) × (end ≡ beginOf 86400 (drop i (take n courses))) × FromOn u courses n i parts × (firstSum 49 parts ≤ (n - i) * 47498902319923200) × (length parts ≡ 49)
 
 abbrev μ-loop : tie.MeasureT-loop
-μ-loop u courses n out₀ b₀ x₀ out b x = 49 - b
+μ-loop u n courses parts₀ end₀ i₀ parts end i = i
 
--- src/lib.rt:626:5
+-- src/lib.rt:627:5
 loop-holds : tie.Need-loop-holds Inv-loop μ-loop
-unfolding listFrom
-loop-holds c = (omega arith, omega arith, refl, refl)
-
--- src/lib.rt:627:18
-sum-up-to-requires : tie.Need-sum-up-to-requires Inv-loop μ-loop
-sum-up-to-requires c κs = let s = c .before .before in
-    ((omega arith, omega arith), s .pre .1)
-
--- src/lib.rt:627:9
-mul-out : tie.Need-mul-out Inv-loop μ-loop
-mul-out c = omega arith
-
--- src/lib.rt:627:9
-array-write-out : tie.Need-array-write-out Inv-loop μ-loop
-array-write-out c = omega arith
+loop-holds c = (omega arith, begin-last 86400 (c .args .t2) (c .args .n) (c .args .n) (omega arith), from-last (c .args .u) (c .args .t2) (c .args .n) (c .args .n) (omega arith), omega (arith, first-zeros 49 49), refl)
 
 -- src/lib.rt:628:9
-add-b : tie.Need-add-b Inv-loop μ-loop
-add-b c = omega arith
+sub-i : tie.Need-sub-i Inv-loop μ-loop
+sub-i c = omega arith
 
--- src/lib.rt:629:9
-add-x : tie.Need-add-x Inv-loop μ-loop
-add-x c = omega arith
+-- src/lib.rt:629:17
+mul-c : tie.Need-mul-c Inv-loop μ-loop
+mul-c c = omega arith
 
--- src/lib.rt:626:5
+-- src/lib.rt:629:17
+array-copy-out-c : tie.Need-array-copy-out-c Inv-loop μ-loop
+array-copy-out-c c = omega arith
+
+-- src/lib.rt:630:9
+add-course-requires : tie.Need-add-course-requires Inv-loop μ-loop
+add-course-requires c κs = let s = c .before .before .before .before in
+    let l = c .before .before .before .loop in
+    (all-first (λ (c : Course). c .start .grains < 274877906944) (s .args .t2) (s .args .n) (l .i - 1) noCourse (omega arith) (omega (arith, s .good .1 .0 .1 .0 .1)) (s .pre .1), (l .inv .4, few (s .args .n) (l .i) _ (omega arith) (omega arith) (l .inv .3)))
+
+-- src/lib.rt:627:5
 loop-less : tie.Need-loop-less Inv-loop μ-loop
 loop-less c = omega arith
 
--- src/lib.rt:626:5
+-- src/lib.rt:627:5
 loop-again : tie.Need-loop-again Inv-loop μ-loop
-unfolding twinTo
-loop-again c = let s = c .before .before .before in
-    let l = c .before .before .loop in
-    let ss = spansOf (s .args .u) 86400 (take (s .args .n) (s .args .courses)) in (
+loop-again c = let s = c .before .before .before .before .before in
+    let l = c .before .before .before .before .loop in
+    let cs : List Course = s .args .t2 in (
       omega arith,
-      omega arith,
-      simp length-set (l .inv .2),
-      list-set (twinTo ss) (l .out) (l .b) (c .sum-up-to .result) (omega arith) (l .inv .3) (c .sum-up-to .ensures ∙ ap (piecesTo ss) (l .inv .1)),
+      begin-next 86400 cs (s .args .n) (l .i - 1) (omega arith) (omega (arith, s .good .1 .0 .1 .0 .1)),
+      from-next (s .args .u) cs (s .args .n) (l .i - 1) (l .i) (l .end) (l .parts) (c .add-course .last .0) (omega arith) (omega arith) (omega (arith, s .good .1 .0 .1 .0 .1)) (l .inv .1) (l .inv .2) (c .add-course .ensures .1),
+      one-more (s .args .n) (l .i) _ _ (omega arith) (omega arith) (l .inv .3) (c .add-course .ensures .2),
+      c .add-course .ensures .0,
     )
 
--- src/lib.rt:618:1
+-- src/lib.rt:633:5
+running-sums-requires : tie.Need-running-sums-requires Inv-loop μ-loop
+running-sums-requires c κs = let l = c .before .before .loop in
+    omega (arith, l .inv .3)
+
+-- src/lib.rt:619:1
 returns : tie.Need-returns Inv-loop μ-loop
-returns c = let l = c .before .loop in
-    let e : l .b ≡ 49 = omega arith in
-    sym (take-all 49 (l .out) (omega arith)) ∙ rw e at (l .inv .3)
+unfolding twinTo
+returns c = let s = c .before .before .before .before in
+    let l = c .before .before .before .loop in
+    let none : l .i ≡ 0 = omega arith in
+    c .running-sums .ensures
+    ∙ boundaries-same (λ (b : ℕ). firstSum (suc b) (l .parts)) (twinTo (spansOf (s .args .u) 86400 (take (s .args .n) (s .args .t2))))
+    (λ j k. l .inv .2 j k ∙ ap (λ (i : ℕ). piecesTo (spansOf (s .args .u) 86400 (drop i (take (s .args .n) (s .args .t2)))) (1800 * j)) none)
 
 pub sums-of-spec : {M : Type 1} → statement M
 sums-of-spec =
@@ -76,11 +84,11 @@ sums-of-spec =
     Inv-loop
     μ-loop
     loop-holds
-    sum-up-to-requires
-    mul-out
-    array-write-out
-    add-b
-    add-x
+    sub-i
+    mul-c
+    array-copy-out-c
+    add-course-requires
     loop-less
     loop-again
+    running-sums-requires
     returns)
