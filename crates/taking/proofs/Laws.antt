@@ -29,7 +29,7 @@ use Rattle.close.specs.Finding.{arraysOf, findingOf, someAbove}
 use Rattle.close.proofs.Whole.{too-high-is}
 use Rattle.day.specs.Step.{kindOf, bodyOf, noBytes, unknownKind, tooFew, secondOne, beforeUnit, tooMany, notReady, fieldAnswer, tooHigh, quantityTooHigh, answerBy, dayWith, stepBy}
 use Rattle.day.proofs.Passed.{by-bool, is-accepted, passed}
-use Rattle.taking.specs.Kinds.{refuse, accept, onAnswer, unitStep, openingTaken, openingStep, instructionStep, closedBy, closeStep}
+use Rattle.taking.specs.Kinds.{refuse, accept, onAnswer, unitStep, openingTaken, openingStep, instructionStep, LetsIn, closedBy, closeStep}
 
 -- what an answer makes of a day: as it stands, or taken
 settle : Answer → Day → Stepped → Stepped
@@ -266,6 +266,12 @@ module _ (d : Day) (b : List ℕ) where
   pub instruction-taken : d .hasUnit ≡ true → d .count < 40 → instructionAnswer daySeconds b ≡ Accepted → accept (withInstruction d (instructionOf b)) 22 ≡ instructionStep d b
   unfolding instructionStep
   instruction-taken u m a = simp (u, lt-leb 40 (d .count) m, a)
+
+-- an instruction that is let in
+pub let-in : (find : Day → Found) (d : Day) (s : List ℕ) → LetsIn (d .hasUnit) (d .closed) (d .count) s →
+    accept (withInstruction d (instructionOf (take 21 (drop 1 s)))) 22 ≡ stepBy find d s
+let-in find d s g =
+    instruction-taken d (take 21 (drop 1 s)) (g .unit) (g .room) (g .fits) ∙ instruction-now find d s (omega (arith, g .long)) (g .kind) (g .long) (g .before)
 
 pub not-true : (b : Bool) → not b ≡ true → b ≡ false
 not-true true e = sym e

@@ -1,9 +1,11 @@
 -- Taking a record, kind by kind: the working twin of `stepBy` that the code follows. `by-kind` in proofs/Laws equates the two.
 -- Assumes nothing.
-use Prim.Native.Nat.{ℕ}
+use Prim.Native.Nat.{ℕ, _≤_, _<_}
+use mathlib.Core.Path.{_≡_}
 use mathlib.Core.List.{List}
 use mathlib.Core.Bool.{Bool, true, false, not}
 use lib.Dec.{leb}
+use lib.ListN.{length, take, drop, getD}
 use Rattle.level.specs.Choice.{pick}
 use Rattle.records.specs.declared.Opening.{Opening}
 use Rattle.records.specs.declared.Answer.{Answer}
@@ -51,6 +53,15 @@ instructionStep d b =
     (pick (leb 40 (d .count)) (refuse TooManyInstructions d)
     (onAnswer (instructionAnswer daySeconds b) d
     (accept (withInstruction d (instructionOf b)) 22)))
+
+-- an instruction at the front of s that is taken, by a day with these
+pub record LetsIn (hasUnit closed : Bool) (count : ℕ) (s : List ℕ) : Type 0 where
+  pub long : 22 ≤ length s
+  pub kind : getD s 0 0 ≡ 3
+  pub unit : hasUnit ≡ true
+  pub before : closed ≡ false
+  pub room : count < 40
+  pub fits : instructionAnswer daySeconds (take 21 (drop 1 s)) ≡ Accepted
 
 -- closed, with what was found as arrays
 unfoldable pub closedBy : Day → Finding → Day
