@@ -16,12 +16,15 @@ use Rattle.profile.specs.Profile.{paper}
 use Rattle.day.specs.declared.Day.{Day}
 use Rattle.day.specs.declared.Stepped.{Stepped}
 use Rattle.day.specs.declared.Ran.{Ran}
-use Rattle.day.specs.Day.{empty, foundIn}
+use Rattle.day.specs.Day.{empty, foundIn, withInstruction}
 use Rattle.day.specs.Step.{stepOf}
 use Rattle.listing.specs.declared.Listed.{Listed}
 use Rattle.listing.specs.Listing.{listOf, lentAfter}
 use Rattle.gristpebble.specs.Listed.{inOne, listResult, afterRun, lentRun, listedResult, listedLent}
-use Rattle.taking.proofs.Laws.{step-used}
+use Rattle.records.specs.declared.Instruction.{Instruction}
+use Rattle.records.specs.Records.{instructionOf}
+use Rattle.taking.specs.Kinds.{accept, LetsIn}
+use Rattle.taking.proofs.Laws.{step-used, let-in}
 use Rattle.contract.specs.Program.{runBy, ranBy}
 
 pub tail-is : (n : ℕ) (s : List ℕ) → take (length s - n) (drop n s) ≡ drop n s
@@ -71,6 +74,26 @@ module _ (n : ℕ) (d : Day) (s : List ℕ) (at : ℕ) (st : Stepped) (made : st
   run-shut p e c =
       ap (λ (t : Stepped). record { answer = Accepted; day = t .day }) is-step
       ∙ shut n d s at p (sym (ap (λ (r : Stepped). r .answer) is-step) ∙ e) (sym (ap (λ (r : Stepped). r .day .closed) is-step) ∙ c)
+
+-- an instruction that is let in, read at the place itself
+module _ (n : ℕ) (d : Day) (s : List ℕ) (at : ℕ) (more : 0 < n) (g : LetsIn (d .hasUnit) (d .closed) (d .count) (take (length s - at) (drop at s))) where
+  pub let-in-within : at ≤ length s → at + 22 ≤ length s
+  let-in-within h = omega (arith, g .long, ap length (tail-is at s), length-drop at s)
+
+  body-is : take (at + 22 - (at + 1)) (drop (at + 1) s) ≡ take 21 (drop 1 (take (length s - at) (drop at s)))
+  body-is =
+      ap (λ (k : ℕ). take k (drop (at + 1) s)) {x = at + 22 - (at + 1)} {y = 21} (omega arith)
+      ∙ ap (take 21) (sym (drop-drop 1 at s) ∙ ap (drop 1) (sym (tail-is at s)))
+
+  still-open : (i : Instruction) → withInstruction d i .closed ≡ false
+  unfolding withInstruction
+  still-open i = g .before
+
+  pub run-let-in : (i : Instruction) → i ≡ instructionOf (take (at + 22 - (at + 1)) (drop (at + 1) s)) → rest n d s at ≡ rest (n - 1) (withInstruction d i) s (at + 22)
+  run-let-in i e =
+      run-on n d s at (accept (withInstruction d i) 22)
+      (ap (λ (x : Instruction). accept (withInstruction d x) 22) (e ∙ ap instructionOf body-is) ∙ let-in (foundIn paper) d (take (length s - at) (drop at s)) g)
+      more refl (still-open i)
 
 pub run-first : (d : Day) (s : List ℕ) → d ≡ empty → rest (length s) d s 0 ≡ ranBy (foundIn paper) s
 unfolding ranBy

@@ -20,26 +20,36 @@ pub fn run(input: &[u8]) -> Ran
     let mut at: usize = 0;
     let mut n = input.len();
     while 0 < n {
-        let st = taking::step(d, &input[at..]);
-        let a = st.answer;
-        match a {
-            Answer::Accepted => {
-                let next = st.day;
-                let used = st.used;
-                if next.closed {
-                    let answer = Answer::Accepted;
-                    return Ran { answer, day: next };
+        n -= 1;
+        if taking::lets_in(d.hasUnit, d.closed, d.count, &input[at..]) {
+            let from = at + 1;
+            let to = at + 22;
+            let i = records::instruction_of(&input[from..to]);
+            let k = d.count;
+            d.instructions[k] = i;
+            d.count = k + 1;
+            at = to;
+        } else {
+            let st = taking::step(d, &input[at..]);
+            let a = st.answer;
+            match a {
+                Answer::Accepted => {
+                    let next = st.day;
+                    let used = st.used;
+                    if next.closed {
+                        let answer = Answer::Accepted;
+                        return Ran { answer, day: next };
+                    }
+                    d = next;
+                    at += used;
                 }
-                d = next;
-                at += used;
-            }
-            Answer::Refused(r) => {
-                let day = st.day;
-                let answer = Answer::Refused(r);
-                return Ran { answer, day };
+                Answer::Refused(r) => {
+                    let day = st.day;
+                    let answer = Answer::Refused(r);
+                    return Ran { answer, day };
+                }
             }
         }
-        n -= 1;
     }
     let answer = Answer::Refused(Refusal::TooFewBytes);
     Ran { answer, day: d }

@@ -1,18 +1,21 @@
 use Prim.Native.Nat.{ℕ, _≤_, _<_, _+_, _-_}
 use mathlib.Core.Path.{_≡_, refl, sym, ap, _∙_}
 use native.Mathlib.Omega.{arith}
-use lib.ListN.{length}
+use lib.ListN.{length, take, drop}
 use borrow.Author.Needs.{needs}
 use Rattle.profile.specs.Profile.{paper}
 use Rattle.day.specs.declared.Day.{Day}
-use Rattle.day.specs.Day.{foundIn}
+use Rattle.day.specs.Day.{foundIn, withInstruction}
 use Rattle.contract.specs.Program.{runBy, ranBy}
-use Rattle.gristpebble.proofs.Laws.{rest, used-within, run-first, run-on, run-stop, run-shut, run-none}
+use Rattle.gristpebble.proofs.Laws.{rest, used-within, run-first, run-on, run-stop, run-shut, run-none, let-in-within, run-let-in}
+use Rattle.taking.specs.Kinds.{LetsIn}
 use Rattle.gristpebble.proofs.run.Statement.{statement}
 use Rattle.gristpebble.proofs.run.Tie as tie
 use Rattle.gristpebble.proofs.run.Reads as reads
 use Rattle.gristpebble.proofs.run.Lts as lts
+use Rattle.records.proofs.instruction_of.Reads as instruction-of-reads
 use Rattle.taking.proofs.empty_day.Reads as empty-day-reads
+use Rattle.taking.proofs.lets_in.Reads as lets-in-reads
 use Rattle.taking.proofs.step.Reads as step-reads
 
 abbrev Inv-loop : tie.InvT-loop
@@ -21,63 +24,161 @@ Inv-loop input d₀ at₀ n₀ d at n = (at ≤ length input) × (n ≤ length i
 abbrev μ-loop : tie.MeasureT-loop
 μ-loop input d₀ at₀ n₀ d at n = n
 
+-- src/lib.rt:19:17
 empty-day-requires : tie.Need-empty-day-requires Inv-loop μ-loop
 empty-day-requires c κs = search needs
 
+-- src/lib.rt:22:5
 loop-holds : tie.Need-loop-holds Inv-loop μ-loop
 loop-holds c = (search needs, search needs, run-first _ _ (c .empty-day .ensures))
 
+-- src/lib.rt:23:9
+sub-n : tie.Need-sub-n Inv-loop μ-loop
+sub-n c = search needs
+
+-- src/lib.rt:24:58
+sub-lets-in : tie.Need-sub-lets-in Inv-loop μ-loop
+sub-lets-in c = search needs
+
+-- src/lib.rt:24:58
+part-lets-in-start : tie.Need-part-lets-in-start Inv-loop μ-loop
+part-lets-in-start c = search needs
+
+-- src/lib.rt:24:58
+part-lets-in-end : tie.Need-part-lets-in-end Inv-loop μ-loop
+part-lets-in-end c = search needs
+
+-- src/lib.rt:24:12
+lets-in-requires : tie.Need-lets-in-requires Inv-loop μ-loop
+lets-in-requires c κs = search needs
+
+-- an instruction is let in
+got : (c : tie.Then1 Inv-loop μ-loop) →
+    let l = c .before .before .before .before .loop in
+    let s = c .before .before .before .before .before .before .before .args .input .now in
+    LetsIn (l .d .hasUnit) (l .d .closed) (l .d .count) (take (length s - l .at) (drop (l .at) s)) × (l .at + 22 ≤ length s)
+got c =
+    let l = c .before .before .before .before .loop in
+    let s = c .before .before .before .before .before .before .before .args .input .now in
+    let g = c .before .lets-in .ensures (c .if1 .taken) in
+    (g, let-in-within (l .n) (l .d) s (l .at) (c .before .before .before .loop-test .taken) g (l .inv .0))
+
+-- src/lib.rt:25:24
+add-from : tie.Need-add-from Inv-loop μ-loop
+add-from c = omega (arith, got c .1)
+
+-- src/lib.rt:26:22
+add-to : tie.Need-add-to Inv-loop μ-loop
+add-to c = omega (arith, got c .1)
+
+-- src/lib.rt:27:45
+sub-instruction-of : tie.Need-sub-instruction-of Inv-loop μ-loop
+sub-instruction-of c = omega (arith, got c .1)
+
+-- src/lib.rt:27:45
+part-instruction-of-start : tie.Need-part-instruction-of-start Inv-loop μ-loop
+part-instruction-of-start c = omega (arith, got c .1)
+
+-- src/lib.rt:27:45
+part-instruction-of-end : tie.Need-part-instruction-of-end Inv-loop μ-loop
+part-instruction-of-end c = omega (arith, got c .1)
+
+-- src/lib.rt:27:17
+instruction-of-requires : tie.Need-instruction-of-requires Inv-loop μ-loop
+instruction-of-requires c κs = search needs
+
+-- src/lib.rt:29:13
+mul-i : tie.Need-mul-i Inv-loop μ-loop
+mul-i c = omega (arith, got (c .before .before) .0 .room)
+
+-- src/lib.rt:29:13
+element-set-from-i : tie.Need-element-set-from-i Inv-loop μ-loop
+element-set-from-i c = omega (arith, got (c .before .before) .0 .room)
+
+-- src/lib.rt:30:23
+add-d : tie.Need-add-d Inv-loop μ-loop
+add-d c = omega (arith, got (c .before .before) .0 .room)
+
+-- src/lib.rt:22:5
+loop-less : tie.Need-loop-less Inv-loop μ-loop
+loop-less c = omega (arith, c .before .before .before .before .before .loop-test .taken)
+
+-- src/lib.rt:22:5
+loop-again : tie.Need-loop-again Inv-loop μ-loop
+unfolding withInstruction
+loop-again c =
+    let l = c .before .before .before .before .before .before .loop in
+    let s = c .before .before .before .before .before .before .before .before .before .args .input .now in
+    let g = got (c .before .before) in
+    (g .1, omega (arith, l .inv .1), sym (run-let-in (l .n) (l .d) s (l .at) (c .before .before .before .before .before .loop-test .taken) (g .0) (c .instruction-of .result) (c .instruction-of .ensures)) ∙ l .inv .2)
+
+-- src/lib.rt:33:38
 sub-step : tie.Need-sub-step Inv-loop μ-loop
 sub-step c = search needs
 
+-- src/lib.rt:33:38
 part-step-start : tie.Need-part-step-start Inv-loop μ-loop
 part-step-start c = search needs
 
+-- src/lib.rt:33:38
 part-step-end : tie.Need-part-step-end Inv-loop μ-loop
 part-step-end c = search needs
 
+-- src/lib.rt:33:17
 step-requires : tie.Need-step-requires Inv-loop μ-loop
 step-requires c κs = search needs
 
+-- src/lib.rt:37:25
 enum-told : tie.Need-enum-told Inv-loop μ-loop
 enum-told c = search needs
 
+-- src/lib.rt:41:25
 returns : tie.Need-returns Inv-loop μ-loop
 returns c =
-    let l = c .before .before .before .before .before .before .before .loop in
+    let l = c .before .before .before .before .before .before .before .before .before .before .loop in
     let st = c .before .before .before .before .step in
-    run-shut (l .n) (l .d) (c .before .before .before .before .before .before .before .before .before .before .args .input .now) (l .at) (st .result) (st .ensures) (c .before .before .before .before .before .before .loop-test .taken) (c .before .before .enum-told .given .1) (c .if1 .taken) ∙ l .inv .2
+    let s = c .before .before .before .before .before .before .before .before .before .before .before .before .before .args .input .now in
+    let more = c .before .before .before .before .before .before .before .before .before .loop-test .taken in
+    run-shut (l .n) (l .d) s (l .at) (st .result) (st .ensures) more (c .before .before .enum-told .given .1) (c .if2 .taken) ∙ l .inv .2
 
-within : (c : tie.Else1 Inv-loop μ-loop) → c .before .before .before .before .before .before .before .loop .at + c .before .before .before .before .step .result .used ≤ length (c .before .before .before .before .before .before .before .before .before .before .args .input .now)
+-- a step uses no more than there is
+within : (c : tie.Else2 Inv-loop μ-loop) → c .before .before .before .before .before .before .before .before .before .before .loop .at + c .before .before .before .before .step .result .used ≤ length (c .before .before .before .before .before .before .before .before .before .before .before .before .before .args .input .now)
 within c =
-    let l = c .before .before .before .before .before .before .before .loop in
+    let l = c .before .before .before .before .before .before .before .before .before .before .loop in
     let st = c .before .before .before .before .step in
-    used-within (l .n) (l .d) (c .before .before .before .before .before .before .before .before .before .before .args .input .now) (l .at) (st .result) (st .ensures) (l .inv .0)
+    used-within (l .n) (l .d) (c .before .before .before .before .before .before .before .before .before .before .before .before .before .args .input .now) (l .at) (st .result) (st .ensures) (l .inv .0)
 
+-- src/lib.rt:44:21
 add-at : tie.Need-add-at Inv-loop μ-loop
 add-at c = omega (arith, within c)
 
+-- src/lib.rt:22:5
+loop-less-2 : tie.Need-loop-less-2 Inv-loop μ-loop
+loop-less-2 c = omega (arith, c .before .before .before .before .before .before .before .before .before .loop-test .taken)
+
+-- src/lib.rt:22:5
+loop-again-2 : tie.Need-loop-again-2 Inv-loop μ-loop
+loop-again-2 c =
+    let l = c .before .before .before .before .before .before .before .before .before .before .loop in
+    let st = c .before .before .before .before .step in
+    let s = c .before .before .before .before .before .before .before .before .before .before .before .before .before .args .input .now in
+    let more = c .before .before .before .before .before .before .before .before .before .loop-test .taken in
+    (within c, omega (arith, l .inv .1), sym (run-on (l .n) (l .d) s (l .at) (st .result) (st .ensures) more (c .before .before .enum-told .given .1) (c .if2 .left)) ∙ l .inv .2)
+
+-- src/lib.rt:46:33
 enum-known-a : tie.Need-enum-known-a Inv-loop μ-loop
 enum-known-a c = search needs
 
+-- src/lib.rt:49:21
 returns-2 : tie.Need-returns-2 Inv-loop μ-loop
 returns-2 c =
-    let l = c .before .before .before .before .before .before .before .loop in
+    let l = c .before .before .before .before .before .before .before .before .before .before .loop in
     let st = c .before .before .before .before .step in
-    run-stop (l .n) (l .d) (c .before .before .before .before .before .before .before .before .before .before .args .input .now) (l .at) (st .result) (st .ensures) (c .before .before .before .before .before .before .loop-test .taken) _ (c .before .before .a .given .1) ∙ l .inv .2
+    let s = c .before .before .before .before .before .before .before .before .before .before .before .before .before .args .input .now in
+    let more = c .before .before .before .before .before .before .before .before .before .loop-test .taken in
+    run-stop (l .n) (l .d) s (l .at) (st .result) (st .ensures) more _ (c .before .before .a .given .1) ∙ l .inv .2
 
-sub-n : tie.Need-sub-n Inv-loop μ-loop
-sub-n c = c .before .before .before .before .before .before .loop-test .taken
-
-loop-less : tie.Need-loop-less Inv-loop μ-loop
-loop-less c = omega (arith, c .before .before .before .before .before .before .loop-test .taken)
-
-loop-again : tie.Need-loop-again Inv-loop μ-loop
-loop-again c =
-    let l = c .before .before .before .before .before .before .before .loop in
-    let st = c .before .before .before .before .step in
-    (within c, omega (arith, l .inv .1), sym (run-on (l .n) (l .d) (c .before .before .before .before .before .before .before .before .before .before .args .input .now) (l .at) (st .result) (st .ensures) (c .before .before .before .before .before .before .loop-test .taken) (c .before .before .enum-told .given .1) (c .if1 .left)) ∙ l .inv .2)
-
+-- src/lib.rt:16:1
 returns-3 : tie.Need-returns-3 Inv-loop μ-loop
 returns-3 c =
     let l = c .before .loop in
@@ -93,6 +194,22 @@ run-spec =
     μ-loop
     empty-day-requires
     loop-holds
+    sub-n
+    sub-lets-in
+    part-lets-in-start
+    part-lets-in-end
+    lets-in-requires
+    add-from
+    add-to
+    sub-instruction-of
+    part-instruction-of-start
+    part-instruction-of-end
+    instruction-of-requires
+    mul-i
+    element-set-from-i
+    add-d
+    loop-less
+    loop-again
     sub-step
     part-step-start
     part-step-end
@@ -100,9 +217,8 @@ run-spec =
     enum-told
     returns
     add-at
+    loop-less-2
+    loop-again-2
     enum-known-a
     returns-2
-    sub-n
-    loop-less
-    loop-again
     returns-3)
