@@ -1,12 +1,12 @@
-use Prim.Native.Nat.{ℕ, _≤_, _<_, _+_, _-_}
-use mathlib.Core.Path.{_≡_, refl, sym, ap, _∙_}
+use Prim.Native.Nat.{ℕ, _≤_, _+_, _-_}
+use mathlib.Core.Path.{_≡_, sym, ap, _∙_}
 use native.Mathlib.Omega.{arith}
 use lib.ListN.{length, take, drop}
 use borrow.Author.Needs.{needs}
 use Rattle.profile.specs.Profile.{paper}
 use Rattle.day.specs.declared.Day.{Day}
 use Rattle.day.specs.Day.{foundIn, withInstruction}
-use Rattle.contract.specs.Program.{runBy, ranBy}
+use Rattle.contract.specs.Program.{ranBy}
 use Rattle.gristpebble.proofs.Laws.{rest, used-within, run-first, run-on, run-stop, run-shut, run-none, let-in-within, run-let-in}
 use Rattle.taking.specs.Kinds.{LetsIn}
 use Rattle.gristpebble.proofs.run.Statement.{statement}
