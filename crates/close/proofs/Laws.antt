@@ -6,8 +6,8 @@ use mathlib.Core.Bool.{Bool, true, false, _&&_, _||_}
 use Prim.Native.Nat.{ℕ, suc, _+_, _*_, _-_, min, _≤_, _<_}
 use native.Mathlib.Omega.{arith}
 use native.Mathlib.Numerals.{add-one}
+use lib.ListN.{getD}
 use lib.Dec.{eqb, ltb}
-use lib.ListN.{length, getD, List·getD-eq-default}
 use borrow.Author.Tests.{lt-ltb, le-ltb, le-leb, lt-leb, eq-eqb, ne-eqb}
 use Rattle.level.specs.Choice.{pick}
 use Rattle.level.specs.Lists.{some, listFrom}
@@ -90,17 +90,9 @@ module _ (p q : Place) (off : ℕ) where
 -- ---- quantities
 
 module _ (sums : List ℕ) (i : ℕ) where
-  pub quantity-past : length sums ≡ 49 → 48 ≤ i → 0 ≡ quantityAt sums i
-  unfolding quantityAt rounded
-  quantity-past e h = omega (arith, List·getD-eq-default sums 0 {n = suc i} (omega arith))
-
-  pub quantity-less : getD sums (i + 1) 0 < getD sums i 0 → 0 ≡ quantityAt sums i
-  unfolding quantityAt rounded
-  quantity-less h = omega (arith, ap (λ (k : ℕ). getD sums k 0) (add-one i))
-
-  pub quantity-more : rounded (getD sums (i + 1) 0 - getD sums i 0) ≡ quantityAt sums i
+  pub quantity-is : rounded (getD sums (i + 1) 0 - getD sums i 0) ≡ quantityAt sums i
   unfolding quantityAt
-  quantity-more = ap (λ (k : ℕ). rounded (getD sums k 0 - getD sums i 0)) (add-one i)
+  quantity-is = ap (λ (k : ℕ). rounded (getD sums k 0 - getD sums i 0)) (add-one i)
 
 module _ (most : ℕ) (sums : List ℕ) (i : ℕ) where
   above-one : i < 48 → someAbove most sums i (48 - i) ≡ (ltb most (quantityAt sums i) || someAbove most sums (i + 1) (48 - (i + 1)))

@@ -147,13 +147,3 @@ module _ (u : UnitData) where
     pub acts-new : r ≡ false → replacedBy w (begun u (w .now) o s) ≡ actedOn u w o
     unfolding actedOn
     acts-new t = rw (sym e, sym f, t) refl
-
-  module _ (w : Walk) (o : Numbered) where
-    pub acted-more : (actedOn u w o .acted ≡ w .acted + 1) × (actedOn u w o .started ≤ w .started + 1)
-    unfolding actedOn wentOn replacedBy
-    acted-more = go (idle (o .instruction .meaning .effect) (o .instruction .level) (stateAt byRule u (w .now) (acting o) .level) (w .now .maximised))
-      where
-        go : (b : Bool) → (pick b (wentOn w) (replacedBy w (begun u (w .now) o (stateAt byRule u (w .now) (acting o)))) .acted ≡ w .acted + 1)
-            × (pick b (wentOn w) (replacedBy w (begun u (w .now) o (stateAt byRule u (w .now) (acting o)))) .started ≤ w .started + 1)
-        go true = (refl, omega arith)
-        go false = (refl, omega arith)

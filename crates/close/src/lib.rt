@@ -14,10 +14,10 @@ ghost use Rattle.validation.specs.declared.Numbered.{Numbered};
 ghost use Rattle.profile.specs.Effects.{idle, heatBy, setting, stepped, courseFrom, underWay, opened, begun, stateAt};
 ghost use Rattle.profile.specs.Profile.{spansOf, twinTo, closingBy, rounded};
 ghost use Rattle.profile.specs.State.{held, byRule};
-ghost use Rattle.day.specs.Day.{noCourse, quantityAt};
+ghost use Rattle.day.specs.Day.{noCourse};
 ghost use Rattle.close.specs.Finding.{findingOf, findingBy, someAbove};
 ghost use Rattle.close.specs.Laying.{laid, laidAll, marksFrom};
-ghost use Rattle.close.specs.Walk.{walkOf, walkAll, wentOn, replacedBy, actedOn};
+ghost use Rattle.close.specs.Walk.{walkOf, walkAll};
 ghost use Rattle.close.specs.Watching.{offStarting, offBetween};
 ghost use Rattle.close.specs.Summing.{firstSum, Adds};
 ghost use Rattle.trajectory.specs.Walk.{notedAt};
@@ -37,6 +37,16 @@ fn is_idle(effect: records::Effect, x: u32, v: u64, maximised: bool) -> bool
         records::Effect::Desy => v == 0,
         records::Effect::Fail => true,
     }
+}
+
+// The same of an instruction that acts.
+fn stays_idle(o: validation::Numbered, v: u64, maximised: bool) -> bool
+    ensures { λ r. ⌜ r ≡ idle (o .instruction .meaning .effect) (o .instruction .level) v maximised ⌝ }
+{
+    let i = o.instruction;
+    let m = i.meaning;
+    let effect = m.effect;
+    is_idle(effect, i.level, v, maximised)
 }
 
 // The heat of a start after so many seconds off.
@@ -452,57 +462,8 @@ fn begin_walk(now: profile::UnderWay) -> Walk
     }
 }
 
-// Fate 7: the course under way goes on.
-fn go_on(w: Walk) -> Walk
-    requires { ⌜ w .acted < 40 ⌝ }
-    ensures { λ r. ⌜ r ≡ wentOn w ⌝ }
-{
-    let at = w.acted;
-    let mut next = w;
-    next.fates[at] = 7;
-    next.acted = at + 1;
-    next
-}
-
-// Fate 0: a new course.
-fn replace(w: Walk, next: profile::UnderWay) -> Walk
-    requires { ⌜ (w .acted < 40) × (w .started < 41) ⌝ }
-    ensures { λ r. ⌜ r ≡ replacedBy w next ⌝ }
-{
-    let at = w.acted;
-    let top = w.started;
-    let c = next.course;
-    let mut courses = w.courses;
-    courses[top] = c;
-    let mut fates = w.fates;
-    fates[at] = 0;
-    Walk {
-        now: next,
-        courses,
-        started: top + 1,
-        fates,
-        acted: at + 1,
-    }
-}
-
-// One instruction, read with the state just before.
-fn act(u: records::UnitData, w: Walk, o: validation::Numbered) -> Walk
-    requires { ⌜ (w .acted < 40) × (w .started < 41) × (acting o < 4294967296) ⌝ }
-    ensures { λ r. ⌜ r ≡ actedOn u w o ⌝ }
-{
-    let now = w.now;
-    let i = o.instruction;
-    let m = i.meaning;
-    let effect = m.effect;
-    let s = state_at(u, now, acting_second(o));
-    if is_idle(effect, i.level, s.level, now.maximised) {
-        return go_on(w);
-    }
-    let next = begin_course(u, now, o, s);
-    replace(w, next)
-}
-
-// The first n of those that act, followed from the course now.
+// The first n of those that act, followed from the course now; each read with the state just before. Fate 7: the course
+// under way goes on. Fate 0: a new course.
 fn follow_all(
     u: records::UnitData,
     now: profile::UnderWay,
@@ -517,8 +478,22 @@ fn follow_all(
     let mut i: usize = 0;
     while i < n {
         let o = acts[i];
-        w = act(u, w, o);
+        let before = w.now;
+        let s = state_at(u, before, acting_second(o));
+        let at = w.acted;
+        w.acted = at + 1;
         i += 1;
+        if stays_idle(o, s.level, before.maximised) {
+            w.fates[at] = 7;
+        } else {
+            let next = begin_course(u, before, o, s);
+            let c = next.course;
+            let top = w.started;
+            w.now = next;
+            w.courses[top] = c;
+            w.started = top + 1;
+            w.fates[at] = 0;
+        }
     }
     w
 }
@@ -725,15 +700,10 @@ fn round_kw(twice: u64) -> u64
     whole + 1
 }
 
-// The quantity (kW) of the half-hour from the boundary i on; 0 past the day's end.
-pub fn quantity_at(sums: [u64; 49], i: usize) -> u64
-    ensures { λ r. ⌜ r ≡ quantityAt sums i ⌝ }
+// The quantity (kW) of a half-hour, by the sums before and after it.
+fn quantity_between(before: u64, after: u64) -> u64
+    ensures { λ r. ⌜ r ≡ rounded (after - before) ⌝ }
 {
-    if 48 <= i {
-        return 0;
-    }
-    let before = sums[i];
-    let after = sums[i + 1];
     if after < before {
         return 0;
     }
@@ -746,12 +716,14 @@ pub fn quantity_too_high(u: records::UnitData, sums: [u64; 49]) -> bool
 {
     let most = u.maximum as u64;
     let mut i: usize = 0;
+    let mut before = sums[0];
     while i < 48 {
-        let kw = quantity_at(sums, i);
-        if most < kw {
+        i += 1;
+        let after = sums[i];
+        if most < quantity_between(before, after) {
             return true;
         }
-        i += 1;
+        before = after;
     }
     false
 }
