@@ -1,5 +1,5 @@
 -- Laws of `decimal`, of `laid`, of lines and of their widths.
-use Prim.Native.Nat.{ℕ, zero, suc, _+_, _-_, _/_, _%_, _^_, _<_, _≤_}
+use Prim.Native.Nat.{ℕ, zero, suc, _+_, _-_, _*_, _/_, _%_, _^_, _<_, _≤_}
 use mathlib.Core.Path.{_≡_, refl, sym, ap, _∙_}
 use mathlib.Core.List.{List, [], _∷_, _++_, append-assoc, append-nil}
 use mathlib.Core.Bool.{Bool, true, false}
@@ -8,7 +8,7 @@ use native.Mathlib.Numerals.{add-one}
 use native.Mathlib.Nat.{pow-succ'}
 use lib.Dec.{ltb}
 use lib.ListN.{length, getD, set, take, drop, length-append, length-drop, length-take, length-set, drop-of-length-le}
-use lib.Seq.{drop-drop, drop-cons, take-suc, take-at, drop-at, set-append-seam, take-all}
+use lib.Seq.{drop-drop, drop-cons, take-suc, take-at, drop-at, set-append-seam, take-all, getD-set-same, drop-set-lt, lt-length-set}
 use borrow.Author.Tests.{lt-ltb, le-ltb, ltb-true, ltb-false}
 use Rattle.lines.specs.Text.{digits, decimal, field, fields, line, fLine, sLine, qLine, eLine, xLine, laid}
 
@@ -85,13 +85,42 @@ low-length v h = ap length (decimal-low v h)
 pub high-length : (v : ℕ) → 10 ≤ v → length (decimal v) ≡ length (decimal (v / 10)) + 1
 high-length v h = ap length (decimal-high v h) ∙ simp length-append
 
-pub low-put : (v : ℕ) (o : List ℕ) → v < 10 → 0 < length o → set o 0 (v % 10 + 48) ≡ laid (decimal v) o
-low-put v o h r =
-    let e : v % 10 ≡ v = omega arith in
-    rw (e, decimal-low v h) (set-front o (v + 48) r)
+pub decimal-some : (v : ℕ) → 1 ≤ length (decimal v)
+decimal-some v = by-bool (ltb v 10) (λ e. omega (arith, low-length v (ltb-true v 10 e))) (λ e. omega (arith, high-length v (ltb-false v 10 e)))
 
-pub high-put : (v n : ℕ) (o p : List ℕ) → 10 ≤ v → n < length o → n ≡ length (decimal (v / 10)) → p ≡ laid (decimal (v / 10)) o → set p n (v % 10 + 48) ≡ laid (decimal v) o
-high-put v n o p h r en ep = rw (ep, decimal-high v h) (laid-set (decimal (v / 10)) o n (v % 10 + 48) en r)
+-- the last n digits of v, zeros included
+unfoldable pub lastDigits : ℕ → ℕ → List ℕ
+lastDigits zero v = []
+lastDigits (suc n) v = lastDigits n (v / 10) ++ ((v % 10 + 48) ∷ [])
+
+last-length : (n v : ℕ) → length (lastDigits n v) ≡ n
+unfolding lastDigits
+last-length zero v = refl
+last-length (suc n) v = omega (arith, length-append (lastDigits n (v / 10)) ((v % 10 + 48) ∷ []), last-length n (v / 10))
+
+-- as many of them as v has are all
+pub last-all : (n v : ℕ) → n ≡ length (decimal v) → lastDigits n v ≡ decimal v
+unfolding lastDigits
+last-all zero v e = absurd (omega (arith, decimal-some v))
+last-all (suc n) v e =
+    by-bool (ltb v 10)
+    (λ b. let h : v < 10 = ltb-true v 10 b in
+    let z : n ≡ 0 = omega (arith, low-length v h) in
+    let m : v % 10 ≡ v = omega arith in
+    rw (z, m, decimal-low v h) refl)
+    (λ b. let h : 10 ≤ v = ltb-false v 10 b in
+    rw (decimal-high v h) (ap (λ (l : List ℕ). l ++ ((v % 10 + 48) ∷ [])) (last-all n (v / 10) (omega (arith, high-length v h)))))
+
+-- the last digit stored, the digits before it are still to lay
+pub last-put : (n v : ℕ) (o : List ℕ) → n < length o → laid (lastDigits (suc n) v) o ≡ laid (lastDigits n (v / 10)) (set o n (v % 10 + 48))
+unfolding lastDigits
+last-put n v o h =
+    let x : ℕ = v % 10 + 48 in
+    let xs : List ℕ = lastDigits n (v / 10) in
+    let d : drop n (set o n x) ≡ x ∷ drop (suc n) o =
+    drop-cons (set o n x) n 0 (lt-length-set o n x (omega arith)) ∙ rw (getD-set-same o n x 0 (omega arith), drop-set-lt (suc n) o n x (omega arith)) refl in
+    ap (λ (k : ℕ). (xs ++ (x ∷ [])) ++ drop k o) (last-length (suc n) v)
+    ∙ (append-assoc xs (x ∷ []) (drop (suc n) o) ∙ (ap (λ (l : List ℕ). xs ++ l) (sym d) ∙ ap (λ (k : ℕ). xs ++ drop k (set o n x)) (sym (last-length n (v / 10)))))
 
 -- a part from n to the end has what is left
 pub part-length : (n : ℕ) (p : List ℕ) → length (take (length p - n) (drop n p)) ≡ length p - n
@@ -150,15 +179,28 @@ pub room-more : (letter : ℕ) (vs : List ℕ) (i : ℕ) → i < length vs → l
 room-more letter vs i h = omega (arith, begun-length letter vs i h, room letter vs (i + 1))
 
 -- ---- widths
-pub decimal-some : (v : ℕ) → 1 ≤ length (decimal v)
-decimal-some v = by-bool (ltb v 10) (λ e. omega (arith, low-length v (ltb-true v 10 e))) (λ e. omega (arith, high-length v (ltb-false v 10 e)))
-
 -- a number below 10 to the k + 1 has at most k + 1 digits
 pub decimal-width : (k v : ℕ) → v < 10 ^ suc k → length (decimal v) ≤ suc k
 decimal-width zero v h = omega (arith, low-length v h)
 decimal-width (suc k) v h =
     by-bool (ltb v 10) (λ e. omega (arith, low-length v (ltb-true v 10 e)))
     (λ e. let g : 10 ≤ v = ltb-false v 10 e in omega (arith, high-length v g, decimal-width k (v / 10) (omega (arith, rw (pow-succ' 10 (suc k)) at h))))
+
+ten-some : (k : ℕ) → 1 ≤ 10 ^ k
+ten-some zero = omega arith
+ten-some (suc k) = omega (arith, pow-succ' 10 k, ten-some k)
+
+-- a number from 10 to the k on has at least k + 1 digits
+decimal-long : (k v : ℕ) → 10 ^ k ≤ v → suc k ≤ length (decimal v)
+decimal-long zero v h = decimal-some v
+decimal-long (suc k) v h =
+    let g : 10 * 10 ^ k ≤ v = rw (pow-succ' 10 k) at h in
+    let s : 1 ≤ 10 ^ k = ten-some k in
+    omega (arith, high-length v (omega arith), decimal-long k (v / 10) (omega arith))
+
+-- from 10 to the k on, and below 10 to the k + 1: just as many
+pub width-between : (k v : ℕ) → 10 ^ k ≤ v → v < 10 ^ suc k → suc k ≡ length (decimal v)
+width-between k v h g = omega (arith, decimal-long k v h, decimal-width k v g)
 
 -- a number of 64 bits has at most 20 digits
 pub word-width : (v : ℕ) → v < 2 ^ 64 → length (decimal v) ≤ 20

@@ -1,43 +1,69 @@
-use Prim.Native.Nat.{_+_}
-use mathlib.Core.Path.{_≡_}
+use mathlib.Core.Path.{sym}
 use native.Mathlib.Omega.{arith}
-use lib.ListN.{length}
-use Rattle.lines.specs.Text.{decimal}
-use Rattle.lines.proofs.Laws.{low-length, high-length, word-width}
+use borrow.Author.Needs.{needs}
+use Rattle.lines.proofs.Laws.{low-length, width-between}
 use Rattle.lines.proofs.decimal_width.Statement.{statement}
 use Rattle.lines.proofs.decimal_width.Tie as tie
 use Rattle.lines.proofs.decimal_width.Reads as reads
 use Rattle.lines.proofs.decimal_width.Lts as lts
+use Rattle.lines.proofs.counted_width.Reads as counted-width-reads
 
-abbrev Inv-loop : tie.InvT-loop
-Inv-loop v left₀ width₀ left width = width + length (decimal left) ≡ length (decimal v) + 1
+-- src/lib.rt:114:9
+returns : tie.Need-returns
+returns c = (sym (low-length _ (omega arith)), omega arith)
 
-abbrev μ-loop : tie.MeasureT-loop
-μ-loop v left₀ width₀ left width = left
+-- src/lib.rt:117:9
+returns-2 : tie.Need-returns-2
+returns-2 c = (width-between 1 _ (omega arith) (omega arith), omega arith)
 
--- src/lib.rt:100:5
-loop-holds : tie.Need-loop-holds Inv-loop μ-loop
-loop-holds c = omega arith
+-- src/lib.rt:120:9
+returns-3 : tie.Need-returns-3
+returns-3 c = (width-between 2 _ (omega arith) (omega arith), omega arith)
 
--- src/lib.rt:102:9
-add-width : tie.Need-add-width Inv-loop μ-loop
-add-width c = omega (arith, word-width (c .before .before .args .v) (omega arith))
+-- src/lib.rt:123:9
+returns-4 : tie.Need-returns-4
+returns-4 c = (width-between 3 _ (omega arith) (omega arith), omega arith)
 
--- src/lib.rt:100:5
-loop-less : tie.Need-loop-less Inv-loop μ-loop
-loop-less c = omega arith
+-- src/lib.rt:126:9
+returns-5 : tie.Need-returns-5
+returns-5 c = (width-between 4 _ (omega arith) (omega arith), omega arith)
 
--- src/lib.rt:100:5
-loop-again : tie.Need-loop-again Inv-loop μ-loop
-loop-again c = omega (arith, high-length (c .before .loop .left) (omega arith))
+-- src/lib.rt:129:9
+returns-6 : tie.Need-returns-6
+returns-6 c = (width-between 5 _ (omega arith) (omega arith), omega arith)
 
--- src/lib.rt:95:1
-returns : tie.Need-returns Inv-loop μ-loop
-returns c =
-    let e = low-length (c .before .loop .left) (omega arith) in
-    let w = word-width (c .before .before .args .v) (omega arith) in
-    (omega arith, omega arith)
+-- src/lib.rt:132:9
+returns-7 : tie.Need-returns-7
+returns-7 c = (width-between 6 _ (omega arith) (omega arith), omega arith)
+
+-- src/lib.rt:135:9
+returns-8 : tie.Need-returns-8
+returns-8 c = (width-between 7 _ (omega arith) (omega arith), omega arith)
+
+-- src/lib.rt:138:9
+returns-9 : tie.Need-returns-9
+returns-9 c = (width-between 8 _ (omega arith) (omega arith), omega arith)
+
+-- src/lib.rt:140:5
+counted-width-requires : tie.Need-counted-width-requires
+counted-width-requires c κs = search needs
+
+-- src/lib.rt:110:1
+returns-10 : tie.Need-returns-10
+returns-10 c = search needs
 
 pub decimal-width-spec : {M : Type 1} → statement M
 decimal-width-spec =
-    tie.close (tie.spec Inv-loop μ-loop loop-holds add-width loop-less loop-again returns)
+    tie.close
+    (tie.spec
+    returns
+    returns-2
+    returns-3
+    returns-4
+    returns-5
+    returns-6
+    returns-7
+    returns-8
+    returns-9
+    counted-width-requires
+    returns-10)

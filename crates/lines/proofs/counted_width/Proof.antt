@@ -1,0 +1,43 @@
+use Prim.Native.Nat.{_+_}
+use mathlib.Core.Path.{_≡_}
+use native.Mathlib.Omega.{arith}
+use lib.ListN.{length}
+use Rattle.lines.specs.Text.{decimal}
+use Rattle.lines.proofs.Laws.{low-length, high-length, word-width}
+use Rattle.lines.proofs.counted_width.Statement.{statement}
+use Rattle.lines.proofs.counted_width.Tie as tie
+use Rattle.lines.proofs.counted_width.Reads as reads
+use Rattle.lines.proofs.counted_width.Lts as lts
+
+abbrev Inv-loop : tie.InvT-loop
+Inv-loop v left₀ width₀ left width = width + length (decimal left) ≡ length (decimal v) + 1
+
+abbrev μ-loop : tie.MeasureT-loop
+μ-loop v left₀ width₀ left width = left
+
+-- src/lib.rt:102:5
+loop-holds : tie.Need-loop-holds Inv-loop μ-loop
+loop-holds c = omega arith
+
+-- src/lib.rt:104:9
+add-width : tie.Need-add-width Inv-loop μ-loop
+add-width c = omega (arith, word-width (c .before .before .args .v) (omega arith))
+
+-- src/lib.rt:102:5
+loop-less : tie.Need-loop-less Inv-loop μ-loop
+loop-less c = omega arith
+
+-- src/lib.rt:102:5
+loop-again : tie.Need-loop-again Inv-loop μ-loop
+loop-again c = omega (arith, high-length (c .before .loop .left) (omega arith))
+
+-- src/lib.rt:97:1
+returns : tie.Need-returns Inv-loop μ-loop
+returns c =
+    let e = low-length (c .before .loop .left) (omega arith) in
+    let w = word-width (c .before .before .args .v) (omega arith) in
+    (omega arith, omega arith)
+
+pub counted-width-spec : {M : Type 1} → statement M
+counted-width-spec =
+    tie.close (tie.spec Inv-loop μ-loop loop-holds add-width loop-less loop-again returns)
