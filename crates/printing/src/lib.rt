@@ -174,9 +174,9 @@ fn rounded_kw(twice: u64) -> u64
 }
 
 // The quantity (kW) of the half-hour from the boundary i on.
-fn quantity_at(sums: [u64; 49], i: usize) -> u64
+fn quantity_at(sums: &[u64; 49], i: usize) -> u64
     requires { ⌜ i < 48 ⌝ }
-    ensures { λ r. ⌜ r ≡ quantityAt sums i ⌝ }
+    ensures { λ r. ⌜ r ≡ quantityAt (now (sums .entry)) i ⌝ }
 {
     let before = sums[i];
     let after = sums[i + 1];
@@ -187,9 +187,9 @@ fn quantity_at(sums: [u64; 49], i: usize) -> u64
 }
 
 // The boundary at which a run of the quantity kw ends, from the boundary `from` on.
-fn run_end(sums: [u64; 49], kw: u64, from: usize) -> usize
+fn run_end(sums: &[u64; 49], kw: u64, from: usize) -> usize
     requires { ⌜ from ≤ 48 ⌝ }
-    ensures { λ r. ⌜ (r ≡ runEnd (quantityAt sums) kw from (48 - from)) × (from ≤ r) × (r ≤ 48) ⌝ }
+    ensures { λ r. ⌜ (r ≡ runEnd (quantityAt (now (sums .entry))) kw from (48 - from)) × (from ≤ r) × (r ≤ 48) ⌝ }
 {
     let mut i = from;
     while i < 48 {
@@ -209,9 +209,9 @@ fn quantities_width(sums: [u64; 49]) -> usize
     let mut width: usize = 0;
     let mut i: usize = 0;
     while i < 48 {
-        let kw = quantity_at(sums, i);
+        let kw = quantity_at(&sums, i);
         let first = i + 1;
-        let last = run_end(sums, kw, first);
+        let last = run_end(&sums, kw, first);
         width += lines::q_width(first as u64, last as u64, kw);
         i = last;
     }
@@ -226,9 +226,9 @@ fn put_quantities(out: &mut [u8], sums: [u64; 49]) -> usize
     let mut at: usize = 0;
     let mut i: usize = 0;
     while i < 48 {
-        let quantity = quantity_at(sums, i);
+        let quantity = quantity_at(&sums, i);
         let first = i + 1;
-        let last = run_end(sums, quantity, first);
+        let last = run_end(&sums, quantity, first);
         let w = lines::put_q(&mut out[at..], first as u64, last as u64, quantity);
         at += w;
         i = last;

@@ -23,31 +23,31 @@ abbrev μ-loop : tie.MeasureT-loop
 μ-loop out₀ sums at₀ i₀ out at i = 48 - i
 
 -- all of it has room
-fits : (c : tie.At-loop Inv-loop μ-loop) → let a = c .before .before .args in length (quantities-left (quantityAt (a .sums)) 0) ≤ length (a .out .now)
-fits c = let s = c .before .before in rw (quantities-all (quantityAt (s .args .sums))) (s .pre)
+fits : (c : tie.At-loop Inv-loop μ-loop) → let a = c .before .before .args in length (quantities-left (quantityAt (a .t2)) 0) ≤ length (a .out .now)
+fits c = let s = c .before .before in rw (quantities-all (quantityAt (s .args .t2))) (s .pre)
 
 -- the next line, and its room
 next : (c : tie.After-run-end Inv-loop μ-loop) →
-    let left = quantities-left (quantityAt (c .before .before .before .before .before .args .sums)) in
-    let i = c .before .before .before .loop .i in
-    left i ≡ qLine (i + 1) (c .run-end .result) (c .before .quantity-at .result) ++ left (c .run-end .result)
+    let left = quantities-left (quantityAt (c .before .before .before .before .before .before .before .args .t2)) in
+    let i = c .before .before .before .before .before .loop .i in
+    left i ≡ qLine (i + 1) (c .run-end .result) (c .before .before .quantity-at .result) ++ left (c .run-end .result)
 next c =
-    let q = c .before .quantity-at in
-    quantities-more (quantityAt (c .before .before .before .before .before .args .sums)) (c .before .before .before .loop .i) (q .result) (c .run-end .result) (omega arith) (q .ensures) (c .run-end .ensures .0)
+    let q = c .before .before .quantity-at in
+    quantities-more (quantityAt (c .before .before .before .before .before .before .before .args .t2)) (c .before .before .before .before .before .loop .i) (q .result) (c .run-end .result) (omega arith) (q .ensures) (c .run-end .ensures .0)
 
 room : (c : tie.After-run-end Inv-loop μ-loop) →
-    let l = c .before .before .before .loop in
-    (l .at + length (qLine (l .i + 1) (c .run-end .result) (c .before .quantity-at .result)) ≤ length (l .out)) × (length (l .out) ≡ length (c .before .before .before .before .before .args .out .now))
+    let l = c .before .before .before .before .before .loop in
+    (l .at + length (qLine (l .i + 1) (c .run-end .result) (c .before .before .quantity-at .result)) ≤ length (l .out)) × (length (l .out) ≡ length (c .before .before .before .before .before .before .before .args .out .now))
 room c =
-    let a = c .before .before .before .before .before .args in
-    let l = c .before .before .before .loop in
-    let left = quantities-left (quantityAt (a .sums)) in
+    let a = c .before .before .before .before .before .before .before .args in
+    let l = c .before .before .before .before .before .loop in
+    let left = quantities-left (quantityAt (a .t2)) in
     let end = c .run-end .result in
-    lay-next (left 0) (left (l .i)) (qLine (l .i + 1) end (c .before .quantity-at .result)) (left end) (a .out .now) (l .out) (l .at) (fits (c .before .before .before)) (next c) (l .inv .1)
+    lay-next (left 0) (left (l .i)) (qLine (l .i + 1) end (c .before .before .quantity-at .result)) (left end) (a .out .now) (l .out) (l .at) (fits (c .before .before .before .before .before)) (next c) (l .inv .1)
 
 -- src/lib.rt:228:5
 loop-holds : tie.Need-loop-holds Inv-loop μ-loop
-loop-holds c = (omega arith, lay-none (quantities-left (quantityAt (c .before .args .sums)) 0) (c .before .args .out .now))
+loop-holds c = (omega arith, lay-none (quantities-left (quantityAt (c .before .args .t2)) 0) (c .before .args .out .now))
 
 -- src/lib.rt:229:13
 quantity-at-requires : tie.Need-quantity-at-requires Inv-loop μ-loop
@@ -76,7 +76,7 @@ part-put-q-end c = search needs
 -- src/lib.rt:232:13
 put-q-requires : tie.Need-put-q-requires Inv-loop μ-loop
 put-q-requires c κs =
-    let l = c .before .before .before .before .loop in
+    let l = c .before .before .before .before .before .before .loop in
     omega (arith, part-length (l .at) (l .out), room (c .before))
 
 -- src/lib.rt:233:9
@@ -91,14 +91,14 @@ loop-less c = omega (arith, c .before .before .before .before .run-end .ensures 
 loop-again : tie.Need-loop-again Inv-loop μ-loop
 loop-again c =
     let w = c .before .before .before .before in
-    let a = w .before .before .before .before .before .args in
-    let l = w .before .before .before .loop in
+    let a = w .before .before .before .before .before .before .before .args in
+    let l = w .before .before .before .before .before .loop in
     let p = c .before .before .put-q in
     let end = w .run-end .result in
-    let left = quantities-left (quantityAt (a .sums)) in (
+    let left = quantities-left (quantityAt (a .t2)) in (
       w .run-end .ensures .2,
-      lay-more (left 0) (left (l .i)) (qLine (l .i + 1) end (w .before .quantity-at .result)) (left end) (a .out .now) (l .out) (p .last .0) (l .at) (p .result)
-          (fits (w .before .before .before)) (next w) (l .inv .1) (p .ensures .0) (p .ensures .1),
+      lay-more (left 0) (left (l .i)) (qLine (l .i + 1) end (w .before .before .quantity-at .result)) (left end) (a .out .now) (l .out) (p .last .0) (l .at) (p .result)
+          (fits (w .before .before .before .before .before)) (next w) (l .inv .1) (p .ensures .0) (p .ensures .1),
     )
 
 -- src/lib.rt:222:1
@@ -106,7 +106,7 @@ same-length : tie.Need-same-length Inv-loop μ-loop
 same-length c =
     let a = c .before .before .before .args in
     let l = c .before .loop in
-    let left = quantities-left (quantityAt (a .sums)) in
+    let left = quantities-left (quantityAt (a .t2)) in
     lay-room (left 0) (left (l .i)) (a .out .now) (l .out) (l .at) (fits (c .before)) (l .inv .1) .1
 
 -- src/lib.rt:222:1
@@ -114,9 +114,9 @@ returns : tie.Need-returns Inv-loop μ-loop
 returns c =
     let a = c .before .before .before .args in
     let l = c .before .loop in
-    let left = quantities-left (quantityAt (a .sums)) in
-    let r = lay-all (left 0) (left (l .i)) (a .out .now) (l .out) (l .at) (quantities-none (quantityAt (a .sums)) (l .i) (omega arith)) (l .inv .1) in
-    let all = quantities-all (quantityAt (a .sums)) in
+    let left = quantities-left (quantityAt (a .t2)) in
+    let r = lay-all (left 0) (left (l .i)) (a .out .now) (l .out) (l .at) (quantities-none (quantityAt (a .t2)) (l .i) (omega arith)) (l .inv .1) in
+    let all = quantities-all (quantityAt (a .t2)) in
     (r .0 ∙ ap length all, r .1 ∙ ap (λ (d : List ℕ). laid d (a .out .now)) all)
 
 pub put-quantities-spec : {M : Type 1} → statement M

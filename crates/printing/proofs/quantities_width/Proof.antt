@@ -51,12 +51,12 @@ loop-less c = omega arith
 -- src/lib.rt:211:5
 loop-again : tie.Need-loop-again Inv-loop μ-loop
 loop-again c =
-    let a = c .before .before .before .before .before .args in
-    let l = c .before .before .before .before .loop in
-    let q = c .before .before .quantity-at in
+    let a = c .before .before .before .before .before .before .before .args in
+    let l = c .before .before .before .before .before .before .loop in
+    let q = c .before .before .before .quantity-at in
     let end = c .before .run-end in
-    let left = quantities-left (quantityAt (a .sums)) in
-    let e = quantities-more (quantityAt (a .sums)) (l .i) (q .result) (end .result) (omega arith) (q .ensures) (end .ensures .0) in
+    let left = quantities-left (quantityAt (a .t1)) in
+    let e = quantities-more (quantityAt (a .t1)) (l .i) (q .result) (end .result) (omega arith) (q .ensures) (end .ensures .0) in
     let r = left-shorter (left (l .i)) (qLine (l .i + 1) (end .result) (q .result)) (left (end .result)) e in
     (end .ensures .2, omega (arith, r, c .q-width .ensures .0, l .inv .1), omega (arith, end .ensures .1, c .q-width .ensures .1, l .inv .2))
 
@@ -65,7 +65,7 @@ returns : tie.Need-returns Inv-loop μ-loop
 returns c =
     let a = c .before .before .args in
     let l = c .before .loop in
-    let f = quantityAt (a .sums) in
+    let f = quantityAt (a .t1) in
     (omega (arith, l .inv .1, ap length (quantities-none f (l .i) (omega arith)), ap length (quantities-all f)), omega (arith, l .inv .2, l .inv .0))
 
 pub quantities-width-spec : {M : Type 1} → statement M

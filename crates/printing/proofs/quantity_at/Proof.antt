@@ -12,8 +12,8 @@ mul-before : tie.Need-mul-before
 mul-before c = search needs
 
 -- src/lib.rt:181:18
-array-read-before : tie.Need-array-read-before
-array-read-before c = search needs
+element-copy-out-before : tie.Need-element-copy-out-before
+element-copy-out-before c = search needs
 
 -- src/lib.rt:182:22
 add-after : tie.Need-add-after
@@ -24,12 +24,12 @@ mul-after : tie.Need-mul-after
 mul-after c = search needs
 
 -- src/lib.rt:182:17
-array-read-after : tie.Need-array-read-after
-array-read-after c = search needs
+element-copy-out-after : tie.Need-element-copy-out-after
+element-copy-out-after c = search needs
 
 -- src/lib.rt:184:9
 returns : tie.Need-returns
-returns c = quantity-none (c .before .args .t1) (c .before .args .i) (c .if1 .taken)
+returns c = quantity-none (c .before .before .before .args .sums .now) (c .before .before .before .args .i) (c .if1 .taken)
 
 -- src/lib.rt:186:16
 sub-rounded-kw : tie.Need-sub-rounded-kw
@@ -41,17 +41,17 @@ rounded-kw-requires c κs = search needs
 
 -- src/lib.rt:177:1
 returns-2 : tie.Need-returns-2
-returns-2 c = c .rounded-kw .ensures ∙ quantity-some (c .before .before .args .t1) (c .before .before .args .i)
+returns-2 c = c .rounded-kw .ensures ∙ quantity-some (c .before .before .before .before .args .sums .now) (c .before .before .before .before .args .i)
 
 pub quantity-at-spec : {M : Type 1} → statement M
 quantity-at-spec =
     tie.close
     (tie.spec
     mul-before
-    array-read-before
+    element-copy-out-before
     add-after
     mul-after
-    array-read-after
+    element-copy-out-after
     returns
     sub-rounded-kw
     rounded-kw-requires

@@ -30,7 +30,7 @@ returns c =
     let a = c .before .before .before .before .args in
     let l = c .before .before .before .loop in
     let q = c .before .quantity-at in
-    (sym (end-here (quantityAt (a .sums)) (a .kw) (l .i) (48 - l .i) (omega arith) (λ e. omega (arith, q .ensures))) ∙ l .inv .2, l .inv .0, l .inv .1)
+    (sym (end-here (quantityAt (a .sums .now)) (a .kw) (l .i) (48 - l .i) (omega arith) (λ e. omega (arith, q .ensures))) ∙ l .inv .2, l .inv .0, l .inv .1)
 
 -- src/lib.rt:200:9
 add-i : tie.Need-add-i Inv-loop μ-loop
@@ -46,7 +46,7 @@ loop-again c =
     let a = c .before .before .before .before .args in
     let l = c .before .before .before .loop in
     let q = c .before .quantity-at in
-    let f = quantityAt (a .sums) in (
+    let f = quantityAt (a .sums .now) in (
       omega arith,
       omega arith,
       ap (runEnd f (a .kw) (l .i + 1)) {x = 48 - (l .i + 1)} {y = 48 - l .i - 1} (omega arith)
@@ -58,7 +58,7 @@ returns-2 : tie.Need-returns-2 Inv-loop μ-loop
 returns-2 c =
     let a = c .before .before .args in
     let l = c .before .loop in
-    (sym (end-none (quantityAt (a .sums)) (a .kw) (l .i) (48 - l .i) (omega arith)) ∙ l .inv .2, l .inv .0, l .inv .1)
+    (sym (end-none (quantityAt (a .sums .now)) (a .kw) (l .i) (48 - l .i) (omega arith)) ∙ l .inv .2, l .inv .0, l .inv .1)
 
 pub run-end-spec : {M : Type 1} → statement M
 run-end-spec =
