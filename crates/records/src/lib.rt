@@ -539,11 +539,13 @@ const HIGHS: [u32; 62] = [
 fn all_fit(ns: [u32; 62]) -> bool
     ensures { λ r. ⌜ r ≡ fitFrom unitRanges ns 0 ⌝ }
 {
+    let lows = LOWS;
+    let highs = HIGHS;
     let mut i: usize = 0;
     while i < 62 {
         let v = ns[i];
-        let low = LOWS[i];
-        let high = HIGHS[i];
+        let low = lows[i];
+        let high = highs[i];
         if v < low {
             return false;
         }

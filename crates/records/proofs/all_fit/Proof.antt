@@ -12,10 +12,10 @@ use Rattle.records.proofs.all_fit.Lts as lts
 
 -- what is left to look at says what the whole says
 abbrev Inv-loop : tie.InvT-loop
-Inv-loop ns i₀ i = (i ≤ 62) × (fitFrom (drop i unitRanges) ns i ≡ fitFrom unitRanges ns 0)
+Inv-loop ns lows highs i₀ i = (i ≤ 62) × (fitFrom (drop i unitRanges) ns i ≡ fitFrom unitRanges ns 0)
 
 abbrev μ-loop : tie.MeasureT-loop
-μ-loop ns i₀ i = 62 - i
+μ-loop ns lows highs i₀ i = 62 - i
 
 loop-holds : tie.Need-loop-holds Inv-loop μ-loop
 loop-holds c = (search needs, refl)
