@@ -4,12 +4,14 @@ use Prim.Native.Nat.{ℕ, zero, suc, _+_, _-_, _/_, _%_, min, _≤_, _<_}
 use mathlib.Core.Path.{_≡_, refl, sym, ap, _∙_}
 use mathlib.Core.List.{List, [], _∷_, _++_, append-assoc, append-nil}
 use mathlib.Core.Bool.{Bool, true, false}
+use native.Mathlib.Decide.{decLe}
 use native.Mathlib.Omega.{arith}
 use native.Mathlib.Numerals.{add-one}
 use lib.ListN.{length, getD, take, drop, length-append, length-take, drop-of-length-le}
 use lib.Seq.{drop-cons, getD-take}
 use lib.Dec.{ltb, eqb}
-use borrow.Author.Tests.{eq-eqb, ne-eqb}
+use borrow.Author.Tests.{lt-ltb, le-ltb, eq-eqb, ne-eqb}
+use Rattle.level.specs.Choice.{pick}
 use Rattle.level.specs.Level.{grains}
 use Rattle.level.specs.Lists.{listFrom}
 use Rattle.records.specs.declared.UnitData.{UnitData}
@@ -133,6 +135,14 @@ end-next cs n i h =
 pub end-last : (cs : List Course) (n i : ℕ) → min n (length cs) ≤ i → 86400 ≡ beginOf daySeconds (drop i (take n cs))
 unfolding beginOf
 end-last cs n i h = sym (ap (beginOf daySeconds) (drop-of-length-le (take n cs) {i = i} (omega (arith, length-take n cs))))
+
+-- where the course at the place i ends, of the first `started`
+pub end-is : (cs : List Course) (started n i : ℕ) → length cs ≡ 41 → n ≡ min started 41 → i < n →
+    pick (ltb (i + 1) n) (getD cs (min (i + 1) 40) noCourse .begin) daySeconds ≡ beginOf daySeconds (drop (i + 1) (take started cs))
+end-is cs started n i e f h = elim (decLe (suc (i + 1)) n) [
+  | yes k ↦ simp (lt-ltb (i + 1) n k) (ap (λ (j : ℕ). getD cs j noCourse .begin) {x = min (i + 1) 40} {y = i + 1} (omega arith) ∙ end-next cs started (i + 1) (omega arith))
+  | no k ↦ simp (le-ltb (i + 1) n (omega arith)) (end-last cs started (i + 1) (omega arith))
+]
 
 -- those of the courses from the place i on, of the first n
 abbrev pub courses-left : UnitData → List Course → ℕ → ℕ → List ℕ

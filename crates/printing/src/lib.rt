@@ -1,8 +1,9 @@
 // The listing of a day: measured first, then written.
 ghost use mathlib.Core.Path.{_≡_};
 ghost use Prim.Native.Nat.{_+_, _-_, min, _<_, _≤_};
-ghost use lib.ListN.{length, take, drop};
-ghost use Rattle.profile.specs.Profile.{beginOf, rounded};
+ghost use lib.ListN.{length, take};
+ghost use Rattle.level.specs.Choice.{pick};
+ghost use Rattle.profile.specs.Profile.{rounded};
 ghost use Rattle.day.specs.Day.{daySeconds, quantityAt};
 ghost use Rattle.lines.specs.Text.{laid};
 ghost use Rattle.listing.specs.Listing.{printedDay, listOf, lentAfter};
@@ -111,15 +112,11 @@ fn put_course(out: &mut [u8], u: records::UnitData, c: course::Course, n: u32) -
     at
 }
 
-// Where the course at the place i of the first `started` ends: where the next one begins, else at the day's end.
-fn end_of(cs: [course::Course; 41], started: usize, i: usize) -> u32
-    requires { ⌜ i < 41 ⌝ }
-    ensures { λ r. ⌜ r ≡ beginOf daySeconds (drop (i + 1) (take started cs)) ⌝ }
+// Where a course ends: where the next one begins, if there is one, else at the day's end.
+fn end_of(more: bool, next: course::Course) -> u32
+    ensures { λ r. ⌜ r ≡ pick more (next .begin) daySeconds ⌝ }
 {
-    let n = at_most(started, 41);
-    let j = i + 1;
-    if j < n {
-        let next = cs[j];
+    if more {
         return next.begin;
     }
     86400
@@ -133,8 +130,10 @@ fn courses_width(u: records::UnitData, cs: [course::Course; 41], started: usize)
     let mut width: usize = 0;
     let mut i: usize = 0;
     while i < n {
-        let end = end_of(cs, started, i);
         let c = cs[i];
+        let j = at_most(i + 1, 40);
+        let next = cs[j];
+        let end = end_of(i + 1 < n, next);
         width += course_width(u, c, end);
         i += 1;
     }
@@ -155,8 +154,10 @@ fn put_courses(
     let mut at: usize = 0;
     let mut i: usize = 0;
     while i < n {
-        let end = end_of(cs, started, i);
         let c = cs[i];
+        let j = at_most(i + 1, 40);
+        let next = cs[j];
+        let end = end_of(i + 1 < n, next);
         let w = put_course(&mut out[at..], u, c, end);
         at += w;
         i += 1;
