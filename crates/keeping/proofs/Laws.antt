@@ -2,13 +2,13 @@
 -- Assumes nothing.
 use mathlib.Core.Path.{_≡_, refl, sym, ap, _∙_}
 use mathlib.Core.List.{List, [], _∷_, _++_, map, append-assoc, append-nil}
-use mathlib.Core.Bool.{Bool, true, false, not}
-use Prim.Native.Nat.{ℕ, zero, suc, _+_, _-_, _≤_, _<_}
+use mathlib.Core.Bool.{Bool, true, false, _&&_, _||_, not}
+use Prim.Native.Nat.{ℕ, zero, suc, _+_, _-_, _≤_, _<_, min}
 use native.Mathlib.Numerals.{add-one}
 use native.Mathlib.Omega.{arith}
-use lib.Dec.{ltb}
+use lib.Dec.{leb, ltb, eqb}
 use lib.ListN.{length, take, drop, getD, set, replicate, length-take, length-append, length-replicate, replicate-append-replicate, drop-of-length-le}
-use lib.Seq.{drop-cons, getD-take, length-take-le, take-take, take-append-seam, take-append-le, take-set-lt, set-append-seam}
+use lib.Seq.{drop-cons, getD-take, length-take-le, take-take, take-append-seam, take-append-le, take-set-lt, take-suc-set, take-suc, set-append-seam}
 use borrow.Author.Tests.{lt-ltb, le-ltb, le-leb, lt-leb, eq-eqb, ne-eqb}
 use Rattle.level.specs.Choice.{pick}
 use Rattle.level.specs.Lists.{some, those, filled}
@@ -17,7 +17,7 @@ use Rattle.records.specs.Codes.{codeNumber}
 use Rattle.validation.specs.declared.Numbered.{Numbered}
 use Rattle.validation.specs.Kept.{effectiveOf, effectOf, levelOf, goesBefore, highest, superseded, orElse, present, carrying, merged, usedOf, nextTime}
 use Rattle.keeping.specs.Outcome.{noNumbered}
-use Rattle.keeping.specs.Working.{holding, pushed, foundList, joined, earliest, inGroup, earlierOf, supersedesOf}
+use Rattle.keeping.specs.Working.{holding, pushed, foundList, joined, earliest, issueOf, Timed, supersedesAt, supersededAt, earlierOf, nextAt}
 use Rattle.keeping.specs.declared.Sequence.{Sequence}
 use Rattle.keeping.specs.declared.Found.{Found}
 use Rattle.keeping.specs.declared.Found.the-variants.{One, Nothing}
@@ -36,13 +36,13 @@ module _ {A : Type 0} (xs : List A) (n : ℕ) where
   pub left-none : (i : ℕ) → n ≤ i → drop i (take n xs) ≡ []
   left-none i h = drop-of-length-le (take n xs) {i = i} (omega (arith, length-take n xs))
 
-  pub those-next : (f : A → Bool) (i : ℕ) (d : A) → i < n → n ≤ length xs → those f (drop i (take n xs)) ≡ pick (f (getD xs i d)) (getD xs i d ∷ []) [] ++ those f (drop (i + 1) (take n xs))
+  pub those-skip : (f : A → Bool) (i : ℕ) (d : A) → i < n → n ≤ length xs → f (getD xs i d) ≡ false → those f (drop i (take n xs)) ≡ those f (drop (i + 1) (take n xs))
   unfolding those
-  those-next f i d h k = rw (left-cons i d h k) (go (f (getD xs i d)))
-    where
-      go : (b : Bool) → pick b (getD xs i d ∷ those f (drop (i + 1) (take n xs))) (those f (drop (i + 1) (take n xs))) ≡ pick b (getD xs i d ∷ []) [] ++ those f (drop (i + 1) (take n xs))
-      go true = refl
-      go false = refl
+  those-skip f i d h k e = rw (left-cons i d h k, e)
+
+  pub those-keep : (f : A → Bool) (i : ℕ) (d : A) → i < n → n ≤ length xs → f (getD xs i d) ≡ true → those f (drop i (take n xs)) ≡ getD xs i d ∷ those f (drop (i + 1) (take n xs))
+  unfolding those
+  those-keep f i d h k e = rw (left-cons i d h k, e)
 
 -- ---- an array that begins with a list
 module _ {A : Type 0} (x : A) where
@@ -96,6 +96,11 @@ module _ {s : Sequence} {rest whole : List Numbered} where
         parts = append-assoc (b .xs) (o ∷ []) rest ∙ b .parts;
       }
 
+  -- stored in place
+  pub begun-store : (k : ℕ) (o : Numbered) → s .count ≡ k → k < 40 → Begun s (o ∷ rest) whole → Begun (record { items = set (s .items) k o; count = k + 1 }) rest whole
+  unfolding pushed
+  begun-store k o e h b = rw e at (begun-push o (omega arith) b)
+
   pub begun-pick : (test : Bool) (o : Numbered) → s .count < 40 → Begun s (pick test (o ∷ []) [] ++ rest) whole → Begun (pick test (pushed s o) s) rest whole
   begun-pick true o h b = begun-push o h b
   begun-pick false o h b = b
@@ -144,34 +149,116 @@ module _ (x o : Numbered) where
   pub higher-no : goesBefore x o ≡ false → o ≡ pick (goesBefore x o) x o
   higher-no e = rw e
 
-pub group-other : (os : List Numbered) (t : ℕ) (o : Numbered) → (effectiveOf o ≡ t → ⊥) → false ≡ inGroup os t o
-unfolding inGroup
-group-other os t o h = simp (ne-eqb _ _ h)
+-- ---- the effective times and the issue times
+module _ (x j t issue : ℕ) where
+  pub supersedes-same : x ≡ t → ltb issue j ≡ supersedesAt x j t issue
+  unfolding supersedesAt
+  supersedes-same e = simp (eq-eqb _ _ e)
 
-pub group-left : (os : List Numbered) (t : ℕ) (o : Numbered) → effectiveOf o ≡ t → not (superseded os o) ≡ inGroup os t o
-unfolding inGroup
-group-left os t o h = simp (eq-eqb _ _ h)
+  pub supersedes-other : (x ≡ t → ⊥) → false ≡ supersedesAt x j t issue
+  unfolding supersedesAt
+  supersedes-other h = simp (ne-eqb _ _ h)
 
--- ---- the least effective time
-pub earlier-past : (o : Numbered) (t best : ℕ) → effectiveOf o < t → best ≡ earlierOf o t best
-unfolding earlierOf
-earlier-past o t best h = simp (lt-leb _ _ h)
+module _ (x t best : ℕ) where
+  pub earlier-past : x < t → best ≡ earlierOf x t best
+  unfolding earlierOf
+  earlier-past h = simp (lt-leb _ _ h)
 
-pub earlier-less : (o : Numbered) (t best : ℕ) → t ≤ effectiveOf o → effectiveOf o < best → effectiveOf o ≡ earlierOf o t best
-unfolding earlierOf
-earlier-less o t best h k = simp (le-leb _ _ h) (omega arith)
+  pub earlier-less : t ≤ x → x < best → x ≡ earlierOf x t best
+  unfolding earlierOf
+  earlier-less h k = simp (le-leb _ _ h) (omega arith)
 
-pub earlier-not : (o : Numbered) (t best : ℕ) → t ≤ effectiveOf o → best ≤ effectiveOf o → best ≡ earlierOf o t best
-unfolding earlierOf
-earlier-not o t best h k = simp (le-leb _ _ h) (omega arith)
+  pub earlier-not : t ≤ x → best ≤ x → best ≡ earlierOf x t best
+  unfolding earlierOf
+  earlier-not h k = simp (le-leb _ _ h) (omega arith)
 
-pub next-none : {os : List Numbered} (end t : ℕ) → os ≡ [] → nextTime end os t ≡ end
-unfolding nextTime
+pub next-none : {ts : List ℕ} (end t : ℕ) → ts ≡ [] → nextAt end ts t ≡ end
+unfolding nextAt
 next-none end t e = rw e
 
-pub superseded-none : {os : List Numbered} (o : Numbered) → os ≡ [] → superseded os o ≡ false
-unfolding superseded some
-superseded-none o e = rw e
+pub superseded-none : {ts : List ℕ} (js : List ℕ) (t issue : ℕ) → ts ≡ [] → supersededAt ts js t issue ≡ false
+unfolding supersededAt
+superseded-none js t issue e = rw e
+
+module _ (ts : List ℕ) (n : ℕ) (fits : n ≤ length ts) where
+  pub next-more : (end t i : ℕ) → i < n → earlierOf (getD ts i 0) t (nextAt end (drop (i + 1) (take n ts)) t) ≡ nextAt end (drop i (take n ts)) t
+  unfolding nextAt
+  next-more end t i h = rw (left-cons ts n i 0 h fits)
+
+  module _ (js : List ℕ) (room : n ≤ length js) (t issue i : ℕ) (h : i < n) where
+    pub superseded-here : supersedesAt (getD ts i 0) (getD js i 0) t issue ≡ true → supersededAt (drop i (take n ts)) (drop i (take n js)) t issue ≡ true
+    unfolding supersededAt
+    superseded-here e = rw (left-cons ts n i 0 h fits, left-cons js n i 0 h room, e)
+
+    pub superseded-next : supersedesAt (getD ts i 0) (getD js i 0) t issue ≡ false → supersededAt (drop i (take n ts)) (drop i (take n js)) t issue ≡ supersededAt (drop (i + 1) (take n ts)) (drop (i + 1) (take n js)) t issue
+    unfolding supersededAt
+    superseded-next e = rw (left-cons ts n i 0 h fits, left-cons js n i 0 h room, e)
+
+-- they say of the times what the definitions say of the instructions
+superseded-times : (os : List Numbered) (o : Numbered) → supersededAt (map effectiveOf os) (map issueOf os) (effectiveOf o) (issueOf o) ≡ superseded os o
+unfolding superseded some supersededAt supersedesAt
+superseded-times [] o = refl
+superseded-times (x ∷ os) o = ap (λ (b : Bool). (eqb (effectiveOf x) (effectiveOf o) && ltb (issueOf o) (issueOf x)) || b) (superseded-times os o)
+
+next-times : (end : ℕ) (os : List Numbered) (t : ℕ) → nextAt end (map effectiveOf os) t ≡ nextTime end os t
+unfolding nextAt nextTime earlierOf
+next-times end [] t = refl
+next-times end (o ∷ os) t = ap (λ (k : ℕ). pick (leb t (effectiveOf o)) (min (effectiveOf o) k) k) (next-times end os t)
+
+module _ {os : List Numbered} {ts js : List ℕ} (timed : Timed os ts js) where
+  pub superseded-is : (o : Numbered) (t issue : ℕ) → t ≡ effectiveOf o → issue ≡ issueOf o → supersededAt ts js t issue ≡ superseded os o
+  superseded-is o t issue e k = rw (timed .effective, timed .issued, e, k) (superseded-times os o)
+
+  pub next-is : (end t : ℕ) → nextAt end ts t ≡ nextTime end os t
+  next-is end t = rw (timed .effective) (next-times end os t)
+
+map-at : (f : Numbered → ℕ) (xs : List Numbered) (i : ℕ) → getD (map f xs) i (f noNumbered) ≡ f (getD xs i noNumbered)
+map-at f [] i = refl
+map-at f (x ∷ xs) zero = refl
+map-at f (x ∷ xs) (suc i) = map-at f xs i
+
+-- as many as there are
+pub time-fits : (f : Numbered → ℕ) (os : List Numbered) (ts : List ℕ) (n : ℕ) → take n ts ≡ map f (take n os) → n ≤ length os → n ≤ length ts
+time-fits f os ts n e h = omega (arith, length-take n ts, ap length e, map-length f (take n os), length-take-le n os h)
+
+pub time-at : (f : Numbered → ℕ) (os : List Numbered) (ts : List ℕ) (n i : ℕ) → take n ts ≡ map f (take n os) → i < n → getD ts i (f noNumbered) ≡ f (getD os i noNumbered)
+time-at f os ts n i e h =
+    sym (getD-take n ts i (f noNumbered) h) ∙ (ap (λ (l : List ℕ). getD l i (f noNumbered)) e ∙ (map-at f (take n os) i ∙ ap f (getD-take n os i noNumbered h)))
+
+map-last : (f : Numbered → ℕ) (xs : List Numbered) (x : Numbered) → map f (xs ++ (x ∷ [])) ≡ map f xs ++ (f x ∷ [])
+map-last f [] x = refl
+map-last f (y ∷ ys) x = ap (λ (l : List ℕ). f y ∷ l) (map-last f ys x)
+
+-- one more of the times
+pub map-more : (f : Numbered → ℕ) (os : List Numbered) (ts : List ℕ) (i : ℕ) → i < length os → i < length ts → take i ts ≡ map f (take i os) →
+    take (i + 1) (set ts i (f (getD os i noNumbered))) ≡ map f (take (i + 1) os)
+map-more f os ts i h k e =
+    rw (add-one, take-suc-set ts i (f (getD os i noNumbered)) k, take-suc os i noNumbered h, e) (sym (map-last f (take i os) (getD os i noNumbered)))
+
+pub superseded-at : {os : List Numbered} {ts js : List ℕ} → Timed os ts js → (i : ℕ) → supersededAt ts js (getD ts i 0) (getD js i 0) ≡ superseded os (getD os i noNumbered)
+superseded-at {os} {ts} {js} timed i =
+    superseded-is timed (getD os i noNumbered) (getD ts i 0) (getD js i 0) (ap (λ (l : List ℕ). getD l i 0) (timed .effective) ∙ map-at effectiveOf os i) (ap (λ (l : List ℕ). getD l i 0) (timed .issued) ∙ map-at issueOf os i)
+
+-- left at the effective time t
+unfoldable pub inGroup : List Numbered → ℕ → Numbered → Bool
+inGroup os t o = eqb (effectiveOf o) t && not (superseded os o)
+
+module _ (os : List Numbered) (t : ℕ) (o : Numbered) where
+  pub group-other : (effectiveOf o ≡ t → ⊥) → inGroup os t o ≡ false
+  unfolding inGroup
+  group-other h = simp (ne-eqb _ _ h)
+
+  pub group-gone : superseded os o ≡ true → inGroup os t o ≡ false
+  unfolding inGroup
+  group-gone e = rw e (go (eqb (effectiveOf o) t))
+    where
+      go : (b : Bool) → (b && false) ≡ false
+      go true = refl
+      go false = refl
+
+  pub group-left : effectiveOf o ≡ t → superseded os o ≡ false → inGroup os t o ≡ true
+  unfolding inGroup
+  group-left h e = simp (eq-eqb _ _ h, e)
 
 -- ---- the carrier, and the one that is used
 module _ (g : List Numbered) where
@@ -222,23 +309,7 @@ unfolding earliest those
 earliest-none code e = rw e
 
 module _ (os : List Numbered) (n : ℕ) (d : Numbered) (fits : n ≤ length os) where
-  pub next-more : (end t i : ℕ) → i < n → earlierOf (getD os i d) t (nextTime end (drop (i + 1) (take n os)) t) ≡ nextTime end (drop i (take n os)) t
-  unfolding nextTime earlierOf
-  next-more end t i h = rw (left-cons os n i d h fits)
-
-  -- ---- superseded
-  pub superseded-here : (o : Numbered) (i : ℕ) → i < n → supersedesOf (getD os i d) o ≡ true → superseded (drop i (take n os)) o ≡ true
-  unfolding superseded some supersedesOf
-  superseded-here o i h e = rw (left-cons os n i d h fits, e)
-
-  pub superseded-next : (o : Numbered) (i : ℕ) → i < n → supersedesOf (getD os i d) o ≡ false → superseded (drop i (take n os)) o ≡ superseded (drop (i + 1) (take n os)) o
-  unfolding superseded some supersedesOf
-  superseded-next o i h e = rw (left-cons os n i d h fits, e)
-
-  -- ---- a group: those left, the highest of them, the earliest of a code
-  pub group-next : (t i : ℕ) → i < n → those (inGroup (take n os) t) (drop i (take n os)) ≡ pick (inGroup (take n os) t (getD os i d)) (getD os i d ∷ []) [] ++ those (inGroup (take n os) t) (drop (i + 1) (take n os))
-  group-next t i h = those-next os n (inGroup (take n os) t) i d h fits
-
+  -- ---- a group: the highest of them, the earliest of a code
   pub highest-next : (best : Numbered) (i : ℕ) → i < n → highest best (drop i (take n os)) ≡ highest (pick (goesBefore (getD os i d) best) (getD os i d) best) (drop (i + 1) (take n os))
   unfolding highest
   highest-next best i h = rw (left-cons os n i d h fits)

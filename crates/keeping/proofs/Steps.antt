@@ -18,7 +18,7 @@ use Rattle.validation.specs.declared.Numbered.{Numbered}
 use Rattle.validation.specs.Kept.{effectiveOf, effectOf, numbered, Mark, mark, superseded, group, usedOf, nextTime, usedFrom, used, repeats, syncWithinHour, fromSync, beforeSync, Checked, failed, checkOne, check, acting, overtaken, lateFate, actors, lateMarks}
 use Rattle.keeping.specs.declared.Checking.{Checking}
 use Rattle.keeping.specs.Outcome.{noNumbered}
-use Rattle.keeping.specs.Working.{stackOf, between, syncPlace, withinHour, setFate, marked, withFate, voided, keeping, noChecking, noneChecked, Tracks, Follows, settleFate, settled, fatesTo}
+use Rattle.keeping.specs.Working.{stackOf, between, syncPlace, withinHour, setFate, marked, withFate, voided, keeping, noChecking, noneChecked, Tracks, Follows, settleFate, settled, supersededAt, fatesTo}
 use Rattle.keeping.proofs.Laws.{left-cons, filled-push}
 use Rattle.keeping.proofs.Stack.{stack-push, hour-none, hour-some, before-sync, from-sync}
 
@@ -218,23 +218,26 @@ module _ (ks : List Numbered) (n : ℕ) (fits : n ≤ length ks) where
   settled-next end i fates h = rw (left-cons ks n i noNumbered h fits)
 
 -- ---- the fates by number
-fates-count : (os : List Numbered) (later : List ℕ) (i : ℕ) → length (fatesTo os later i) ≡ i
-unfolding fatesTo
-fates-count os later zero = refl
-fates-count os later (suc i) = simp length-append (omega (arith, fates-count os later i))
+module _ (times issues later : List ℕ) where
+  fates-count : (i : ℕ) → length (fatesTo times issues later i) ≡ i
+  unfolding fatesTo
+  fates-count zero = refl
+  fates-count (suc i) = simp length-append (omega (arith, fates-count i))
 
-fates-step : (os : List Numbered) (later : List ℕ) (i : ℕ) → fatesTo os later (i + 1) ≡ fatesTo os later i ++ (pick (superseded os (getD os i noNumbered)) 1 (getD later i 0) ∷ [])
-unfolding fatesTo
-fates-step os later i = rw add-one
+  fates-step : (i : ℕ) → fatesTo times issues later (i + 1) ≡ fatesTo times issues later i ++ (pick (supersededAt times issues (getD times i 0) (getD issues i 0)) 1 (getD later i 0) ∷ [])
+  unfolding fatesTo
+  fates-step i = rw add-one
 
-pub fates-more : (os : List Numbered) (n i : ℕ) (later : List ℕ) → i < n → i < 40 →
-    set (filled 40 0 (fatesTo (take n os) later i)) i (pick (superseded (take n os) (getD os i noNumbered)) 1 (getD later i 0)) ≡ filled 40 0 (fatesTo (take n os) later (i + 1))
-fates-more os n i later h k =
-    let xs = fatesTo (take n os) later i in
-    let v : ℕ = pick (superseded (take n os) (getD os i noNumbered)) 1 (getD later i 0) in
-    let e : length xs ≡ i = fates-count (take n os) later i in
+pub fates-more : (ts js : List ℕ) (n i : ℕ) (later : List ℕ) → i < n → i < 40 →
+    set (filled 40 0 (fatesTo (take n ts) (take n js) later i)) i (pick (supersededAt (take n ts) (take n js) (getD ts i 0) (getD js i 0)) 1 (getD later i 0)) ≡ filled 40 0 (fatesTo (take n ts) (take n js) later (i + 1))
+fates-more ts js n i later h k =
+    let xs = fatesTo (take n ts) (take n js) later i in
+    let v : ℕ = pick (supersededAt (take n ts) (take n js) (getD ts i 0) (getD js i 0)) 1 (getD later i 0) in
+    let e : length xs ≡ i = fates-count (take n ts) (take n js) later i in
     let p : set (filled 40 0 xs) i v ≡ filled 40 0 (xs ++ (v ∷ [])) = ap (λ (j : ℕ). set (filled 40 0 xs) j v) (sym e) ∙ filled-push 0 40 xs v (omega arith) in
-    p ∙ ap (filled 40 0) (ap (λ (o : Numbered). xs ++ (pick (superseded (take n os) o) 1 (getD later i 0) ∷ [])) (sym (getD-take n os i noNumbered h)) ∙ sym (fates-step (take n os) later i))
+    let a : getD ts i 0 ≡ getD (take n ts) i 0 = sym (getD-take n ts i 0 h) in
+    let b : getD js i 0 ≡ getD (take n js) i 0 = sym (getD-take n js i 0 h) in
+    p ∙ ap (filled 40 0) ((λ q. xs ++ (pick (supersededAt (take n ts) (take n js) (a q) (b q)) 1 (getD later i 0) ∷ [])) ∙ sym (fates-step (take n ts) (take n js) later i))
 
 pub actors-none : {os : List Numbered} (end : ℕ) → os ≡ [] → actors end os ≡ []
 unfolding actors

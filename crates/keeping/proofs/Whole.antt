@@ -23,8 +23,8 @@ use Rattle.keeping.specs.declared.Checking.{Checking}
 use Rattle.keeping.specs.declared.Sequence.{Sequence}
 use Rattle.keeping.specs.declared.Validation.{Validation}
 use Rattle.keeping.specs.Outcome.{noNumbered, outcomeOf, validationOf}
-use Rattle.keeping.specs.Working.{holding, setFate, marked, noneChecked, Tracks, settleFate, settled, fatesTo}
-use Rattle.keeping.proofs.Laws.{held}
+use Rattle.keeping.specs.Working.{holding, setFate, marked, noneChecked, Tracks, settleFate, settled, Timed, supersededAt, fatesTo}
+use Rattle.keeping.proofs.Laws.{held, superseded-at}
 use Rattle.keeping.proofs.Stack.{stack-turned}
 use Rattle.keeping.proofs.Steps.{set-zero, set-some, settle-zero, settle-done, settle-some}
 
@@ -181,8 +181,8 @@ unfolding fatesOf
 fates-last all ms [] x = refl
 fates-last all ms (y ∷ ys) x = ap (λ (l : List ℕ). pick (superseded all y) 1 (fateAmong (y .number) ms) ∷ l) (fates-last all ms ys x)
 
-module _ (is : List Instruction) (few : length is ≤ 40) (later : List ℕ) (ms : List Mark) (r : Reads later ms) where
-  fates-upto : (i : ℕ) → i ≤ length is → fatesTo (numbered 1 is) later i ≡ fatesOf (numbered 1 is) ms (take i (numbered 1 is))
+module _ (is : List Instruction) (few : length is ≤ 40) (times issues : List ℕ) (timed : Timed (numbered 1 is) times issues) (later : List ℕ) (ms : List Mark) (r : Reads later ms) where
+  fates-upto : (i : ℕ) → i ≤ length is → fatesTo times issues later i ≡ fatesOf (numbered 1 is) ms (take i (numbered 1 is))
   unfolding fatesTo fatesOf
   fates-upto zero h = refl
   fates-upto (suc i) h =
@@ -190,11 +190,12 @@ module _ (is : List Instruction) (few : length is ≤ 40) (later : List ℕ) (ms
       let o = getD os i noNumbered in
       let n : i + 1 ≡ o .number = omega (arith, number-at 1 is i h) in
       let e : getD later i 0 ≡ fateAmong (o .number) ms = r .at i (omega arith) ∙ ap (λ (k : ℕ). fateAmong k ms) n in
-      let ih : fatesTo os later i ≡ fatesOf os ms (take i os) = fates-upto i (omega arith) in
-      (λ j. ih j ++ (pick (superseded os o) 1 (e j) ∷ []))
+      let u : supersededAt times issues (getD times i 0) (getD issues i 0) ≡ superseded os o = superseded-at timed i in
+      let ih : fatesTo times issues later i ≡ fatesOf os ms (take i os) = fates-upto i (omega arith) in
+      (λ j. ih j ++ (pick (u j) 1 (e j) ∷ []))
       ∙ (sym (fates-last os ms (take i os) o) ∙ ap (fatesOf os ms) (sym (take-suc os i noNumbered (omega (arith, numbered-length 1 is)))))
 
-  pub fates-all : fatesTo (numbered 1 is) later (length is) ≡ fatesOf (numbered 1 is) ms (numbered 1 is)
+  pub fates-all : fatesTo times issues later (length is) ≡ fatesOf (numbered 1 is) ms (numbered 1 is)
   fates-all =
       fates-upto (length is) (omega arith)
       ∙ ap (fatesOf (numbered 1 is) ms) (take-all (length is) (numbered 1 is) (omega (arith, numbered-length 1 is)))
@@ -217,20 +218,20 @@ module _ (end : ℕ) (os : List Numbered) (s : Checking) (t : Tracks s (check no
       (reads-settled (marked (replicate 40 2) (m .marks)) (m .marks) ls (reads-marked (m .marks)) (check-none-two noneChecked (used end os) tt) (late-none-two end (turned (m .kept) [])))
 
 -- what the code puts together
-abbrev pub result : ℕ → List Numbered → Checking → ℕ → Validation
-result end os s n = record {
-  fates = filled 40 0 (fatesTo os (settled (s .fates) (lateMarks end (take (s .height) (s .kept)))) n);
+abbrev pub result : ℕ → List ℕ → List ℕ → Checking → ℕ → Validation
+result end times issues s n = record {
+  fates = filled 40 0 (fatesTo times issues (settled (s .fates) (lateMarks end (take (s .height) (s .kept)))) n);
   acts = filled 40 noNumbered (actors end (take (s .height) (s .kept)));
   acting = length (actors end (take (s .height) (s .kept)));
 }
 
-outcome-is : (end : ℕ) (is : List Instruction) → length is ≤ 40 → (s : Checking) → Tracks s (check noneChecked (used end (numbered 1 is))) → s .height ≤ length (s .kept) →
-    result end (numbered 1 is) s (length is) ≡ outcomeOf (numbered 1 is) end
+outcome-is : (end : ℕ) (is : List Instruction) → length is ≤ 40 → (times issues : List ℕ) → Timed (numbered 1 is) times issues → (s : Checking) → Tracks s (check noneChecked (used end (numbered 1 is))) → s .height ≤ length (s .kept) →
+    result end times issues s (length is) ≡ outcomeOf (numbered 1 is) end
 unfolding outcomeOf
-outcome-is end is few s t fits =
+outcome-is end is few times issues timed s t fits =
     let os = numbered 1 is in
     let later = settled (s .fates) (lateMarks end (take (s .height) (s .kept))) in
-    let f : fatesTo os later (length is) ≡ fatesOf os (validated end os .marks) os = fates-all is few later (validated end os .marks) (marks-are end os s t fits) in
+    let f : fatesTo times issues later (length is) ≡ fatesOf os (validated end os .marks) os = fates-all is few times issues timed later (validated end os .marks) (marks-are end os s t fits) in
     let a : actors end (take (s .height) (s .kept)) ≡ validated end os .acts = acts-are end os s t fits in
     λ j. record { fates = filled 40 0 (f j); acts = filled 40 noNumbered (a j); acting = length (a j) }
 
@@ -249,11 +250,11 @@ module _ (is : List Instruction) (count end n : ℕ) (all : length is ≡ 40) (m
       let k : q .count ≡ n = omega (arith, ap (λ (p : Sequence). p .count) e, numbered-length 1 (take n is), length-take n is) in
       ap (λ (j : ℕ). take j (q .items)) (sym k) ∙ held e (omega arith)
 
-  pub validation-is : (q : Sequence) → q ≡ holding (numbered 1 (take n is)) → (s : Checking) → Tracks s (check noneChecked (used end (take n (q .items)))) → s .height ≤ length (s .kept) →
-      result end (take n (q .items)) s n ≡ validationOf is count end
+  pub validation-is : (q : Sequence) → q ≡ holding (numbered 1 (take n is)) → (times issues : List ℕ) → Timed (take n (q .items)) times issues →
+      (s : Checking) → Tracks s (check noneChecked (used end (take n (q .items)))) → s .height ≤ length (s .kept) →
+      result end times issues s n ≡ validationOf is count end
   unfolding validationOf
-  validation-is q e s t fits =
+  validation-is q e times issues timed s t fits =
       let k : n ≡ length (take n is) = omega (arith, length-take n is) in
-      rw (numbers q e)
-      (ap (result end (numbered 1 (take n is)) s) k
-      ∙ (outcome-is end (take n is) (omega arith) s (rw (numbers q e) at t) fits ∙ ap (λ (l : List Instruction). outcomeOf (numbered 1 l) end) entered))
+      ap (result end times issues s) k
+      ∙ (outcome-is end (take n is) (omega arith) times issues (rw (numbers q e) at timed) s (rw (numbers q e) at t) fits ∙ ap (λ (l : List Instruction). outcomeOf (numbered 1 l) end) entered)

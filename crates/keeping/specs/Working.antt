@@ -3,7 +3,7 @@
 use Prim.Native.Nat.{ℕ, zero, suc, _+_, _-_, min}
 use mathlib.Core.Path.{_≡_}
 use mathlib.Core.List.{List, [], _∷_, _++_, map}
-use mathlib.Core.Bool.{Bool, _&&_, not}
+use mathlib.Core.Bool.{Bool, false, _&&_, _||_}
 use lib.Dec.{leb, ltb, eqb}
 use lib.ListN.{length, set, getD, replicate}
 use Rattle.level.specs.Lists.{filled, those}
@@ -11,7 +11,7 @@ use Rattle.level.specs.Choice.{pick}
 use Rattle.records.specs.declared.Effect.the-variants.{Sync}
 use Rattle.records.specs.Codes.{codeNumber, same}
 use Rattle.validation.specs.declared.Numbered.{Numbered}
-use Rattle.validation.specs.Kept.{effectiveOf, effectOf, superseded, firstOne, Mark, mark, Checked}
+use Rattle.validation.specs.Kept.{effectiveOf, effectOf, firstOne, Mark, mark, Checked}
 use Rattle.keeping.specs.Outcome.{noNumbered}
 use Rattle.keeping.specs.declared.Checking.{Checking}
 use Rattle.keeping.specs.declared.Sequence.{Sequence}
@@ -38,17 +38,32 @@ joined s Nothing = s
 unfoldable pub earliest : ℕ → List Numbered → List Numbered
 earliest code g = firstOne (those (λ (o : Numbered). eqb (codeNumber (effectOf o)) code) g)
 
--- left at the effective time t
-unfoldable pub inGroup : List Numbered → ℕ → Numbered → Bool
-inGroup os t o = eqb (effectiveOf o) t && not (superseded os o)
+-- ---- steps 1 and 2: over the effective times and the issue times
 
--- the least so far, with one more looked at
-unfoldable pub earlierOf : Numbered → ℕ → ℕ → ℕ
-earlierOf o t best = pick (leb t (effectiveOf o)) (min (effectiveOf o) best) best
+abbrev pub issueOf : Numbered → ℕ
+issueOf o = o .instruction .issue
 
--- x has the effective time of o and a later issue time
-unfoldable pub supersedesOf : Numbered → Numbered → Bool
-supersedesOf x o = eqb (effectiveOf x) (effectiveOf o) && ltb (o .instruction .issue) (x .instruction .issue)
+-- these are the times of these
+pub record Timed (os : List Numbered) (times issues : List ℕ) : Type 0 where
+  pub effective : times ≡ map effectiveOf os
+  pub issued : issues ≡ map issueOf os
+
+-- the effective time x is t, and its issue time j is later; one of the times is so
+unfoldable pub supersedesAt : ℕ → ℕ → ℕ → ℕ → Bool
+supersedesAt x j t issue = eqb x t && ltb issue j
+
+unfoldable pub supersededAt : List ℕ → List ℕ → ℕ → ℕ → Bool
+supersededAt [] js t issue = false
+supersededAt (x ∷ xs) [] t issue = false
+supersededAt (x ∷ xs) (j ∷ js) t issue = supersedesAt x j t issue || supersededAt xs js t issue
+
+-- the least so far, with one more looked at; the least of the times from t on, else the day's end
+unfoldable pub earlierOf : ℕ → ℕ → ℕ → ℕ
+earlierOf x t best = pick (leb t x) (min x best) best
+
+unfoldable pub nextAt : ℕ → List ℕ → ℕ → ℕ
+nextAt end [] t = end
+nextAt end (x ∷ xs) t = earlierOf x t (nextAt end xs t)
 
 -- ---- step 3: the kept ones stand in an array, the latest last; fates by number in another, 2 where none is settled
 
@@ -115,7 +130,7 @@ unfoldable pub settled : List ℕ → List Mark → List ℕ
 settled fates [] = fates
 settled fates (m ∷ ms) = settled (settleFate fates (m .number) (m .fate)) ms
 
--- the first i fates, by what the later steps say
-unfoldable pub fatesTo : List Numbered → List ℕ → ℕ → List ℕ
-fatesTo os later zero = []
-fatesTo os later (suc i) = fatesTo os later i ++ (pick (superseded os (getD os i noNumbered)) 1 (getD later i 0) ∷ [])
+-- the first i fates, by the times and by what the later steps say
+unfoldable pub fatesTo : List ℕ → List ℕ → List ℕ → ℕ → List ℕ
+fatesTo times issues later zero = []
+fatesTo times issues later (suc i) = fatesTo times issues later i ++ (pick (supersededAt times issues (getD times i 0) (getD issues i 0)) 1 (getD later i 0) ∷ [])

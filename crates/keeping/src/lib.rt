@@ -1,15 +1,15 @@
 // Which instructions are kept, steps 1 to 4: over up to forty instructions with their numbers.
 ghost use mathlib.Core.Path.{_≡_};
 ghost use Prim.Native.Nat.{_+_, _-_, _<_, _≤_, min};
-ghost use mathlib.Core.List.{[], _∷_};
-ghost use lib.ListN.{take, drop, getD};
+ghost use mathlib.Core.List.{[], _∷_, map};
+ghost use lib.ListN.{length, take, drop, getD};
 ghost use Rattle.level.specs.Lists.{filled};
 ghost use Rattle.level.specs.Choice.{pick};
 ghost use Rattle.records.specs.declared.Effect.the-variants.{Sync, Desy};
 ghost use Rattle.records.specs.Codes.{codeNumber};
-ghost use Rattle.validation.specs.Kept.{effectOf, superseded, group, goesBefore, highest, orElse, present, carrying, merged, usedOf, nextTime, numbered, used, repeats, Checked, failed, checkOne, check, acting, overtaken, lateFate, actors, lateMarks};
+ghost use Rattle.validation.specs.Kept.{effectiveOf, effectOf, group, goesBefore, highest, orElse, present, carrying, merged, usedOf, numbered, used, repeats, Checked, failed, checkOne, check, acting, overtaken, lateFate, actors, lateMarks};
 ghost use Rattle.keeping.specs.Outcome.{noNumbered, validationOf};
-ghost use Rattle.keeping.specs.Working.{holding, pushed, foundList, joined, earliest, inGroup, earlierOf, supersedesOf, stackOf, syncPlace, setFate, settleFate, settled, voided, settling, withFate, withinHour, keeping, noChecking, noneChecked, Tracks, Follows, fatesTo};
+ghost use Rattle.keeping.specs.Working.{holding, pushed, foundList, joined, earliest, issueOf, Timed, supersedesAt, supersededAt, earlierOf, nextAt, stackOf, syncPlace, setFate, settleFate, settled, voided, settling, withFate, withinHour, keeping, noChecking, noneChecked, Tracks, Follows, fatesTo};
 
 // What steps 1 to 4 come to: the fates by number, those that act in time order, and how many these are.
 pub struct Validation {
@@ -146,27 +146,26 @@ fn push_found(s: Sequence, found: Found) -> Sequence
 
 // ---- step 1: of equal effective times only the latest issue time stays
 
-// x has the effective time of o and a later issue time.
-fn supersedes(x: validation::Numbered, o: validation::Numbered) -> bool
-    ensures { λ r. ⌜ r ≡ supersedesOf x o ⌝ }
+// The effective time x is t, and its issue time j is later.
+fn supersedes(x: u32, j: u32, t: u32, issue: u32) -> bool
+    ensures { λ r. ⌜ r ≡ supersedesAt x j t issue ⌝ }
 {
-    let i = x.instruction;
-    let j = o.instruction;
-    if i.effective == j.effective {
-        return j.issue < i.issue;
+    if x == t {
+        return issue < j;
     }
     false
 }
 
-// o is superseded by one of the first n of os.
-fn is_superseded(os: [validation::Numbered; 40], n: usize, o: validation::Numbered) -> bool
-    requires { ⌜ n ≤ 40 ⌝ }
-    ensures { λ r. ⌜ r ≡ superseded (take n os) o ⌝ }
+// One of the first n has the effective time t and a later issue time.
+fn is_superseded(times: &[u32; 40], issues: &[u32; 40], n: usize, t: u32, issue: u32) -> bool
+    requires { ⌜ (n ≤ 40) × (n ≤ length (now times)) × (n ≤ length (now issues)) ⌝ }
+    ensures { λ r. ⌜ r ≡ supersededAt (take n (now (times .entry))) (take n (now (issues .entry))) t issue ⌝ }
 {
     let mut i: usize = 0;
     while i < n {
-        let x = os[i];
-        if supersedes(x, o) {
+        let x = times[i];
+        let j = issues[i];
+        if supersedes(x, j, t, issue) {
             return true;
         }
         i += 1;
@@ -174,30 +173,33 @@ fn is_superseded(os: [validation::Numbered; 40], n: usize, o: validation::Number
     false
 }
 
-// Left at the effective time t.
-fn in_group(os: [validation::Numbered; 40], n: usize, t: u32, o: validation::Numbered) -> bool
-    requires { ⌜ n ≤ 40 ⌝ }
-    ensures { λ r. ⌜ r ≡ inGroup (take n os) t o ⌝ }
-{
-    let i = o.instruction;
-    if i.effective != t {
-        return false;
-    }
-    !is_superseded(os, n, o)
-}
-
-// Those left at the effective time t.
-fn group_at(os: [validation::Numbered; 40], n: usize, t: u32) -> Sequence
-    requires { ⌜ n ≤ 40 ⌝ }
+// Those left at the effective time t, of the first n with these times.
+fn group_at(
+    os: [validation::Numbered; 40],
+    times: &[u32; 40],
+    issues: &[u32; 40],
+    n: usize,
+    t: u32,
+) -> Sequence
+    requires { ⌜ (n ≤ 40) × Timed (take n os) (take n (now times)) (take n (now issues)) ⌝ }
     ensures { λ r. ⌜ (r ≡ holding (group (take n os) t)) × (r .count ≤ 40) ⌝ }
 {
     let mut out = empty();
     let mut i: usize = 0;
     while i < n {
-        let o = os[i];
-        let test = in_group(os, n, t, o);
-        out = push_if(out, o, test);
+        let at = i;
         i += 1;
+        if times[at] != t {
+            continue;
+        }
+        let issue = issues[at];
+        if is_superseded(times, issues, n, t, issue) {
+            continue;
+        }
+        let o = os[at];
+        let k = out.count;
+        out.items[k] = o;
+        out.count = k + 1;
     }
     out
 }
@@ -332,49 +334,54 @@ fn used_of(g: [validation::Numbered; 40], n: usize) -> Found
 
 // ---- those used, in time order
 
-// The earliest effective time from t on, with o looked at beside the best so far.
-fn earlier(o: validation::Numbered, t: u32, best: u32) -> u32
-    ensures { λ r. ⌜ r ≡ earlierOf o t best ⌝ }
+// The earlier of a time from t on and the best so far.
+fn earlier(x: u32, t: u32, best: u32) -> u32
+    ensures { λ r. ⌜ r ≡ earlierOf x t best ⌝ }
 {
-    let i = o.instruction;
-    if i.effective < t {
+    if x < t {
         return best;
     }
-    if i.effective < best {
-        return i.effective;
+    if x < best {
+        return x;
     }
     best
 }
 
-// The least effective time from t on among the first n of os; the day's end where there is none.
-fn next_time(os: [validation::Numbered; 40], n: usize, t: u32, end: u32) -> u32
-    requires { ⌜ n ≤ 40 ⌝ }
-    ensures { λ r. ⌜ r ≡ nextTime end (take n os) t ⌝ }
+// The least of the first n times from t on; the day's end where there is none.
+fn next_time(times: &[u32; 40], n: usize, t: u32, end: u32) -> u32
+    requires { ⌜ (n ≤ 40) × (n ≤ length (now times)) ⌝ }
+    ensures { λ r. ⌜ r ≡ nextAt end (take n (now (times .entry))) t ⌝ }
 {
     let mut best = end;
     let mut i = n;
     while 0 < i {
         i -= 1;
-        let o = os[i];
-        best = earlier(o, t, best);
+        let x = times[i];
+        best = earlier(x, t, best);
     }
     best
 }
 
 // Those used, in the order of their effective times.
-fn used_in(os: [validation::Numbered; 40], n: usize, end: u32) -> Sequence
-    requires { ⌜ n ≤ 40 ⌝ }
+fn used_in(
+    os: [validation::Numbered; 40],
+    times: &[u32; 40],
+    issues: &[u32; 40],
+    n: usize,
+    end: u32,
+) -> Sequence
+    requires { ⌜ (n ≤ 40) × Timed (take n os) (take n (now times)) (take n (now issues)) ⌝ }
     ensures { λ r. ⌜ (r ≡ holding (used end (take n os))) × (r .count ≤ 40) ⌝ }
 {
     let mut out = empty();
     let mut t: u32 = 0;
     let mut i: usize = 0;
     while i < n {
-        let next = next_time(os, n, t, end);
+        let next = next_time(times, n, t, end);
         if end <= next {
             return out;
         }
-        let g = group_at(os, n, next);
+        let g = group_at(os, times, issues, n, next);
         let items = g.items;
         let u = used_of(items, g.count);
         out = push_found(out, u);
@@ -566,11 +573,17 @@ fn check_all(os: [validation::Numbered; 40], n: usize) -> Checking
 }
 
 // Steps 1 to 3 over the first n.
-fn checked_in(os: [validation::Numbered; 40], n: usize, end: u32) -> Checking
-    requires { ⌜ n ≤ 40 ⌝ }
+fn checked_in(
+    os: [validation::Numbered; 40],
+    times: &[u32; 40],
+    issues: &[u32; 40],
+    n: usize,
+    end: u32,
+) -> Checking
+    requires { ⌜ (n ≤ 40) × Timed (take n os) (take n (now times)) (take n (now issues)) ⌝ }
     ensures { λ r. ⌜ (r .height ≤ 40) × Tracks r (check noneChecked (used end (take n os))) ⌝ }
 {
-    let s = used_in(os, n, end);
+    let s = used_in(os, times, issues, n, end);
     let items = s.items;
     check_all(items, s.count)
 }
@@ -705,27 +718,28 @@ fn settle_late(s: Checking, end: u32) -> Checking
 // ---- the four steps together
 
 // Fate 1 where step 1 settles it, else what the later steps say.
-fn final_fate(os: [validation::Numbered; 40], n: usize, o: validation::Numbered, later: u8) -> u8
-    requires { ⌜ n ≤ 40 ⌝ }
-    ensures { λ r. ⌜ r ≡ pick (superseded (take n os) o) 1 later ⌝ }
+fn final_fate(superseded: bool, later: u8) -> u8
+    ensures { λ r. ⌜ r ≡ pick superseded 1 later ⌝ }
 {
-    if is_superseded(os, n, o) {
+    if superseded {
         return 1;
     }
     later
 }
 
-// The fates by number, of the first n.
-fn fates_of(os: [validation::Numbered; 40], n: usize, later: [u8; 40]) -> [u8; 40]
-    requires { ⌜ n ≤ 40 ⌝ }
-    ensures { λ r. ⌜ r ≡ filled 40 0 (fatesTo (take n os) later n) ⌝ }
+// The fates by number, of the first n with these times.
+fn fates_of(times: &[u32; 40], issues: &[u32; 40], n: usize, later: [u8; 40]) -> [u8; 40]
+    requires { ⌜ (n ≤ 40) × (n ≤ length (now times)) × (n ≤ length (now issues)) ⌝ }
+    ensures { λ r. ⌜ r ≡ filled 40 0 (fatesTo (take n (now (times .entry))) (take n (now (issues .entry))) later n) ⌝ }
 {
     let mut out = [0u8; 40];
     let mut i: usize = 0;
     while i < n {
-        let o = os[i];
+        let t = times[i];
+        let issue = issues[i];
+        let superseded = is_superseded(times, issues, n, t, issue);
         let fate = later[i];
-        out[i] = final_fate(os, n, o, fate);
+        out[i] = final_fate(superseded, fate);
         i += 1;
     }
     out
@@ -745,7 +759,40 @@ fn number_all(instructions: [records::Instruction; 40], n: usize) -> Sequence
             number,
             instruction,
         };
-        out = push(out, o);
+        out.items[i] = o;
+        i += 1;
+        out.count = i;
+    }
+    out
+}
+
+// The effective times of the first n.
+fn times_of(os: [validation::Numbered; 40], n: usize) -> [u32; 40]
+    requires { ⌜ n ≤ 40 ⌝ }
+    ensures { λ r. ⌜ take n r ≡ map effectiveOf (take n os) ⌝ }
+{
+    let mut out = [0u32; 40];
+    let mut i: usize = 0;
+    while i < n {
+        let o = os[i];
+        let instruction = o.instruction;
+        out[i] = instruction.effective;
+        i += 1;
+    }
+    out
+}
+
+// The issue times of the first n.
+fn issues_of(os: [validation::Numbered; 40], n: usize) -> [u32; 40]
+    requires { ⌜ n ≤ 40 ⌝ }
+    ensures { λ r. ⌜ take n r ≡ map issueOf (take n os) ⌝ }
+{
+    let mut out = [0u32; 40];
+    let mut i: usize = 0;
+    while i < n {
+        let o = os[i];
+        let instruction = o.instruction;
+        out[i] = instruction.issue;
         i += 1;
     }
     out
@@ -768,10 +815,12 @@ pub fn validate(instructions: [records::Instruction; 40], count: usize, end: u32
     let n = at_most_forty(count);
     let numbered = number_all(instructions, n);
     let os = numbered.items;
-    let s = checked_in(os, n, end);
+    let times = times_of(os, n);
+    let issues = issues_of(os, n);
+    let s = checked_in(os, &times, &issues, n, end);
     let late = settle_late(s, end);
     let later = late.fates;
-    let fates = fates_of(os, n, later);
+    let fates = fates_of(&times, &issues, n, later);
     let kept = s.kept;
     let height = s.height;
     let actors = acts_of(kept, height, end);

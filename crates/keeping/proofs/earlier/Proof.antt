@@ -1,5 +1,5 @@
-use native.Mathlib.Omega.{arith}
 use Rattle.keeping.proofs.Laws.{earlier-past, earlier-less, earlier-not}
+use native.Mathlib.Omega.{arith}
 use Rattle.keeping.proofs.earlier.Statement.{statement}
 use Rattle.keeping.proofs.earlier.Tie as tie
 

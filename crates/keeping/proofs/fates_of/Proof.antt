@@ -1,33 +1,41 @@
-use mathlib.Core.Path.{_≡_, refl, ap, _∙_}
-use native.Mathlib.Omega.{arith}
 use Prim.Native.Nat.{ℕ, _≤_, _-_}
-use lib.ListN.{set, take, getD}
-use borrow.Author.Needs.{needs}
+use mathlib.Core.Path.{_≡_, refl, ap, _∙_}
+use mathlib.Core.Bool.{Bool}
 use mathlib.Core.List.{List}
-use Rattle.keeping.proofs.Steps.{fates-more}
+use lib.ListN.{set, take, getD}
 use Rattle.level.specs.Choice.{pick}
 use Rattle.level.specs.Lists.{filled}
-use Rattle.validation.specs.Kept.{superseded}
-use Rattle.keeping.specs.Outcome.{noNumbered}
-use Rattle.keeping.specs.Working.{fatesTo}
+use Rattle.keeping.specs.Working.{supersededAt, fatesTo}
+use Rattle.keeping.proofs.Steps.{fates-more}
+use native.Mathlib.Omega.{arith}
+use borrow.Author.Needs.{needs}
 use Rattle.keeping.proofs.fates_of.Statement.{statement}
 use Rattle.keeping.proofs.fates_of.Tie as tie
 
 abbrev Inv-loop : tie.InvT-loop
-Inv-loop n os later out₀ i₀ out i = (i ≤ n) × (out ≡ filled 40 0 (fatesTo (take n os) later i))
+Inv-loop times issues n later out₀ i₀ out i = (i ≤ n) × (out ≡ filled 40 0 (fatesTo (take n times) (take n issues) later i))
 
 abbrev μ-loop : tie.MeasureT-loop
-μ-loop n os later out₀ i₀ out i = n - i
+μ-loop times issues n later out₀ i₀ out i = n - i
 
 loop-holds : tie.Need-loop-holds Inv-loop μ-loop
 unfolding filled fatesTo
 loop-holds c = (omega arith, refl)
 
-mul-o : tie.Need-mul-o Inv-loop μ-loop
-mul-o c = omega arith
+mul-t : tie.Need-mul-t Inv-loop μ-loop
+mul-t c = omega arith
 
-array-copy-out-o : tie.Need-array-copy-out-o Inv-loop μ-loop
-array-copy-out-o c = omega arith
+element-copy-out-t : tie.Need-element-copy-out-t Inv-loop μ-loop
+element-copy-out-t c = omega arith
+
+mul-issue : tie.Need-mul-issue Inv-loop μ-loop
+mul-issue c = omega arith
+
+element-copy-out-issue : tie.Need-element-copy-out-issue Inv-loop μ-loop
+element-copy-out-issue c = omega arith
+
+is-superseded-requires : tie.Need-is-superseded-requires Inv-loop μ-loop
+is-superseded-requires c κs = search needs
 
 array-read-fate : tie.Need-array-read-fate Inv-loop μ-loop
 array-read-fate c = omega arith
@@ -46,9 +54,11 @@ loop-less c = omega arith
 
 loop-again : tie.Need-loop-again Inv-loop μ-loop
 loop-again c =
-    let a = c .before .before .before .before .args in
-    let l = c .before .before .before .loop in
-    (omega arith, ap (set (l .out) (l .i)) (c .final-fate .ensures) ∙ (ap (λ (q : List ℕ). set q (l .i) (pick (superseded (take (a .n) (a .t1)) (getD (a .t1) (l .i) noNumbered)) 1 (getD (a .t3) (l .i) 0))) (l .inv .1) ∙ fates-more (a .t1) (a .n) (l .i) (a .t3) (omega arith) (omega arith)))
+    let a = c .before .before .before .before .before .before .args in
+    let l = c .before .before .before .before .before .loop in
+    let e : c .final-fate .result ≡ pick (supersededAt (take (a .n) (a .times .now)) (take (a .n) (a .issues .now)) (getD (a .times .now) (l .i) 0) (getD (a .issues .now) (l .i) 0)) 1 (getD (a .t4) (l .i) 0) =
+    c .final-fate .ensures ∙ ap (λ (b : Bool). pick b 1 (getD (a .t4) (l .i) 0)) (c .before .is-superseded .ensures) in
+    (omega arith, (λ q. set (l .inv .1 q) (l .i) (e q)) ∙ fates-more (a .times .now) (a .issues .now) (a .n) (l .i) (a .t4) (omega arith) (omega arith))
 
 returns : tie.Need-returns Inv-loop μ-loop
 returns c =
@@ -64,8 +74,11 @@ fates-of-spec =
     Inv-loop
     μ-loop
     loop-holds
-    mul-o
-    array-copy-out-o
+    mul-t
+    element-copy-out-t
+    mul-issue
+    element-copy-out-issue
+    is-superseded-requires
     array-read-fate
     final-fate-requires
     array-write-out

@@ -1,19 +1,18 @@
 use Prim.Native.Nat.{_≤_, _-_}
 use mathlib.Core.Path.{_≡_, refl, sym, _∙_}
+use lib.ListN.{take, drop}
+use Rattle.keeping.specs.Working.{supersededAt}
+use Rattle.keeping.proofs.Laws.{left-none, superseded-none, superseded-here, superseded-next}
 use native.Mathlib.Omega.{arith}
 use borrow.Author.Needs.{needs}
-use lib.ListN.{take, drop}
-use Rattle.keeping.specs.Outcome.{noNumbered}
-use Rattle.validation.specs.Kept.{superseded}
-use Rattle.keeping.proofs.Laws.{left-none, superseded-none, superseded-here, superseded-next}
 use Rattle.keeping.proofs.is_superseded.Statement.{statement}
 use Rattle.keeping.proofs.is_superseded.Tie as tie
 
 abbrev Inv-loop : tie.InvT-loop
-Inv-loop n o os i₀ i = (i ≤ n) × (superseded (drop i (take n os)) o ≡ superseded (take n os) o)
+Inv-loop times issues n t issue i₀ i = (i ≤ n) × (supersededAt (drop i (take n times)) (drop i (take n issues)) t issue ≡ supersededAt (take n times) (take n issues) t issue)
 
 abbrev μ-loop : tie.MeasureT-loop
-μ-loop n o os i₀ i = n - i
+μ-loop times issues n t issue i₀ i = n - i
 
 loop-holds : tie.Need-loop-holds Inv-loop μ-loop
 loop-holds c = (omega arith, refl)
@@ -21,17 +20,23 @@ loop-holds c = (omega arith, refl)
 mul-x : tie.Need-mul-x Inv-loop μ-loop
 mul-x c = omega arith
 
-array-copy-out-x : tie.Need-array-copy-out-x Inv-loop μ-loop
-array-copy-out-x c = omega arith
+element-copy-out-x : tie.Need-element-copy-out-x Inv-loop μ-loop
+element-copy-out-x c = omega arith
+
+mul-j : tie.Need-mul-j Inv-loop μ-loop
+mul-j c = omega arith
+
+element-copy-out-j : tie.Need-element-copy-out-j Inv-loop μ-loop
+element-copy-out-j c = omega arith
 
 supersedes-requires : tie.Need-supersedes-requires Inv-loop μ-loop
 supersedes-requires c κs = search needs
 
 returns : tie.Need-returns Inv-loop μ-loop
 returns c =
-    let s = c .before .before .before .before .before in
-    let l = c .before .before .before .before .loop in
-    sym (superseded-here (s .args .t1) (s .args .n) noNumbered (omega (arith, s .good .0 .1 .0 .1)) (s .args .o) (l .i) (omega arith) (sym (c .before .supersedes .ensures) ∙ c .if1 .taken)) ∙ l .inv .1
+    let s = c .before .before .before .before .before .before in
+    let l = c .before .before .before .before .before .loop in
+    sym (superseded-here (s .args .times .now) (s .args .n) (omega arith) (s .args .issues .now) (omega arith) (s .args .t) (s .args .issue) (l .i) (omega arith) (sym (c .before .supersedes .ensures) ∙ c .if1 .taken)) ∙ l .inv .1
 
 add-i : tie.Need-add-i Inv-loop μ-loop
 add-i c = omega arith
@@ -41,14 +46,14 @@ loop-less c = omega arith
 
 loop-again : tie.Need-loop-again Inv-loop μ-loop
 loop-again c =
-    let s = c .before .before .before .before .before in
-    let l = c .before .before .before .before .loop in
-    (omega arith, sym (superseded-next (s .args .t1) (s .args .n) noNumbered (omega (arith, s .good .0 .1 .0 .1)) (s .args .o) (l .i) (omega arith) (sym (c .before .supersedes .ensures) ∙ c .if1 .left)) ∙ l .inv .1)
+    let s = c .before .before .before .before .before .before in
+    let l = c .before .before .before .before .before .loop in
+    (omega arith, sym (superseded-next (s .args .times .now) (s .args .n) (omega arith) (s .args .issues .now) (omega arith) (s .args .t) (s .args .issue) (l .i) (omega arith) (sym (c .before .supersedes .ensures) ∙ c .if1 .left)) ∙ l .inv .1)
 
 returns-2 : tie.Need-returns-2 Inv-loop μ-loop
 returns-2 c =
     let s = c .before .before in
-    sym (superseded-none (s .args .o) (left-none (s .args .t1) (s .args .n) (c .before .loop .i) (omega arith))) ∙ c .before .loop .inv .1
+    sym (superseded-none _ (s .args .t) (s .args .issue) (left-none (s .args .times .now) (s .args .n) (c .before .loop .i) (omega arith))) ∙ c .before .loop .inv .1
 
 pub is-superseded-spec : {M : Type 1} → statement M
 is-superseded-spec =
@@ -58,7 +63,9 @@ is-superseded-spec =
     μ-loop
     loop-holds
     mul-x
-    array-copy-out-x
+    element-copy-out-x
+    mul-j
+    element-copy-out-j
     supersedes-requires
     returns
     add-i

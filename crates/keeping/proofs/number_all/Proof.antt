@@ -1,19 +1,18 @@
-use mathlib.Core.Path.{ap}
-use native.Mathlib.Omega.{arith}
 use Prim.Native.Nat.{_≤_, _-_, _+_}
+use mathlib.Core.Path.{_≡_}
 use lib.ListN.{take, drop}
-use borrow.Author.Needs.{needs}
-use Rattle.keeping.specs.declared.Sequence.{Sequence}
 use Rattle.validation.specs.Kept.{numbered}
 use Rattle.keeping.specs.Outcome.{noNumbered}
 use Rattle.keeping.specs.Working.{pushed}
-use Rattle.keeping.proofs.Laws.{Begun, left-none, begun-none, begun-push, begun-all}
+use Rattle.keeping.proofs.Laws.{Begun, left-none, begun-none, begun-store, begun-all}
 use Rattle.keeping.proofs.Steps.{number-next, number-none}
+use native.Mathlib.Omega.{arith}
+use borrow.Author.Needs.{needs}
 use Rattle.keeping.proofs.number_all.Statement.{statement}
 use Rattle.keeping.proofs.number_all.Tie as tie
 
 abbrev Inv-loop : tie.InvT-loop
-Inv-loop n instructions out₀ i₀ out i = (i ≤ n) × (out .count ≤ i) × Begun out (numbered (i + 1) (drop i (take n instructions))) (numbered 1 (take n instructions))
+Inv-loop n instructions out₀ i₀ out i = (i ≤ n) × (out .count ≡ i) × Begun out (numbered (i + 1) (drop i (take n instructions))) (numbered 1 (take n instructions))
 
 abbrev μ-loop : tie.MeasureT-loop
 μ-loop n instructions out₀ i₀ out i = n - i
@@ -38,8 +37,11 @@ cast-number c = omega arith
 add-number : tie.Need-add-number Inv-loop μ-loop
 add-number c = omega arith
 
-push-requires : tie.Need-push-requires Inv-loop μ-loop
-push-requires c κs = search needs
+mul-o : tie.Need-mul-o Inv-loop μ-loop
+mul-o c = omega arith
+
+element-set-from-o : tie.Need-element-set-from-o Inv-loop μ-loop
+element-set-from-o c = omega arith
 
 add-i : tie.Need-add-i Inv-loop μ-loop
 add-i c = omega arith
@@ -48,13 +50,11 @@ loop-less : tie.Need-loop-less Inv-loop μ-loop
 loop-less c = omega arith
 
 loop-again : tie.Need-loop-again Inv-loop μ-loop
-unfolding pushed
 loop-again c =
-    let s = c .before .before .before .before .before in
-    let l = c .before .before .before .loop in
-    let e = c .push .ensures in
+    let s = c .before .before .before .before in
+    let l = c .before .before .loop in
     let q = number-next (s .args .t1) (s .args .n) (l .i + 1) (l .i) (noNumbered .instruction) (omega arith) (omega (arith, s .good .0 .1 .0 .1)) in
-    (omega arith, omega (arith, ap (λ (q : Sequence). q .count) e), rw e (begun-push _ (omega arith) (rw q at (l .inv .2))))
+    (omega arith, omega arith, begun-store (l .i) _ (l .inv .1) (omega arith) (rw q at (l .inv .2)))
 
 returns : tie.Need-returns Inv-loop μ-loop
 returns c =
@@ -74,7 +74,8 @@ number-all-spec =
     array-copy-out-instruction
     cast-number
     add-number
-    push-requires
+    mul-o
+    element-set-from-o
     add-i
     loop-less
     loop-again

@@ -1,22 +1,22 @@
-use mathlib.Core.Path.{_≡_, sym, ap, _∙_}
-use native.Mathlib.Omega.{arith}
 use Prim.Native.Nat.{ℕ, _≤_, _-_, _+_}
-use lib.ListN.{take}
-use borrow.Author.Needs.{needs}
+use mathlib.Core.Path.{_≡_, sym, ap, _∙_}
 use mathlib.Core.List.{List, [], _++_}
+use lib.ListN.{length, take}
 use Rattle.validation.specs.declared.Numbered.{Numbered}
-use Rattle.validation.specs.Kept.{used, usedFrom, usedOf, group, nextTime}
+use Rattle.validation.specs.Kept.{effectiveOf, used, usedFrom, usedOf, group, nextTime}
 use Rattle.keeping.specs.Working.{foundList}
-use Rattle.keeping.proofs.Laws.{Begun, begun-none, begun-found, begun-all, joined-count, held}
+use Rattle.keeping.proofs.Laws.{Begun, begun-none, begun-found, begun-all, joined-count, held, next-is, time-fits}
 use Rattle.keeping.proofs.Steps.{used-more, used-stop, used-begins, used-zero}
+use native.Mathlib.Omega.{arith}
+use borrow.Author.Needs.{needs}
 use Rattle.keeping.proofs.used_in.Statement.{statement}
 use Rattle.keeping.proofs.used_in.Tie as tie
 
 abbrev Inv-loop : tie.InvT-loop
-Inv-loop os n end out₀ t₀ i₀ out t i = (i ≤ n) × (out .count ≤ i) × Begun out (usedFrom end (take n os) (n - i) t) (used end (take n os))
+Inv-loop os times issues n end out₀ t₀ i₀ out t i = (i ≤ n) × (out .count ≤ i) × Begun out (usedFrom end (take n os) (n - i) t) (used end (take n os))
 
 abbrev μ-loop : tie.MeasureT-loop
-μ-loop os n end out₀ t₀ i₀ out t i = n - i
+μ-loop os times issues n end out₀ t₀ i₀ out t i = n - i
 
 empty-requires : tie.Need-empty-requires Inv-loop μ-loop
 empty-requires c κs = search needs
@@ -27,13 +27,17 @@ loop-holds c =
     (omega arith, rw (c .empty .ensures) (omega arith), rw (c .empty .ensures, used-begins (s .args .end) (s .args .os) (s .args .n) (omega (arith, s .good .0 .1 .0 .1))) (begun-none (used (s .args .end) (take (s .args .n) (s .args .os)))))
 
 next-time-requires : tie.Need-next-time-requires Inv-loop μ-loop
-next-time-requires c κs = search needs
+next-time-requires c κs =
+    let s = c .before .before .before in
+    (omega arith, time-fits effectiveOf (s .args .os) (s .args .times .now) (s .args .n) (s .pre .1 .effective) (omega (arith, s .good .0 .1 .0 .1)))
 
 returns : tie.Need-returns Inv-loop μ-loop
 returns c =
-    let s = c .before .before .before .before .before .args in
+    let s = c .before .before .before .before .before in
     let l = c .before .before .before .loop in
-    (begun-all (rw (used-stop (s .end) (take (s .n) (s .os)) (s .n - l .i) (l .t) (omega (arith, c .before .next-time .ensures))) at (l .inv .2)), omega arith)
+    let a = s .args in
+    let t = c .before .next-time .ensures ∙ next-is (s .pre .1) (a .end) (l .t) in
+    (begun-all (rw (used-stop (a .end) (take (a .n) (a .os)) (a .n - l .i) (l .t) (omega (arith, t))) at (l .inv .2)), omega arith)
 
 group-at-requires : tie.Need-group-at-requires Inv-loop μ-loop
 group-at-requires c κs = search needs
@@ -55,11 +59,12 @@ loop-less c = omega arith
 
 loop-again : tie.Need-loop-again Inv-loop μ-loop
 loop-again c =
-    let s = c .before .before .before .before .before .before .before .before .before .args in
+    let z = c .before .before .before .before .before .before .before .before .before in
+    let s = z .args in
     let l = c .before .before .before .before .before .before .before .loop in
     let os = take (s .n) (s .os) in
     let next = c .before .before .before .before .before .next-time .result in
-    let t : next ≡ nextTime (s .end) os (l .t) = c .before .before .before .before .before .next-time .ensures in
+    let t : next ≡ nextTime (s .end) os (l .t) = c .before .before .before .before .before .next-time .ensures ∙ next-is (z .pre .1) (s .end) (l .t) in
     let u = c .before .used-of .result in
     let g : foundList u ≡ usedOf (group os next) = c .before .used-of .ensures ∙ ap usedOf (held (c .before .before .before .group-at .ensures .0) (c .before .before .before .group-at .ensures .1)) in
     let m : s .n - (l .i + 1) ≡ s .n - l .i - 1 = omega arith in
