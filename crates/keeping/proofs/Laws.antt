@@ -101,10 +101,6 @@ module _ {s : Sequence} {rest whole : List Numbered} where
   unfolding pushed
   begun-store k o e h b = rw e at (begun-push o (omega arith) b)
 
-  pub begun-pick : (test : Bool) (o : Numbered) → s .count < 40 → Begun s (pick test (o ∷ []) [] ++ rest) whole → Begun (pick test (pushed s o) s) rest whole
-  begun-pick true o h b = begun-push o h b
-  begun-pick false o h b = b
-
   pub begun-found : (f : Found) → s .count < 40 → Begun s (foundList f ++ rest) whole → Begun (joined s f) rest whole
   unfolding joined
   begun-found (One o) h b = begun-push o h b
@@ -114,11 +110,6 @@ module _ {s : Sequence} {rest whole : List Numbered} where
 pub held : {s : Sequence} {xs : List Numbered} → s ≡ holding xs → s .count ≤ 40 → take (s .count) (s .items) ≡ xs
 held {s} {xs} e h =
     ap (λ (q : Sequence). take (q .count) (q .items)) e ∙ filled-listed noNumbered 40 xs (omega (arith, ap (λ (q : Sequence). q .count) e))
-
-pub pick-count : (test : Bool) (s : Sequence) (o : Numbered) → pick test (pushed s o) s .count ≤ s .count + 1
-unfolding pushed
-pick-count true s o = omega arith
-pick-count false s o = omega arith
 
 pub joined-count : (s : Sequence) (f : Found) → joined s f .count ≤ s .count + 1
 unfolding joined pushed

@@ -2,11 +2,12 @@
 -- Assumes nothing.
 use mathlib.Core.Path.{_≡_, refl, sym, ap, _∙_}
 use mathlib.Core.List.{List, [], _∷_, _++_, map}
-use mathlib.Core.Bool.{Bool, true, false}
-use Prim.Native.Nat.{ℕ, zero, suc, _+_, _-_, _≤_, _<_}
+use mathlib.Core.Bool.{Bool, true, false, _||_}
+use Prim.Native.Nat.{ℕ, zero, suc, _+_, _-_, _≤_, _<_, min}
 use native.Mathlib.Numerals.{add-one}
+use native.Mathlib.Decide.{decLe}
 use native.Mathlib.Omega.{arith}
-use lib.Dec.{leb, eqb}
+use lib.Dec.{leb}
 use lib.ListN.{length, take, drop, getD, set, replicate, length-append, List·getD-eq-default}
 use lib.Seq.{take-suc, set-out, length-take-le, getD-take}
 use borrow.Author.Tests.{lt-ltb, le-ltb, le-leb, lt-leb, eq-eqb, ne-eqb}
@@ -15,10 +16,10 @@ use Rattle.level.specs.Lists.{some, filled}
 use Rattle.records.specs.declared.Instruction.{Instruction}
 use Rattle.records.specs.Codes.{codeNumber}
 use Rattle.validation.specs.declared.Numbered.{Numbered}
-use Rattle.validation.specs.Kept.{effectiveOf, effectOf, numbered, Mark, mark, superseded, group, usedOf, nextTime, usedFrom, used, repeats, syncWithinHour, fromSync, beforeSync, Checked, failed, checkOne, check, acting, overtaken, lateFate, actors, lateMarks}
+use Rattle.validation.specs.Kept.{effectiveOf, effectOf, numbered, Mark, mark, group, usedOf, nextTime, usedFrom, used, repeats, syncWithinHour, fromSync, beforeSync, Checked, failed, checkOne, check, acting, overtaken, lateFate, actors, lateMarks}
 use Rattle.keeping.specs.declared.Checking.{Checking}
 use Rattle.keeping.specs.Outcome.{noNumbered}
-use Rattle.keeping.specs.Working.{stackOf, between, syncPlace, withinHour, setFate, marked, withFate, voided, keeping, noChecking, noneChecked, Tracks, Follows, settleFate, settled, supersededAt, fatesTo}
+use Rattle.keeping.specs.Working.{stackOf, between, syncPlace, withinHour, setFate, marked, withFate, voided, keeping, noChecking, noneChecked, Tracks, Follows, settleFate, settled, earliestActing, lateAt, supersededAt, fatesTo}
 use Rattle.keeping.proofs.Laws.{left-cons, filled-push}
 use Rattle.keeping.proofs.Stack.{stack-push, hour-none, hour-some, before-sync, from-sync}
 
@@ -184,38 +185,50 @@ pub check-more : (m : Checked) (os : List Numbered) (i : ℕ) → i < length os 
 check-more m os i h = rw (add-one, take-suc os i noNumbered) (check-last m (take i os) (getD os i noNumbered))
 
 -- ---- step 4
--- one of these acts at the time own or before
-unfoldable pub overtakenBy : ℕ → List Numbered → Bool
-overtakenBy own later = some (λ (l : Numbered). leb (acting l) own) later
+leb-min : (e a own : ℕ) → (leb a own || leb e own) ≡ leb (min e a) own
+leb-min e a own = elim (decLe a own) [
+  | yes h ↦ rw (le-leb a own h, le-leb (min e a) own (omega arith))
+  | no h ↦ rw (lt-leb a own (omega arith)) (elim (decLe e own) [ yes k ↦ rw (le-leb e own k, le-leb (min e a) own (omega arith)) | no k ↦ rw (lt-leb e own (omega arith), lt-leb (min e a) own (omega arith)) ])
+]
 
-pub overtaken-none : {os : List Numbered} (own : ℕ) → os ≡ [] → overtakenBy own os ≡ false
-unfolding overtakenBy some
-overtaken-none own e = rw e
+-- one of those after it acts no later exactly where the earliest of them does
+overtaken-is : (o : Numbered) (os : List Numbered) → acting o < 8589934592 → overtaken o os ≡ leb (earliestActing os) (acting o)
+unfolding overtaken some earliestActing
+overtaken-is o [] h = sym (lt-leb 8589934592 (acting o) h)
+overtaken-is o (l ∷ os) h = ap (λ (b : Bool). leb (acting l) (acting o) || b) (overtaken-is o os h) ∙ leb-min (earliestActing os) (acting l) (acting o)
+
+pub late-is : (end own earliest : ℕ) (o : Numbered) (os : List Numbered) → own ≡ acting o → own < 8589934592 → earliest ≡ earliestActing os → lateAt end own earliest ≡ lateFate end o os
+unfolding lateAt lateFate
+late-is end own earliest o os e h k = rw (k, e, overtaken-is o os (rw e at h))
+
+pub acting-none : {os : List Numbered} → os ≡ [] → earliestActing os ≡ 8589934592
+unfolding earliestActing
+acting-none e = rw e
 
 module _ (ks : List Numbered) (n : ℕ) (fits : n ≤ length ks) where
-  pub overtaken-here : (own i : ℕ) → i < n → acting (getD ks i noNumbered) ≤ own → overtakenBy own (drop i (take n ks)) ≡ true
-  unfolding overtakenBy some
-  overtaken-here own i h e = rw (left-cons ks n i noNumbered h fits) (simp (le-leb _ _ e))
+  pub acting-more : (i : ℕ) → i < n → min (earliestActing (drop (i + 1) (take n ks))) (acting (getD ks i noNumbered)) ≡ earliestActing (drop i (take n ks))
+  unfolding earliestActing
+  acting-more i h = rw (left-cons ks n i noNumbered h fits)
 
-  pub overtaken-next : (own i : ℕ) → i < n → own < acting (getD ks i noNumbered) → overtakenBy own (drop i (take n ks)) ≡ overtakenBy own (drop (i + 1) (take n ks))
-  unfolding overtakenBy some
-  overtaken-next own i h e = rw (left-cons ks n i noNumbered h fits) (simp (lt-leb _ _ e))
-
-  pub actors-next : (end i : ℕ) → i < n →
-      actors end (drop i (take n ks))
-      ≡ pick (eqb (lateFate end (getD ks i noNumbered) (drop (i + 1) (take n ks))) 0) (getD ks i noNumbered ∷ []) [] ++ actors end (drop (i + 1) (take n ks))
+  pub actors-skip : (end i : ℕ) → i < n → (lateFate end (getD ks i noNumbered) (drop (i + 1) (take n ks)) ≡ 0 → ⊥) → actors end (drop i (take n ks)) ≡ actors end (drop (i + 1) (take n ks))
   unfolding actors
-  actors-next end i h = rw (left-cons ks n i noNumbered h fits) (go (eqb (lateFate end (getD ks i noNumbered) (drop (i + 1) (take n ks))) 0))
-    where
-      go : (b : Bool) → pick b (getD ks i noNumbered ∷ actors end (drop (i + 1) (take n ks))) (actors end (drop (i + 1) (take n ks))) ≡ pick b (getD ks i noNumbered ∷ []) [] ++ actors end (drop (i + 1) (take n ks))
-      go true = refl
-      go false = refl
+  actors-skip end i h e = rw (left-cons ks n i noNumbered h fits) (simp (ne-eqb _ _ e))
 
-  pub settled-next : (end i : ℕ) (fates : List ℕ) → i < n →
+  pub actors-keep : (end i : ℕ) → i < n → lateFate end (getD ks i noNumbered) (drop (i + 1) (take n ks)) ≡ 0 → actors end (drop i (take n ks)) ≡ getD ks i noNumbered ∷ actors end (drop (i + 1) (take n ks))
+  unfolding actors
+  actors-keep end i h e = rw (left-cons ks n i noNumbered h fits) (simp (eq-eqb _ _ e))
+
+  settled-next : (end i : ℕ) (fates : List ℕ) → i < n →
       settled fates (lateMarks end (drop i (take n ks)))
       ≡ settled (settleFate fates (getD ks i noNumbered .number) (lateFate end (getD ks i noNumbered) (drop (i + 1) (take n ks)))) (lateMarks end (drop (i + 1) (take n ks)))
   unfolding settled lateMarks
   settled-next end i fates h = rw (left-cons ks n i noNumbered h fits)
+
+  -- with the fate of the one at the place i
+  pub settled-more : (end i : ℕ) (fates next : List ℕ) (fate : ℕ) → i < n → fate ≡ lateFate end (getD ks i noNumbered) (drop (i + 1) (take n ks)) → next ≡ settleFate fates (getD ks i noNumbered .number) fate →
+      settled next (lateMarks end (drop (i + 1) (take n ks))) ≡ settled fates (lateMarks end (drop i (take n ks)))
+  settled-more end i fates next fate h e q =
+      ap (λ (l : List ℕ). settled l (lateMarks end (drop (i + 1) (take n ks)))) (q ∙ ap (settleFate fates (getD ks i noNumbered .number)) e) ∙ sym (settled-next end i fates h)
 
 -- ---- the fates by number
 module _ (times issues later : List ℕ) where
@@ -246,16 +259,3 @@ actors-none end e = rw e
 pub settled-none : {os : List Numbered} (end : ℕ) (fates : List ℕ) → os ≡ [] → settled fates (lateMarks end os) ≡ fates
 unfolding settled lateMarks
 settled-none end fates e = rw e
-
-module _ (end : ℕ) (o : Numbered) (later : List Numbered) where
-  pub late-six : overtaken o later ≡ true → 6 ≡ lateFate end o later
-  unfolding lateFate
-  late-six e = rw e
-
-  pub late-eight : overtaken o later ≡ false → end ≤ acting o → 8 ≡ lateFate end o later
-  unfolding lateFate
-  late-eight e h = simp (e, le-leb _ _ h)
-
-  pub late-acts : overtaken o later ≡ false → acting o < end → 0 ≡ lateFate end o later
-  unfolding lateFate
-  late-acts e h = simp (e, lt-leb _ _ h)

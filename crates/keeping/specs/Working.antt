@@ -1,17 +1,17 @@
 -- What the code of steps 1 to 4 works with, beside the definitions.
 -- Assumes nothing.
-use Prim.Native.Nat.{ℕ, zero, suc, _+_, _-_, min}
+use Prim.Native.Nat.{ℕ, zero, suc, _+_, _-_, _<_, min}
 use mathlib.Core.Path.{_≡_}
 use mathlib.Core.List.{List, [], _∷_, _++_, map}
 use mathlib.Core.Bool.{Bool, false, _&&_, _||_}
 use lib.Dec.{leb, ltb, eqb}
-use lib.ListN.{length, set, getD, replicate}
+use lib.ListN.{length, take, drop, set, getD, replicate}
 use Rattle.level.specs.Lists.{filled, those}
 use Rattle.level.specs.Choice.{pick}
 use Rattle.records.specs.declared.Effect.the-variants.{Sync}
 use Rattle.records.specs.Codes.{codeNumber, same}
 use Rattle.validation.specs.declared.Numbered.{Numbered}
-use Rattle.validation.specs.Kept.{effectiveOf, effectOf, firstOne, Mark, mark, Checked}
+use Rattle.validation.specs.Kept.{effectiveOf, effectOf, firstOne, Mark, mark, Checked, acting, lateFate}
 use Rattle.keeping.specs.Outcome.{noNumbered}
 use Rattle.keeping.specs.declared.Checking.{Checking}
 use Rattle.keeping.specs.declared.Sequence.{Sequence}
@@ -119,12 +119,22 @@ Follows s r f = (m : Checked) → Tracks s m → Tracks r (f m)
 
 -- ---- step 4 and the fates
 
+-- the earliest acting time of these; where there is none, one later than any
+unfoldable pub earliestActing : List Numbered → ℕ
+earliestActing [] = 8589934592
+earliestActing (o ∷ os) = min (earliestActing os) (acting o)
+
+-- the fate of one that acts at the time own, by the earliest acting time of those after it
+unfoldable pub lateAt : ℕ → ℕ → ℕ → ℕ
+lateAt end own earliest = pick (leb earliest own) 6 (pick (leb end own) 8 0)
+
+-- these are step 4's fates of the first n kept, by their places
+abbrev pub LateFates : ℕ → List Numbered → ℕ → List ℕ → Type 0
+LateFates end ks n fates = (i : ℕ) → i < n → getD fates i 0 ≡ lateFate end (getD ks i noNumbered) (drop (i + 1) (take n ks))
+
 -- a fate where none is settled; the marks in turn
 unfoldable pub settleFate : List ℕ → ℕ → ℕ → List ℕ
 settleFate fates number fate = pick (eqb number 0) fates (pick (eqb (getD fates (number - 1) 0) 2) (set fates (number - 1) fate) fates)
-
-unfoldable pub settling : Checking → Numbered → ℕ → Checking
-settling s o fate = record { kept = s .kept; height = s .height; fates = settleFate (s .fates) (o .number) fate }
 
 unfoldable pub settled : List ℕ → List Mark → List ℕ
 settled fates [] = fates

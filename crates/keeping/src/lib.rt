@@ -1,15 +1,15 @@
 // Which instructions are kept, steps 1 to 4: over up to forty instructions with their numbers.
 ghost use mathlib.Core.Path.{_≡_};
-ghost use Prim.Native.Nat.{_+_, _-_, _<_, _≤_, min};
+ghost use Prim.Native.Nat.{ℕ, _+_, _-_, _<_, _≤_, min};
 ghost use mathlib.Core.List.{[], _∷_, map};
 ghost use lib.ListN.{length, take, drop, getD};
 ghost use Rattle.level.specs.Lists.{filled};
 ghost use Rattle.level.specs.Choice.{pick};
 ghost use Rattle.records.specs.declared.Effect.the-variants.{Sync, Desy};
 ghost use Rattle.records.specs.Codes.{codeNumber};
-ghost use Rattle.validation.specs.Kept.{effectiveOf, effectOf, group, goesBefore, highest, orElse, present, carrying, merged, usedOf, numbered, used, repeats, Checked, failed, checkOne, check, acting, overtaken, lateFate, actors, lateMarks};
+ghost use Rattle.validation.specs.Kept.{effectiveOf, effectOf, group, goesBefore, highest, orElse, present, carrying, merged, usedOf, numbered, used, repeats, Checked, failed, checkOne, check, acting, actors, lateMarks};
 ghost use Rattle.keeping.specs.Outcome.{noNumbered, validationOf};
-ghost use Rattle.keeping.specs.Working.{holding, pushed, foundList, joined, earliest, issueOf, Timed, supersedesAt, supersededAt, earlierOf, nextAt, stackOf, syncPlace, setFate, settleFate, settled, voided, settling, withFate, withinHour, keeping, noChecking, noneChecked, Tracks, Follows, fatesTo};
+ghost use Rattle.keeping.specs.Working.{holding, pushed, foundList, joined, earliest, issueOf, Timed, supersedesAt, supersededAt, earlierOf, nextAt, stackOf, syncPlace, setFate, settled, lateAt, LateFates, voided, withFate, withinHour, keeping, noChecking, noneChecked, Tracks, Follows, fatesTo};
 
 // What steps 1 to 4 come to: the fates by number, those that act in time order, and how many these are.
 pub struct Validation {
@@ -47,6 +47,9 @@ const SYNC: u8 = 4;
 const DESY: u8 = 6;
 
 const FAIL: u8 = 7;
+
+// Later than any acting time.
+const NEVER: u64 = 8589934592;
 
 // ---- codes
 
@@ -120,17 +123,6 @@ fn push(s: Sequence, o: validation::Numbered) -> Sequence
     next.items[at] = o;
     next.count = at + 1;
     next
-}
-
-// With one more where the test holds.
-fn push_if(s: Sequence, o: validation::Numbered, test: bool) -> Sequence
-    requires { ⌜ s .count < 40 ⌝ }
-    ensures { λ r. ⌜ r ≡ pick test (pushed s o) s ⌝ }
-{
-    if test {
-        return push(s, o);
-    }
-    s
 }
 
 // With what was found.
@@ -592,7 +584,7 @@ fn checked_in(
 
 // Effective time and lag. The sum of two numbers of a record may pass 32 bits.
 fn acting_time(o: validation::Numbered) -> u64
-    ensures { λ r. ⌜ r ≡ acting o ⌝ }
+    ensures { λ r. ⌜ (r ≡ acting o) × (r < 8589934592) ⌝ }
 {
     let i = o.instruction;
     let m = i.meaning;
@@ -601,26 +593,14 @@ fn acting_time(o: validation::Numbered) -> u64
     a + lag
 }
 
-// One of the kept ones from a place on acts no later than o.
-fn is_overtaken(
-    kept: [validation::Numbered; 40],
-    n: usize,
-    from: usize,
-    o: validation::Numbered,
-) -> bool
-    requires { ⌜ (from ≤ n) × (n ≤ 40) ⌝ }
-    ensures { λ r. ⌜ r ≡ overtaken o (drop from (take n kept)) ⌝ }
+// The less of two times.
+fn least(a: u64, b: u64) -> u64
+    ensures { λ r. ⌜ r ≡ min a b ⌝ }
 {
-    let own = acting_time(o);
-    let mut i = from;
-    while i < n {
-        let l = kept[i];
-        if acting_time(l) <= own {
-            return true;
-        }
-        i += 1;
+    if a < b {
+        return a;
     }
-    false
+    b
 }
 
 // The first fate whose condition holds; 0 where neither does.
@@ -636,81 +616,82 @@ fn first_fate(first: bool, fate: u8, second: bool, other: u8) -> u8
     0
 }
 
-// The fate that step 4 gives the kept one at a place: 6 where it is overtaken, else 8 where it acts at the day's end or later; 0 where it acts.
-fn late_fate(kept: [validation::Numbered; 40], n: usize, at: usize, end: u32) -> u8
-    requires { ⌜ (at < n) × (n ≤ 40) ⌝ }
-    ensures { λ r. ⌜ r ≡ lateFate end (getD kept at noNumbered) (drop (at + 1) (take n kept)) ⌝ }
+// The fate that step 4 gives one that acts at the time own: 6 where the earliest of those after it acts no later, else 8 where it acts at the day's end or later; 0 where it acts.
+fn late_fate(earliest: u64, own: u64, end: u32) -> u8
+    ensures { λ r. ⌜ r ≡ lateAt end own earliest ⌝ }
 {
-    let o = kept[at];
-    let overtaken = is_overtaken(kept, n, at + 1, o);
+    let overtaken = earliest <= own;
     let last = end as u64;
-    let late = last <= acting_time(o);
+    let late = last <= own;
     first_fate(overtaken, 6, late, 8)
 }
 
-// Those that act, in time order.
-fn acts_of(kept: [validation::Numbered; 40], n: usize, end: u32) -> Sequence
+// The fates that step 4 gives the first n of the kept ones, by their places: from the last, with the earliest acting time of those after.
+fn late_fates(kept: [validation::Numbered; 40], n: usize, end: u32) -> [u8; 40]
     requires { ⌜ n ≤ 40 ⌝ }
-    ensures { λ r. ⌜ r ≡ holding (actors end (take n kept)) ⌝ }
+    ensures { λ r. ⌜ LateFates end kept n r ⌝ }
 {
-    let mut out = empty();
-    let mut i: usize = 0;
-    while i < n {
+    let mut out = [0u8; 40];
+    let mut earliest = NEVER;
+    let mut i = n;
+    while 0 < i {
+        i -= 1;
         let o = kept[i];
-        let fate = late_fate(kept, n, i, end);
-        out = push_if(out, o, fate == 0);
-        i += 1;
+        let own = acting_time(o);
+        out[i] = late_fate(earliest, own, end);
+        earliest = least(earliest, own);
     }
     out
 }
 
-// "The first step that settles it counts": a fate that is settled stays.
-fn settle(fates: [u8; 40], number: u32, fate: u8) -> [u8; 40]
-    ensures { λ r. ⌜ r ≡ settleFate fates number fate ⌝ }
+// Those that act, in time order, by the fates of step 4.
+fn acts_of(kept: [validation::Numbered; 40], n: usize, late: [u8; 40]) -> Sequence
+    requires { ⌜ n ≤ 40 ⌝ }
+    ensures { λ r. ⌜ ((end : ℕ) → LateFates end kept n late → r ≡ holding (actors end (take n kept))) ⌝ }
 {
-    if number == 0 {
-        return fates;
-    }
-    if 40 < number {
-        return fates;
-    }
-    let at = (number - 1) as usize;
-    if fates[at] != 2 {
-        return fates;
-    }
-    let mut next = fates;
-    next[at] = fate;
-    next
-}
-
-// With a fate for o where none is settled.
-fn settle_one(s: Checking, o: validation::Numbered, fate: u8) -> Checking
-    ensures { λ r. ⌜ r ≡ settling s o fate ⌝ }
-{
-    let kept = s.kept;
-    let before = s.fates;
-    let fates = settle(before, o.number, fate);
-    Checking {
-        kept,
-        height: s.height,
-        fates,
-    }
-}
-
-// The fates with those of step 4.
-fn settle_late(s: Checking, end: u32) -> Checking
-    requires { ⌜ s .height ≤ 40 ⌝ }
-    ensures { λ r. ⌜ r .fates ≡ settled (s .fates) (lateMarks end (take (s .height) (s .kept))) ⌝ }
-{
-    let kept = s.kept;
-    let height = s.height;
-    let mut out = s;
+    let mut out = empty();
     let mut i: usize = 0;
-    while i < height {
-        let o = kept[i];
-        let fate = late_fate(kept, height, i, end);
-        out = settle_one(out, o, fate);
+    while i < n {
+        let at = i;
         i += 1;
+        if late[at] != 0 {
+            continue;
+        }
+        let o = kept[at];
+        let k = out.count;
+        out.items[k] = o;
+        out.count = k + 1;
+    }
+    out
+}
+
+// The fates with those of step 4. "The first step that settles it counts": a fate that is settled stays.
+fn settle_late(
+    kept: [validation::Numbered; 40],
+    n: usize,
+    late: [u8; 40],
+    before: [u8; 40],
+) -> [u8; 40]
+    requires { ⌜ n ≤ 40 ⌝ }
+    ensures { λ r. ⌜ ((end : ℕ) → LateFates end kept n late → r ≡ settled before (lateMarks end (take n kept))) ⌝ }
+{
+    let mut out = before;
+    let mut i: usize = 0;
+    while i < n {
+        let o = kept[i];
+        let fate = late[i];
+        i += 1;
+        if o.number == 0 {
+            continue;
+        }
+        if 40 < o.number {
+            continue;
+        }
+        let at = (o.number - 1) as usize;
+        if out[at] != 2 {
+            continue;
+        }
+        out[at] = fate;
     }
     out
 }
@@ -818,12 +799,13 @@ pub fn validate(instructions: [records::Instruction; 40], count: usize, end: u32
     let times = times_of(os, n);
     let issues = issues_of(os, n);
     let s = checked_in(os, &times, &issues, n, end);
-    let late = settle_late(s, end);
-    let later = late.fates;
-    let fates = fates_of(&times, &issues, n, later);
     let kept = s.kept;
     let height = s.height;
-    let actors = acts_of(kept, height, end);
+    let late = late_fates(kept, height, end);
+    let before = s.fates;
+    let later = settle_late(kept, height, late, before);
+    let fates = fates_of(&times, &issues, n, later);
+    let actors = acts_of(kept, height, late);
     let acts = actors.items;
     Validation {
         fates,

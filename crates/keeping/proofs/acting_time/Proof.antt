@@ -1,5 +1,6 @@
 use mathlib.Core.Path.{refl}
 use Rattle.validation.specs.Kept.{acting}
+use native.Mathlib.Omega.{arith}
 use borrow.Author.Needs.{needs}
 use Rattle.keeping.proofs.acting_time.Statement.{statement}
 use Rattle.keeping.proofs.acting_time.Tie as tie
@@ -15,7 +16,7 @@ add-result c = search needs
 
 returns : tie.Need-returns
 unfolding acting
-returns c = refl
+returns c = (refl, omega arith)
 
 pub acting-time-spec : {M : Type 1} → statement M
 acting-time-spec = tie.close (tie.spec cast-a cast-lag add-result returns)

@@ -1,6 +1,5 @@
 use Rattle.keeping.proofs.Laws.{held}
 use borrow.Author.Needs.{needs}
-use borrow.Author.Needs.{needs}
 use Rattle.keeping.proofs.checked_in.Statement.{statement}
 use Rattle.keeping.proofs.checked_in.Tie as tie
 

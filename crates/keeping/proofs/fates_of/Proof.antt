@@ -1,7 +1,6 @@
-use Prim.Native.Nat.{ℕ, _≤_, _-_}
+use Prim.Native.Nat.{_≤_, _-_}
 use mathlib.Core.Path.{_≡_, refl, ap, _∙_}
 use mathlib.Core.Bool.{Bool}
-use mathlib.Core.List.{List}
 use lib.ListN.{set, take, getD}
 use Rattle.level.specs.Choice.{pick}
 use Rattle.level.specs.Lists.{filled}

@@ -2,8 +2,6 @@ use Prim.Native.Nat.{_≤_, _-_}
 use mathlib.Core.Path.{_≡_, refl, _∙_}
 use mathlib.Core.List.{map}
 use lib.ListN.{length, take, length-set}
-use Rattle.validation.specs.Kept.{effectiveOf}
-use Rattle.keeping.specs.Outcome.{noNumbered}
 use Rattle.keeping.specs.Working.{issueOf}
 use Rattle.keeping.proofs.Laws.{map-more}
 use native.Mathlib.Omega.{arith}

@@ -3,7 +3,6 @@ use mathlib.Core.Path.{_≡_}
 use lib.ListN.{take, drop}
 use Rattle.validation.specs.Kept.{numbered}
 use Rattle.keeping.specs.Outcome.{noNumbered}
-use Rattle.keeping.specs.Working.{pushed}
 use Rattle.keeping.proofs.Laws.{Begun, left-none, begun-none, begun-store, begun-all}
 use Rattle.keeping.proofs.Steps.{number-next, number-none}
 use native.Mathlib.Omega.{arith}

@@ -1,26 +1,24 @@
-use mathlib.Core.Path.{_≡_, refl, sym, ap, _∙_}
-use native.Mathlib.Omega.{arith}
 use Prim.Native.Nat.{ℕ, _≤_, _-_, _+_}
-use lib.ListN.{length, take, drop, getD}
-use borrow.Author.Needs.{needs}
-use Rattle.keeping.specs.declared.Checking.{Checking}
+use mathlib.Core.Path.{_≡_, refl, sym, _∙_}
 use mathlib.Core.List.{List}
-use Rattle.validation.specs.Kept.{lateFate, lateMarks}
+use lib.ListN.{length, take, drop, getD, length-set}
+use Rattle.validation.specs.Kept.{lateMarks}
 use Rattle.keeping.specs.Outcome.{noNumbered}
-use Rattle.keeping.specs.Working.{settling, settleFate, settled}
-use Rattle.keeping.proofs.Laws.{left-none, map-length}
-use Rattle.keeping.proofs.Steps.{settled-next, settled-none}
+use Rattle.keeping.specs.Working.{settleFate, settled, LateFates}
+use Rattle.keeping.proofs.Laws.{left-none}
+use Rattle.keeping.proofs.Steps.{settle-zero, settle-large, settle-done, settle-some, settled-more, settled-none}
+use native.Mathlib.Omega.{arith}
 use Rattle.keeping.proofs.settle_late.Statement.{statement}
 use Rattle.keeping.proofs.settle_late.Tie as tie
 
 abbrev Inv-loop : tie.InvT-loop
-Inv-loop end kept height out₀ i₀ out i = (i ≤ height) × (settled (out .fates) (lateMarks end (drop i (take height kept))) ≡ settled (out₀ .fates) (lateMarks end (take height kept)))
+Inv-loop n kept late out₀ i₀ out i = (i ≤ n) × (length out ≡ 40) × ((end : ℕ) → LateFates end kept n late → settled out (lateMarks end (drop i (take n kept))) ≡ settled out₀ (lateMarks end (take n kept)))
 
 abbrev μ-loop : tie.MeasureT-loop
-μ-loop end kept height out₀ i₀ out i = height - i
+μ-loop n kept late out₀ i₀ out i = n - i
 
 loop-holds : tie.Need-loop-holds Inv-loop μ-loop
-loop-holds c = (omega arith, refl)
+loop-holds c = (omega arith, omega (arith, c .good .1 .1 .1 .0 .1 .0 .1), λ end f. refl)
 
 mul-o : tie.Need-mul-o Inv-loop μ-loop
 mul-o c = omega arith
@@ -28,11 +26,8 @@ mul-o c = omega arith
 array-copy-out-o : tie.Need-array-copy-out-o Inv-loop μ-loop
 array-copy-out-o c = omega arith
 
-late-fate-requires : tie.Need-late-fate-requires Inv-loop μ-loop
-late-fate-requires c κs = search needs
-
-settle-one-requires : tie.Need-settle-one-requires Inv-loop μ-loop
-settle-one-requires c κs = search needs
+array-read-fate : tie.Need-array-read-fate Inv-loop μ-loop
+array-read-fate c = omega arith
 
 add-i : tie.Need-add-i Inv-loop μ-loop
 add-i c = omega arith
@@ -40,26 +35,59 @@ add-i c = omega arith
 loop-less : tie.Need-loop-less Inv-loop μ-loop
 loop-less c = omega arith
 
+-- the one at the place i has its fate
+more : (x : tie.In-loop Inv-loop μ-loop) (next : List ℕ) → next ≡ settleFate (x .before .loop .out) (getD (x .before .before .args .t1) (x .before .loop .i) noNumbered .number) (getD (x .before .before .args .t3) (x .before .loop .i) 0) →
+    (end : ℕ) → LateFates end (x .before .before .args .t1) (x .before .before .args .n) (x .before .before .args .t3) →
+    settled next (lateMarks end (drop (x .before .loop .i + 1) (take (x .before .before .args .n) (x .before .before .args .t1)))) ≡ settled (x .before .before .args .before) (lateMarks end (take (x .before .before .args .n) (x .before .before .args .t1)))
+more x next q end f =
+    let s = x .before .before in
+    let l = x .before .loop in
+    let fate = getD (s .args .t3) (l .i) 0 in
+    settled-more (s .args .t1) (s .args .n) (omega (arith, s .good .0 .1 .0 .1)) end (l .i) (l .out) next fate (omega arith) (f (l .i) (omega arith)) q ∙ l .inv .2 end f
+
 loop-again : tie.Need-loop-again Inv-loop μ-loop
-unfolding settling
 loop-again c =
-    let s = c .before .before .before .before .before .before in
-    let l = c .before .before .before .before .loop in
-    let ks = s .args .s .kept in
-    let n = s .args .s .height in
-    let end = s .args .end in
-    let o = getD ks (l .i) noNumbered in
-    let g : length ks ≡ 40 = simp map-length at (s .good .0 .1 .1 .0 .1 .0 .1) in
-    let f : c .before .late-fate .result ≡ lateFate end o (drop (l .i + 1) (take n ks)) = c .before .late-fate .ensures in
-    let e : c .settle-one .result .fates ≡ settleFate (l .out .fates) (o .number) (lateFate end o (drop (l .i + 1) (take n ks))) =
-    ap (λ (q : Checking). q .fates) (c .settle-one .ensures) ∙ ap (settleFate (l .out .fates) (o .number)) f in
-    (omega arith, ap (λ (q : List ℕ). settled q (lateMarks end (drop (l .i + 1) (take n ks)))) e ∙ (sym (settled-next ks n (omega arith) end (l .i) (l .out .fates) (omega arith)) ∙ l .inv .1))
+    (omega arith, c .before .before .before .before .loop .inv .1, more (c .before .before .before) _ (settle-zero _ _ _ (c .if1 .taken)))
+
+loop-less-2 : tie.Need-loop-less-2 Inv-loop μ-loop
+loop-less-2 c = omega arith
+
+loop-again-2 : tie.Need-loop-again-2 Inv-loop μ-loop
+loop-again-2 c =
+    (omega arith, c .before .before .before .before .before .before .loop .inv .1, more (c .before .before .before .before .before) _ (settle-large _ _ _ (c .before .before .before .before .before .before .loop .inv .1) (c .if2 .taken)))
+
+sub-at : tie.Need-sub-at Inv-loop μ-loop
+sub-at c = omega arith
+
+cast-at : tie.Need-cast-at Inv-loop μ-loop
+cast-at c = omega arith
+
+array-read-if3 : tie.Need-array-read-if3 Inv-loop μ-loop
+array-read-if3 c = omega arith
+
+loop-less-3 : tie.Need-loop-less-3 Inv-loop μ-loop
+loop-less-3 c = omega arith
+
+loop-again-3 : tie.Need-loop-again-3 Inv-loop μ-loop
+loop-again-3 c =
+    (omega arith, c .before .before .before .before .before .before .before .before .loop .inv .1, more (c .before .before .before .before .before .before .before) _ (settle-done _ _ _ (omega arith) (c .if3 .taken)))
+
+array-write-out : tie.Need-array-write-out Inv-loop μ-loop
+array-write-out c = omega arith
+
+loop-less-4 : tie.Need-loop-less-4 Inv-loop μ-loop
+loop-less-4 c = omega arith
+
+loop-again-4 : tie.Need-loop-again-4 Inv-loop μ-loop
+loop-again-4 c =
+    let l = c .before .before .before .before .before .before .before .before .loop in
+    (omega arith, length-set (l .out) _ _ ∙ l .inv .1, more (c .before .before .before .before .before .before .before) _ (settle-some _ _ _ (omega arith) (c .if3 .left)))
 
 returns : tie.Need-returns Inv-loop μ-loop
 returns c =
-    let s = c .before .before .before .args in
+    let s = c .before .before in
     let l = c .before .loop in
-    sym (settled-none (s .end) (l .out .fates) (left-none (s .s .kept) (s .s .height) (l .i) (omega arith))) ∙ l .inv .1
+    λ end f. sym (settled-none end (l .out) (left-none (s .args .t1) (s .args .n) (l .i) (omega arith))) ∙ l .inv .2 end f
 
 pub settle-late-spec : {M : Type 1} → statement M
 settle-late-spec =
@@ -70,9 +98,18 @@ settle-late-spec =
     loop-holds
     mul-o
     array-copy-out-o
-    late-fate-requires
-    settle-one-requires
+    array-read-fate
     add-i
     loop-less
     loop-again
+    loop-less-2
+    loop-again-2
+    sub-at
+    cast-at
+    array-read-if3
+    loop-less-3
+    loop-again-3
+    array-write-out
+    loop-less-4
+    loop-again-4
     returns)

@@ -1,7 +1,7 @@
 use Prim.Native.Nat.{ℕ, _≤_, _-_, _+_}
 use mathlib.Core.Path.{_≡_, sym, ap, _∙_}
 use mathlib.Core.List.{List, [], _++_}
-use lib.ListN.{length, take}
+use lib.ListN.{take}
 use Rattle.validation.specs.declared.Numbered.{Numbered}
 use Rattle.validation.specs.Kept.{effectiveOf, used, usedFrom, usedOf, group, nextTime}
 use Rattle.keeping.specs.Working.{foundList}

@@ -1,0 +1,96 @@
+use Prim.Native.Nat.{ℕ, _≤_, _<_, _-_, _+_, min}
+use mathlib.Core.Path.{_≡_, refl, sym, _∙_}
+use mathlib.Core.List.{List}
+use native.Mathlib.Decide.{ℕ-discrete}
+use lib.ListN.{length, take, drop, getD, set, length-set}
+use lib.Seq.{getD-set-same, getD-set-other}
+use Rattle.validation.specs.Kept.{lateFate}
+use Rattle.keeping.specs.Outcome.{noNumbered}
+use Rattle.keeping.specs.Working.{earliestActing}
+use Rattle.keeping.proofs.Laws.{left-none}
+use Rattle.keeping.proofs.Steps.{acting-none, acting-more, late-is}
+use native.Mathlib.Omega.{arith}
+use borrow.Author.Needs.{needs}
+use Rattle.keeping.proofs.late_fates.Statement.{statement}
+use Rattle.keeping.proofs.late_fates.Tie as tie
+
+abbrev Inv-loop : tie.InvT-loop
+Inv-loop n end kept out₀ earliest₀ i₀ out earliest i = (i ≤ n) × (length out ≡ 40) × (earliest ≡ earliestActing (drop i (take n kept))) × ((j : ℕ) → i ≤ j → j < n → getD out j 0 ≡ lateFate end (getD kept j noNumbered) (drop (j + 1) (take n kept)))
+
+abbrev μ-loop : tie.MeasureT-loop
+μ-loop n end kept out₀ earliest₀ i₀ out earliest i = i
+
+loop-holds : tie.Need-loop-holds Inv-loop μ-loop
+loop-holds c =
+    let a = c .args in
+    (omega arith, refl, sym (acting-none (left-none (a .t1) (a .n) (a .n) (omega arith))), λ j p q. absurd (omega arith))
+
+sub-i : tie.Need-sub-i Inv-loop μ-loop
+sub-i c = omega arith
+
+mul-o : tie.Need-mul-o Inv-loop μ-loop
+mul-o c = omega arith
+
+array-copy-out-o : tie.Need-array-copy-out-o Inv-loop μ-loop
+array-copy-out-o c = omega arith
+
+acting-time-requires : tie.Need-acting-time-requires Inv-loop μ-loop
+acting-time-requires c κs = search needs
+
+late-fate-requires : tie.Need-late-fate-requires Inv-loop μ-loop
+late-fate-requires c κs = search needs
+
+array-write-out : tie.Need-array-write-out Inv-loop μ-loop
+array-write-out c = omega arith
+
+least-requires : tie.Need-least-requires Inv-loop μ-loop
+least-requires c κs = search needs
+
+loop-less : tie.Need-loop-less Inv-loop μ-loop
+loop-less c = omega arith
+
+-- one more from the back
+set-at : (fates : List ℕ) (i v : ℕ) (at : ℕ → ℕ) → i < length fates → v ≡ at i → (j : ℕ) → ((j ≡ i → ⊥) → getD fates j 0 ≡ at j) → getD (set fates i v) j 0 ≡ at j
+set-at fates i v at h e j r = elim (ℕ-discrete j i) [
+  | yes q ↦ rw q (getD-set-same fates i v 0 h ∙ e)
+  | no q ↦ getD-set-other fates i j v 0 q ∙ r q
+]
+
+loop-again : tie.Need-loop-again Inv-loop μ-loop
+loop-again c =
+    let s = c .before .before .before .before .before .before in
+    let l = c .before .before .before .before .before .loop in
+    let ks = s .args .t1 in
+    let n = s .args .n in
+    let end = s .args .end in
+    let i : ℕ = l .i - 1 in
+    let e : i + 1 ≡ l .i = omega arith in
+    let own = c .before .before .acting-time in
+    let g : n ≤ length ks = omega (arith, s .good .0 .1 .0 .1) in
+    let k : l .earliest ≡ earliestActing (drop (i + 1) (take n ks)) = rw e (l .inv .2) in
+    let m : c .least .result ≡ earliestActing (drop i (take n ks)) = c .least .ensures ∙ ((λ q. min (k q) (own .ensures .0 q)) ∙ acting-more ks n g i (omega arith)) in
+    let f : c .before .late-fate .result ≡ lateFate end (getD ks i noNumbered) (drop (i + 1) (take n ks)) = c .before .late-fate .ensures ∙ late-is end (own .result) (l .earliest) (getD ks i noNumbered) (drop (i + 1) (take n ks)) (own .ensures .0) (own .ensures .1) k in
+    (omega arith, length-set (l .out) i _ ∙ l .inv .1, m, λ j p q. set-at (l .out) i _ (λ (x : ℕ). lateFate end (getD ks x noNumbered) (drop (x + 1) (take n ks))) (omega arith) f j (λ ne. l .inv .3 j (omega arith) q))
+
+returns : tie.Need-returns Inv-loop μ-loop
+returns c =
+    let l = c .before .loop in
+    λ j h. l .inv .3 j (omega arith) h
+
+pub late-fates-spec : {M : Type 1} → statement M
+late-fates-spec =
+    tie.close
+    (tie.spec
+    Inv-loop
+    μ-loop
+    loop-holds
+    sub-i
+    mul-o
+    array-copy-out-o
+    acting-time-requires
+    late-fate-requires
+    array-write-out
+    least-requires
+    loop-less
+    loop-again
+    returns)
