@@ -11,17 +11,13 @@ use lib.ListN.{length, take, getD, set}
 use lib.Seq.{take-suc, getD-set-same, getD-set-other}
 use borrow.Author.Tests.{eq-eqb, ne-eqb}
 use Rattle.level.specs.Choice.{pick}
-use Rattle.records.specs.declared.Effect.the-variants.{Sync}
+use Rattle.records.specs.declared.Effect.{Effect}
+use Rattle.records.specs.declared.Effect.the-variants.{Trip, Mwof, Mxon, Sync, Mxof, Desy, Fail}
 use Rattle.records.specs.Codes.{codeNumber, same}
 use Rattle.validation.specs.declared.Numbered.{Numbered}
 use Rattle.validation.specs.Kept.{effectiveOf, effectOf, repeats, syncWithinHour, fromSync, beforeSync, turned}
 use Rattle.keeping.specs.Outcome.{noNumbered}
-use Rattle.keeping.specs.Working.{stackOf, between, syncPlace}
-
-pub stack-top : (ks : List Numbered) (h : ℕ) → 0 < h → stackOf ks h ≡ getD ks (h - 1) noNumbered ∷ stackOf ks (h - 1)
-unfolding stackOf
-stack-top ks zero p = absurd (omega arith)
-stack-top ks (suc h) p = let e : suc h - 1 ≡ h = omega arith in rw e
+use Rattle.keeping.specs.Working.{stackOf, topCode, repeatsCode, between, syncPlace}
 
 -- a place above is another matter
 pub stack-set : (ks : List Numbered) (h j : ℕ) (o : Numbered) → h ≤ j → stackOf (set ks j o) h ≡ stackOf ks h
@@ -50,27 +46,53 @@ pub stack-turned : (ks : List Numbered) (h : ℕ) → h ≤ length ks → turned
 stack-turned ks h p = stack-before ks h [] p ∙ append-nil (take h ks)
 
 -- ---- against the last kept one
-module _ (o : Numbered) (ks : List Numbered) (h : ℕ) where
-  pub repeats-none : h ≡ 0 → false ≡ repeats o (stackOf ks h)
-  unfolding repeats stackOf
-  repeats-none e = rw e
+code-some : (e : Effect) → codeNumber e ≡ 0 → ⊥
+code-some Trip = omega arith
+code-some Mwof = omega arith
+code-some Mxon = omega arith
+code-some Sync = omega arith
+code-some Mxof = omega arith
+code-some Desy = omega arith
+code-some Fail = omega arith
 
-module _ (o : Numbered) (ks : List Numbered) (h : ℕ) (some : 0 < h) where
-  pub repeats-other : (codeNumber (effectOf o) ≡ codeNumber (effectOf (getD ks (h - 1) noNumbered)) → ⊥) → false ≡ repeats o (stackOf ks h)
-  unfolding repeats
-  repeats-other n = rw (stack-top ks h some) (simp (ne-eqb _ _ n))
+repeats-is : (o : Numbered) (ks : List Numbered) (h : ℕ) → repeatsCode (codeNumber (effectOf o)) (topCode ks h) ≡ repeats o (stackOf ks h)
+unfolding repeatsCode topCode repeats stackOf
+repeats-is o ks zero = simp (ne-eqb _ _ (code-some (effectOf o)))
+repeats-is o ks (suc h) = refl
 
-  pub repeats-sync : codeNumber (effectOf o) ≡ codeNumber (effectOf (getD ks (h - 1) noNumbered)) → codeNumber (effectOf o) ≡ 4 → true ≡ repeats o (stackOf ks h)
-  unfolding repeats
-  repeats-sync e s = rw (stack-top ks h some) (simp (eq-eqb _ _ e, eq-eqb _ _ s))
+-- as the codes tell it
+pub repeats-told : (o : Numbered) (ks : List Numbered) (h code last : ℕ) (told test : Bool) → code ≡ codeNumber (effectOf o) → last ≡ topCode ks h → told ≡ repeatsCode code last → told ≡ test → repeats o (stackOf ks h) ≡ test
+repeats-told o ks h code last told test e f r t = sym (repeats-is o ks h) ∙ ((λ q. repeatsCode (sym e q) (sym f q)) ∙ (sym r ∙ t))
 
-  pub repeats-desy : codeNumber (effectOf o) ≡ codeNumber (effectOf (getD ks (h - 1) noNumbered)) → (codeNumber (effectOf o) ≡ 4 → ⊥) → codeNumber (effectOf o) ≡ 6 → true ≡ repeats o (stackOf ks h)
-  unfolding repeats
-  repeats-desy e s d = rw (stack-top ks h some) (simp (eq-eqb _ _ e, ne-eqb _ _ s, eq-eqb _ _ d))
+pub code-none : (ks : List Numbered) (h : ℕ) → h ≡ 0 → 0 ≡ topCode ks h
+unfolding topCode
+code-none ks h e = rw e
 
-  pub repeats-trip : codeNumber (effectOf o) ≡ codeNumber (effectOf (getD ks (h - 1) noNumbered)) → (codeNumber (effectOf o) ≡ 4 → ⊥) → (codeNumber (effectOf o) ≡ 6 → ⊥) → eqb (codeNumber (effectOf o)) 1 ≡ repeats o (stackOf ks h)
-  unfolding repeats
-  repeats-trip e s d = rw (stack-top ks h some) (simp (eq-eqb _ _ e, ne-eqb _ _ s, ne-eqb _ _ d))
+pub code-top : (ks : List Numbered) (h : ℕ) → 0 < h → codeNumber (effectOf (getD ks (h - 1) noNumbered)) ≡ topCode ks h
+unfolding topCode
+code-top ks zero p = absurd (omega arith)
+code-top ks (suc h) p = let e : suc h - 1 ≡ h = omega arith in rw e
+
+pub code-push : (ks : List Numbered) (h : ℕ) (o : Numbered) → h < length ks → codeNumber (effectOf o) ≡ topCode (set ks h o) (h + 1)
+unfolding topCode
+code-push ks h o p = rw (add-one, getD-set-same ks h o noNumbered p)
+
+module _ (code last : ℕ) where
+  pub repeats-other : (code ≡ last → ⊥) → false ≡ repeatsCode code last
+  unfolding repeatsCode
+  repeats-other n = simp (ne-eqb _ _ n)
+
+  pub repeats-sync : code ≡ last → code ≡ 4 → true ≡ repeatsCode code last
+  unfolding repeatsCode
+  repeats-sync e s = simp (eq-eqb _ _ e, eq-eqb _ _ s)
+
+  pub repeats-desy : code ≡ last → (code ≡ 4 → ⊥) → code ≡ 6 → true ≡ repeatsCode code last
+  unfolding repeatsCode
+  repeats-desy e s d = simp (eq-eqb _ _ e, ne-eqb _ _ s, eq-eqb _ _ d)
+
+  pub repeats-trip : code ≡ last → (code ≡ 4 → ⊥) → (code ≡ 6 → ⊥) → eqb code 1 ≡ repeatsCode code last
+  unfolding repeatsCode
+  repeats-trip e s d = simp (eq-eqb _ _ e, ne-eqb _ _ s, ne-eqb _ _ d)
 
 -- ---- the latest kept SYNC
 module _ (ks : List Numbered) where

@@ -72,6 +72,15 @@ unfoldable pub stackOf : List Numbered → ℕ → List Numbered
 stackOf ks zero = []
 stackOf ks (suc h) = getD ks h noNumbered ∷ stackOf ks h
 
+-- the code of the latest; 0 where there is none
+unfoldable pub topCode : List Numbered → ℕ → ℕ
+topCode ks zero = 0
+topCode ks (suc h) = codeNumber (effectOf (getD ks h noNumbered))
+
+-- one of this code repeats a last one of that code
+unfoldable pub repeatsCode : ℕ → ℕ → Bool
+repeatsCode code last = eqb code last && (eqb code 4 || (eqb code 6 || eqb code 1))
+
 -- d places from a on, the latest first
 unfoldable pub between : List Numbered → ℕ → ℕ → List Numbered
 between ks a zero = []

@@ -7,9 +7,9 @@ ghost use Rattle.level.specs.Lists.{filled};
 ghost use Rattle.level.specs.Choice.{pick};
 ghost use Rattle.records.specs.declared.Effect.the-variants.{Sync, Desy};
 ghost use Rattle.records.specs.Codes.{codeNumber};
-ghost use Rattle.validation.specs.Kept.{effectiveOf, effectOf, group, goesBefore, highest, orElse, present, carrying, merged, usedOf, numbered, used, repeats, Checked, failed, checkOne, check, acting, actors, lateMarks};
+ghost use Rattle.validation.specs.Kept.{effectiveOf, effectOf, group, goesBefore, highest, orElse, present, carrying, merged, usedOf, numbered, used, Checked, failed, check, acting, actors, lateMarks};
 ghost use Rattle.keeping.specs.Outcome.{noNumbered, validationOf};
-ghost use Rattle.keeping.specs.Working.{holding, pushed, foundList, joined, earliest, issueOf, Timed, supersedesAt, supersededAt, earlierOf, nextAt, stackOf, syncPlace, setFate, settled, lateAt, LateFates, voided, withFate, withinHour, keeping, noChecking, noneChecked, Tracks, Follows, fatesTo};
+ghost use Rattle.keeping.specs.Working.{holding, pushed, foundList, joined, earliest, issueOf, Timed, supersedesAt, supersededAt, earlierOf, nextAt, topCode, repeatsCode, syncPlace, setFate, settled, lateAt, LateFates, voided, withFate, withinHour, noChecking, noneChecked, Tracks, Follows, fatesTo};
 
 // What steps 1 to 4 come to: the fates by number, those that act in time order, and how many these are.
 pub struct Validation {
@@ -415,18 +415,6 @@ fn with_fate(s: Checking, o: validation::Numbered, fate: u8) -> Checking
     }
 }
 
-// With o kept, on top.
-fn with_kept(s: Checking, o: validation::Numbered) -> Checking
-    requires { ⌜ s .height < 40 ⌝ }
-    ensures { λ r. ⌜ r ≡ keeping s o ⌝ }
-{
-    let at = s.height;
-    let mut next = s;
-    next.kept[at] = o;
-    next.height = at + 1;
-    next
-}
-
 // Nothing kept, nothing settled.
 fn no_checking() -> Checking
     ensures { λ r. ⌜ r ≡ noChecking ⌝ }
@@ -441,17 +429,24 @@ fn no_checking() -> Checking
     }
 }
 
-// o repeats the last kept one: SYNC after SYNC, DESY after DESY, TRIP after TRIP.
-fn is_repeat(kept: [validation::Numbered; 40], height: usize, o: validation::Numbered) -> bool
-    requires { ⌜ height ≤ 40 ⌝ }
-    ensures { λ r. ⌜ r ≡ repeats o (stackOf kept height) ⌝ }
+// The code of the last kept one; 0 where there is none.
+fn last_code(s: Checking) -> u8
+    requires { ⌜ s .height ≤ 40 ⌝ }
+    ensures { λ r. ⌜ r ≡ topCode (s .kept) (s .height) ⌝ }
 {
+    let height = s.height;
     if height == 0 {
-        return false;
+        return 0;
     }
-    let last = kept[height - 1];
-    let code = code_of(o);
-    if code != code_of(last) {
+    let last = s.kept[height - 1];
+    code_of(last)
+}
+
+// One of this code repeats the last kept one: SYNC after SYNC, DESY after DESY, TRIP after TRIP.
+fn is_repeat(code: u8, last: u8) -> bool
+    ensures { λ r. ⌜ r ≡ repeatsCode code last ⌝ }
+{
+    if code != last {
         return false;
     }
     if code == SYNC {
@@ -533,33 +528,33 @@ fn fail_one(s: Checking, o: validation::Numbered) -> Checking
     }
 }
 
-// The next one in time order.
-fn check_one(s: Checking, o: validation::Numbered) -> Checking
-    requires { ⌜ s .height < 40 ⌝ }
-    ensures { λ r. ⌜ (r .height ≤ s .height + 1) × Follows s r (λ (m : Checked). checkOne m o) ⌝ }
-{
-    if code_of(o) == FAIL {
-        return fail_one(s, o);
-    }
-    let kept = s.kept;
-    let height = s.height;
-    if is_repeat(kept, height, o) {
-        return with_fate(s, o, 3);
-    }
-    with_kept(s, o)
-}
-
-// Step 3 over the first n of those used.
+// Step 3 over the first n of those used: each against the code of the last kept one.
 fn check_all(os: [validation::Numbered; 40], n: usize) -> Checking
     requires { ⌜ n ≤ 40 ⌝ }
     ensures { λ r. ⌜ (r .height ≤ 40) × Tracks r (check noneChecked (take n os)) ⌝ }
 {
     let mut s = no_checking();
+    let mut last: u8 = 0;
     let mut i: usize = 0;
     while i < n {
         let o = os[i];
-        s = check_one(s, o);
         i += 1;
+        let code = code_of(o);
+        if code == FAIL {
+            s = fail_one(s, o);
+            last = last_code(s);
+            continue;
+        }
+        if is_repeat(code, last) {
+            let before = s.fates;
+            let fates = put_fate(before, o.number, 3);
+            s.fates = fates;
+            continue;
+        }
+        let height = s.height;
+        s.kept[height] = o;
+        s.height = height + 1;
+        last = code;
     }
     s
 }
