@@ -1,6 +1,6 @@
 -- What the code of steps 1 to 4 works with, beside the definitions.
 -- Assumes nothing.
-use Prim.Native.Nat.{ℕ, zero, suc, _+_, _-_, _<_, min}
+use Prim.Native.Nat.{ℕ, zero, suc, _+_, _-_, _<_, _≤_, min}
 use mathlib.Core.Path.{_≡_}
 use mathlib.Core.List.{List, [], _∷_, _++_, map}
 use mathlib.Core.Bool.{Bool, false, _&&_, _||_}
@@ -64,6 +64,17 @@ earlierOf x t best = pick (leb t x) (min x best) best
 unfoldable pub nextAt : ℕ → List ℕ → ℕ → ℕ
 nextAt end [] t = end
 nextAt end (x ∷ xs) t = earlierOf x t (nextAt end xs t)
+
+-- the first n times stand in order
+abbrev pub Rising : List ℕ → ℕ → Type 0
+Rising ts n = (i j : ℕ) → i ≤ j → j < n → getD ts i 0 ≤ getD ts j 0
+
+-- among the first n times, from a place on, the run of t ends before the place r
+pub record Run (ts : List ℕ) (n t from r : ℕ) : Type 0 where
+  pub starts : from ≤ r
+  pub ends : r ≤ n
+  pub same : (j : ℕ) → from ≤ j → j < r → getD ts j 0 ≡ t
+  pub other : r < n → getD ts r 0 ≡ t → ⊥
 
 -- ---- step 3: the kept ones stand in an array, the latest last; fates by number in another, 2 where none is settled
 

@@ -1,6 +1,7 @@
 // Which instructions are kept, steps 1 to 4: over up to forty instructions with their numbers.
 ghost use mathlib.Core.Path.{_≡_};
 ghost use Prim.Native.Nat.{ℕ, _+_, _-_, _<_, _≤_, min};
+ghost use mathlib.Core.Bool.{true};
 ghost use mathlib.Core.List.{[], _∷_, map};
 ghost use lib.ListN.{length, take, drop, getD};
 ghost use Rattle.level.specs.Lists.{filled};
@@ -9,7 +10,7 @@ ghost use Rattle.records.specs.declared.Effect.the-variants.{Sync, Desy};
 ghost use Rattle.records.specs.Codes.{codeNumber};
 ghost use Rattle.validation.specs.Kept.{effectiveOf, effectOf, group, goesBefore, highest, orElse, present, carrying, merged, usedOf, numbered, used, Checked, failed, check, acting, actors, lateMarks};
 ghost use Rattle.keeping.specs.Outcome.{noNumbered, validationOf};
-ghost use Rattle.keeping.specs.Working.{holding, pushed, foundList, joined, earliest, issueOf, Timed, supersedesAt, supersededAt, earlierOf, nextAt, topCode, repeatsCode, syncPlace, setFate, settled, lateAt, LateFates, voided, withFate, withinHour, noChecking, noneChecked, Tracks, Follows, fatesTo};
+ghost use Rattle.keeping.specs.Working.{holding, pushed, foundList, joined, earliest, issueOf, Timed, supersedesAt, supersededAt, earlierOf, nextAt, Rising, Run, topCode, repeatsCode, syncPlace, setFate, settled, lateAt, LateFates, voided, withFate, withinHour, noChecking, noneChecked, Tracks, Follows, fatesTo};
 
 // What steps 1 to 4 come to: the fates by number, those that act in time order, and how many these are.
 pub struct Validation {
@@ -354,8 +355,76 @@ fn next_time(times: &[u32; 40], n: usize, t: u32, end: u32) -> u32
     best
 }
 
-// Those used, in the order of their effective times.
-fn used_in(
+// The times stand in order.
+fn in_order(times: &[u32; 40], n: usize) -> bool
+    requires { ⌜ n ≤ 40 ⌝ }
+    ensures { λ r. ⌜ (r ≡ true → Rising (now (times .entry)) n) ⌝ }
+{
+    let mut before: u32 = 0;
+    let mut i: usize = 0;
+    while i < n {
+        let t = times[i];
+        if t < before {
+            return false;
+        }
+        before = t;
+        i += 1;
+    }
+    true
+}
+
+// The place after the run of the time t from a place on.
+fn run_end(times: &[u32; 40], n: usize, t: u32, from: usize) -> usize
+    requires { ⌜ (from ≤ n) × (n ≤ 40) ⌝ }
+    ensures { λ r. ⌜ Run (now (times .entry)) n t from r ⌝ }
+{
+    let mut i = from;
+    while i < n {
+        if times[i] != t {
+            return i;
+        }
+        i += 1;
+    }
+    i
+}
+
+// Those used, where the times stand in order: those at one time stand side by side, and one alone is used as it is.
+fn used_ordered(
+    os: [validation::Numbered; 40],
+    times: &[u32; 40],
+    issues: &[u32; 40],
+    n: usize,
+    end: u32,
+) -> Sequence
+    requires { ⌜ (n ≤ 40) × Timed (take n os) (take n (now times)) (take n (now issues)) × Rising (now times) n ⌝ }
+    ensures { λ r. ⌜ (r ≡ holding (used end (take n os))) × (r .count ≤ 40) ⌝ }
+{
+    let mut out = empty();
+    let mut i: usize = 0;
+    while i < n {
+        let t = times[i];
+        if end <= t {
+            return out;
+        }
+        let from = i;
+        i = run_end(times, n, t, from + 1);
+        if i == from + 1 {
+            let o = os[from];
+            let k = out.count;
+            out.items[k] = o;
+            out.count = k + 1;
+            continue;
+        }
+        let g = group_at(os, times, issues, n, t);
+        let items = g.items;
+        let u = used_of(items, g.count);
+        out = push_found(out, u);
+    }
+    out
+}
+
+// Those used, whatever the order of the times: those at the next time, one time after another.
+fn used_any(
     os: [validation::Numbered; 40],
     times: &[u32; 40],
     issues: &[u32; 40],
@@ -381,6 +450,23 @@ fn used_in(
         i += 1;
     }
     out
+}
+
+// Those used, in the order of their effective times.
+fn used_in(
+    os: [validation::Numbered; 40],
+    times: &[u32; 40],
+    issues: &[u32; 40],
+    n: usize,
+    end: u32,
+) -> Sequence
+    requires { ⌜ (n ≤ 40) × Timed (take n os) (take n (now times)) (take n (now issues)) ⌝ }
+    ensures { λ r. ⌜ (r ≡ holding (used end (take n os))) × (r .count ≤ 40) ⌝ }
+{
+    if in_order(times, n) {
+        return used_ordered(os, times, issues, n, end);
+    }
+    used_any(os, times, issues, n, end)
 }
 
 // ---- step 3: in time order, against the last kept one

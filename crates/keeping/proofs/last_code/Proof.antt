@@ -2,7 +2,6 @@ use mathlib.Core.Path.{_∙_}
 use Rattle.keeping.proofs.Stack.{code-none, code-top}
 use native.Mathlib.Omega.{arith}
 use borrow.Author.Needs.{needs}
-use borrow.Author.Needs.{needs}
 use Rattle.keeping.proofs.last_code.Statement.{statement}
 use Rattle.keeping.proofs.last_code.Tie as tie
 
