@@ -50,10 +50,6 @@ module _ {A : Type 0} (x : A) where
   unfolding filled
   filled-listed n xs h = rw (take-take (length xs) n (xs ++ replicate n x) h, take-append-seam)
 
-  pub filled-length : (n : ℕ) (xs : List A) → length (filled n x xs) ≡ n
-  unfolding filled
-  filled-length n xs = simp (length-take, length-append, length-replicate) (omega arith)
-
   pub filled-push : (n : ℕ) (xs : List A) (o : A) → length xs < n → set (filled n x xs) (length xs) o ≡ filled n x (xs ++ (o ∷ []))
   unfolding filled
   filled-push zero xs o h = absurd (omega arith)
