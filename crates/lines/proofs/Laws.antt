@@ -6,6 +6,7 @@ use mathlib.Core.Bool.{Bool, true, false}
 use native.Mathlib.Omega.{arith}
 use native.Mathlib.Numerals.{add-one}
 use native.Mathlib.Nat.{pow-succ'}
+use lib.Arith.{mod-mul}
 use lib.Dec.{ltb}
 use lib.ListN.{length, getD, set, take, drop, length-append, length-drop, length-take, length-set, drop-of-length-le}
 use lib.Seq.{drop-drop, drop-cons, take-suc, take-at, drop-at, set-append-seam, take-all, getD-set-same, drop-set-lt, lt-length-set}
@@ -85,7 +86,8 @@ low-length v h = ap length (decimal-low v h)
 pub high-length : (v : ℕ) → 10 ≤ v → length (decimal v) ≡ length (decimal (v / 10)) + 1
 high-length v h = ap length (decimal-high v h) ∙ simp length-append
 
-pub decimal-some : (v : ℕ) → 1 ≤ length (decimal v)
+-- a number has a digit
+decimal-some : (v : ℕ) → 1 ≤ length (decimal v)
 decimal-some v = by-bool (ltb v 10) (λ e. omega (arith, low-length v (ltb-true v 10 e))) (λ e. omega (arith, high-length v (ltb-false v 10 e)))
 
 -- the last n digits of v, zeros included
@@ -111,16 +113,27 @@ last-all (suc n) v e =
     (λ b. let h : 10 ≤ v = ltb-false v 10 b in
     rw (decimal-high v h) (ap (λ (l : List ℕ). l ++ ((v % 10 + 48) ∷ [])) (last-all n (v / 10) (omega (arith, high-length v h)))))
 
+drop-set : (o : List ℕ) (n a : ℕ) → n < length o → drop n (set o n a) ≡ a ∷ drop (suc n) o
+drop-set o n a h = drop-cons (set o n a) n 0 (lt-length-set o n a h) ∙ rw (getD-set-same o n a 0 h, drop-set-lt (suc n) o n a (omega arith)) refl
+
 -- the last digit stored, the digits before it are still to lay
 pub last-put : (n v : ℕ) (o : List ℕ) → n < length o → laid (lastDigits (suc n) v) o ≡ laid (lastDigits n (v / 10)) (set o n (v % 10 + 48))
 unfolding lastDigits
 last-put n v o h =
     let x : ℕ = v % 10 + 48 in
     let xs : List ℕ = lastDigits n (v / 10) in
-    let d : drop n (set o n x) ≡ x ∷ drop (suc n) o =
-    drop-cons (set o n x) n 0 (lt-length-set o n x (omega arith)) ∙ rw (getD-set-same o n x 0 (omega arith), drop-set-lt (suc n) o n x (omega arith)) refl in
     ap (λ (k : ℕ). (xs ++ (x ∷ [])) ++ drop k o) (last-length (suc n) v)
-    ∙ (append-assoc xs (x ∷ []) (drop (suc n) o) ∙ (ap (λ (l : List ℕ). xs ++ l) (sym d) ∙ ap (λ (k : ℕ). xs ++ drop k (set o n x)) (sym (last-length n (v / 10)))))
+    ∙ (append-assoc xs (x ∷ []) (drop (suc n) o) ∙ (ap (λ (l : List ℕ). xs ++ l) (sym (drop-set o n x h)) ∙ ap (λ (k : ℕ). xs ++ drop k (set o n x)) (sym (last-length n (v / 10)))))
+
+-- the last two digits stored, the tens and the ones of v % 100
+pub last-two : (n v : ℕ) (o : List ℕ) → n + 1 < length o → laid (lastDigits (n + 2) v) o ≡ laid (lastDigits n (v / 100)) (set (set o (n + 1) (v % 100 % 10 + 48)) n (v % 100 / 10 + 48))
+last-two n v o h =
+    let e : n + 2 ≡ suc (suc n) = omega arith in
+    let ones : v % 100 % 10 ≡ v % 10 = omega arith in
+    let both : v % 100 ≡ v / 10 % 10 * 10 + v % 10 = mod-mul v {m = 10} {c = 10} (omega arith) (omega arith) in
+    let tens : v % 100 / 10 ≡ v / 10 % 10 = omega arith in
+    let left : v / 100 ≡ v / 10 / 10 = omega arith in
+    rw (e, add-one n, ones, tens, left) (last-put (suc n) v o (omega arith) ∙ last-put n (v / 10) (set o (suc n) (v % 10 + 48)) (lt-length-set o (suc n) _ (omega arith)))
 
 -- a part from n to the end has what is left
 pub part-length : (n : ℕ) (p : List ℕ) → length (take (length p - n) (drop n p)) ≡ length p - n

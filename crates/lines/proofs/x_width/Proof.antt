@@ -7,15 +7,15 @@ use Rattle.lines.proofs.x_width.Reads as reads
 use Rattle.lines.proofs.x_width.Lts as lts
 use Rattle.lines.proofs.decimal_width.Reads as decimal-width-reads
 
--- src/lib.rt:171:5
+-- src/lib.rt:177:5
 decimal-width-requires : tie.Need-decimal-width-requires
 decimal-width-requires c κs = search needs
 
--- src/lib.rt:171:5
+-- src/lib.rt:177:5
 add-result : tie.Need-add-result
 add-result c = search needs
 
--- src/lib.rt:168:1
+-- src/lib.rt:174:1
 returns : tie.Need-returns
 returns c =
     let a = c .before .args in
