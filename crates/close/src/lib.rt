@@ -1,7 +1,8 @@
 // What close does: which instructions start a course, the fates, the sums at the half-hour boundaries, the closing state.
 ghost use mathlib.Core.Path.{_≡_};
 ghost use mathlib.Core.List.{[], _∷_};
-ghost use Prim.Native.Nat.{suc, _+_, _-_, min, max, _<_, _≤_};
+ghost use mathlib.Core.Bool.{true};
+ghost use Prim.Native.Nat.{suc, _+_, _*_, _-_, min, max, _<_, _≤_};
 ghost use lib.Dec.{eqb};
 ghost use lib.ListN.{length, take};
 ghost use Rattle.level.specs.Choice.{pick};
@@ -20,7 +21,7 @@ ghost use Rattle.close.specs.Laying.{laid, laidAll, marksFrom};
 ghost use Rattle.close.specs.Walk.{walkOf, walkAll};
 ghost use Rattle.close.specs.Watching.{offStarting, offBetween};
 ghost use Rattle.close.specs.Summing.{firstSum, Adds};
-ghost use Rattle.trajectory.specs.Walk.{notedAt};
+ghost use Rattle.trajectory.specs.Walk.{afterRest, twiceBetween, notedAt};
 
 // ---- what each instruction does at its acting second
 
@@ -549,6 +550,35 @@ const DAY: u32 = 86400;
 
 const HALF_HOUR: u32 = 1800;
 
+// Whether a course stands at its target, the level t, with no hold left.
+fn is_at_rest(p: trajectory::Place, t: u64) -> bool
+    ensures { λ r. ⌜ (r ≡ true → (p .left ≡ 0) × (p .level ≡ t)) ⌝ }
+{
+    if p.level != t {
+        return false;
+    }
+    if p.left != 0 {
+        return false;
+    }
+    true
+}
+
+// At rest to the second n, with twice the area on the way.
+fn rest_to(p: trajectory::Place, n: u32) -> trajectory::Summed
+    requires { ⌜ (p .second ≤ n) × (n ≤ 16777216) × (p .level < 274877906944) ⌝ }
+    ensures { λ r. ⌜ (r .place ≡ afterRest n p) × (r .twice ≡ twiceBetween p (r .place)) × (r .twice ≤ (n - p .second) * 549755813888) ⌝ }
+{
+    let time = n - p.second;
+    let wide = time as u64;
+    let twice = wide * (p.level + p.level);
+    let place = trajectory::Place {
+        second: n,
+        level: p.level,
+        left: 0,
+    };
+    trajectory::Summed { place, twice }
+}
+
 // Twice the area of a course that lasts to the second `end`, added half-hour by half-hour: at each boundary what lies
 // since the boundary before.
 fn add_course(parts: &mut [u64; 49], u: records::UnitData, c: course::Course, end: u32)
@@ -558,6 +588,7 @@ fn add_course(parts: &mut [u64; 49], u: records::UnitData, c: course::Course, en
         × (firstSum 49 (now (parts .exit)) ≤ firstSum 49 (now (parts .entry)) + 47498902319923200) ⌝ }
 {
     let up = trajectory::is_rising(c);
+    let target = level::Level::from_kw(c.target);
     let last = seconds_from(c.begin, smaller(end, DAY));
     let mut p = trajectory::begin_at(c, 0);
     let half = c.begin / HALF_HOUR;
@@ -567,9 +598,15 @@ fn add_course(parts: &mut [u64; 49], u: records::UnitData, c: course::Course, en
         b += 1;
         x += HALF_HOUR;
         let n = seconds_from(c.begin, smaller(end, x));
-        let s = trajectory::sum_to(u, c, up, p, n);
-        parts[b] = parts[b] + s.twice;
-        p = s.place;
+        if is_at_rest(p, target.grains) {
+            let s = rest_to(p, n);
+            parts[b] = parts[b] + s.twice;
+            p = s.place;
+        } else {
+            let s = trajectory::sum_to(u, c, up, p, n);
+            parts[b] = parts[b] + s.twice;
+            p = s.place;
+        }
     }
 }
 
