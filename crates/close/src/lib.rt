@@ -386,10 +386,11 @@ fn state_after(u: records::UnitData, c: course::Course, before: u32, k: u32) -> 
     ensures { λ r. ⌜ r ≡ byRule (trajectoryOf u c) before k ⌝ }
 {
     let up = trajectory::is_rising(c);
+    let l = trajectory::own_lists(u, c, up);
     let mut p = trajectory::begin_at(c, 0);
     let mut off = off_starting(c, before);
     while p.second < k {
-        let q = trajectory::walk_on(u, c, up, p, k);
+        let q = trajectory::walk_on(l, c, up, p, k);
         off = off_between(p, q, off);
         p = q;
     }
@@ -588,6 +589,7 @@ fn add_course(parts: &mut [u64; 49], u: records::UnitData, c: course::Course, en
         × (firstSum 49 (now (parts .exit)) ≤ firstSum 49 (now (parts .entry)) + 47498902319923200) ⌝ }
 {
     let up = trajectory::is_rising(c);
+    let l = trajectory::own_lists(u, c, up);
     let target = level::Level::from_kw(c.target);
     let last = seconds_from(c.begin, smaller(end, DAY));
     let mut p = trajectory::begin_at(c, 0);
@@ -603,7 +605,7 @@ fn add_course(parts: &mut [u64; 49], u: records::UnitData, c: course::Course, en
             parts[b] = parts[b] + s.twice;
             p = s.place;
         } else {
-            let s = trajectory::sum_to(u, c, up, p, n);
+            let s = trajectory::sum_to(l, c, up, p, n);
             parts[b] = parts[b] + s.twice;
             p = s.place;
         }

@@ -30,7 +30,7 @@ unfolding sum
 sum-from g x i zero = refl
 sum-from g x i (suc n) = ap (λ (k : ℕ). g (x + i) + k) (ap (λ (j : ℕ). sum g j n) {x = suc (x + i)} {y = x + suc i} (omega arith) ∙ sum-from g x (suc i) n)
 
-area-same : (f g : ℕ → ℕ) → ((j : ℕ) → f j ≡ g j) → (a n : ℕ) → area f a n ≡ area g a n
+pub area-same : (f g : ℕ → ℕ) → ((j : ℕ) → f j ≡ g j) → (a n : ℕ) → area f a n ≡ area g a n
 unfolding area
 area-same f g e a n = sum-eq (λ j. f j + f (suc j)) (λ j. g j + g (suc j)) (λ j. rw (e j, e (suc j))) a n
 

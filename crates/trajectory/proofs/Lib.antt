@@ -8,6 +8,7 @@ pub mod Goes
 pub mod Courses
 pub mod Left
 pub mod Areas
+pub mod Own
 pub mod Arrivals
 pub mod Noted
 pub mod Pieced

@@ -13,12 +13,12 @@ use Rattle.level.specs.Choice.{pick}
 use Rattle.level.specs.Lists.{those}
 use Rattle.level.specs.Level.{grains}
 use Rattle.records.specs.declared.Trigger.{Trigger}
-use Rattle.records.specs.declared.UnitData.{UnitData}
 use Rattle.course.specs.declared.Course.{Course}
-use Rattle.course.specs.Lists.{inGrains, ratesOf, listsOf, columnFor}
+use Rattle.course.specs.Lists.{inGrains, ratesOf}
 use Rattle.course.specs.Course.{Heading, rising, falling, counting, triggers, breaksInUse, nearest, candidates, nextStop}
 use Rattle.course.proofs.Near.{up-take, up-skip, down-take, down-skip}
-use Rattle.trajectory.specs.Ways.{listsIn, ramping, lower, breaksIn, levelsIn}
+use Rattle.trajectory.specs.declared.OwnLists.{OwnLists}
+use Rattle.trajectory.specs.Ways.{listsBy, ramping, lower, breaksIn, levelsIn}
 use Rattle.trajectory.proofs.Arrays.{four-of, three-of, two-of, one-of}
 
 near-none : (h : Heading) (v n : ℕ) → nearest h v n [] ≡ n
@@ -208,9 +208,9 @@ both-breaks h v t m xs ys zs =
     ap (λ (k : ℕ). nearest h v k (m ∷ [])) (sym (near-append h v (nearest h v t zs) xs ys) ∙ sym (near-append h v t (xs ++ ys) zs))
     ∙ sym (near-append h v t (m ∷ []) ((xs ++ ys) ++ zs)) ∙ target-last h v t (m ∷ ((xs ++ ys) ++ zs))
 
-module _ (u : UnitData) (c : Course) (t v : ℕ) where
+module _ (l : OwnLists) (c : Course) (t v : ℕ) where
   abbrev msg : ℕ
-  msg = grains (u .msg)
+  msg = grains (l .msg)
 
   abbrev low : Heading → ℕ → List ℕ → ℕ
   low h n bs = nearest h v n (breaksIn (lower h msg) bs)
@@ -219,26 +219,26 @@ module _ (u : UnitData) (c : Course) (t v : ℕ) where
   ramp h n bs = nearest h v n (breaksIn (ramping h msg) bs)
 
   abbrev dwell : Heading → ℕ
-  dwell h = nearest h v t (levelsIn (leb msg) (u .dwells))
+  dwell h = nearest h v t (levelsIn (leb msg) (l .dwells))
 
   abbrev soak : ℕ → ℕ
-  soak n = nearest rising v n (levelsIn (lower rising msg) (columnFor u (c .heat) .soaks))
+  soak n = nearest rising v n (levelsIn (lower rising msg) (l .column .soaks))
 
-  pub next-rising : nearest rising v (low rising (ramp rising (soak (dwell rising)) (u .up .breaks)) (columnFor u (c .heat) .breaks)) (msg ∷ []) ≡
-      nextStop rising (listsIn u c) t v
-  unfolding nextStop candidates breaksInUse triggers listsOf ratesOf levelsIn breaksIn ramping lower
+  pub next-rising : nearest rising v (low rising (ramp rising (soak (dwell rising)) (l .ramp .breaks)) (l .column .breaks)) (msg ∷ []) ≡
+      nextStop rising (listsBy l c) t v
+  unfolding nextStop candidates breaksInUse triggers listsBy ratesOf levelsIn breaksIn ramping lower
   next-rising =
-      let soaks : List Trigger = counting (λ w. ltb w msg) (map inGrains (columnFor u (c .heat) .soaks)) in
-      let dwells : List Trigger = counting (λ w. leb msg w) (map inGrains (u .dwells)) in
-      let xs : List ℕ = those (λ b. ltb b msg) (map grains (columnFor u (c .heat) .breaks)) in
-      let ys : List ℕ = those (λ b. leb msg b) (map grains (u .up .breaks)) in
+      let soaks : List Trigger = counting (λ w. ltb w msg) (map inGrains (l .column .soaks)) in
+      let dwells : List Trigger = counting (λ w. leb msg w) (map inGrains (l .dwells)) in
+      let xs : List ℕ = those (λ b. ltb b msg) (map grains (l .column .breaks)) in
+      let ys : List ℕ = those (λ b. leb msg b) (map grains (l .ramp .breaks)) in
       let zs : List ℕ = map (λ (g : Trigger). g .level) soaks in
       let qs : List ℕ = map (λ (g : Trigger). g .level) dwells in
       ap (λ (k : ℕ). nearest rising v (nearest rising v (nearest rising v k ys) xs) (msg ∷ [])) (sym (near-append rising v t zs qs))
       ∙ ap (λ (ws : List ℕ). nearest rising v (nearest rising v (nearest rising v (nearest rising v t ws) ys) xs) (msg ∷ [])) (sym (levels-append soaks dwells))
       ∙ both-breaks rising v t msg xs ys (map (λ (g : Trigger). g .level) (soaks ++ dwells))
 
-  pub next-falling : nearest falling v (ramp falling (low falling (dwell falling) (u .deload .breaks)) (u .down .breaks)) (msg ∷ []) ≡ nextStop falling (listsIn u c) t v
-  unfolding nextStop candidates breaksInUse triggers listsOf ratesOf levelsIn breaksIn ramping lower
-  next-falling = both-breaks falling v t msg (those (λ b. ltb msg b) (map grains (u .down .breaks))) (those (λ b. leb b msg) (map grains (u .deload .breaks)))
-      (map (λ (g : Trigger). g .level) (counting (λ w. leb msg w) (map inGrains (u .dwells))))
+  pub next-falling : nearest falling v (ramp falling (low falling (dwell falling) (l .deload .breaks)) (l .ramp .breaks)) (msg ∷ []) ≡ nextStop falling (listsBy l c) t v
+  unfolding nextStop candidates breaksInUse triggers listsBy ratesOf levelsIn breaksIn ramping lower
+  next-falling = both-breaks falling v t msg (those (λ b. ltb msg b) (map grains (l .ramp .breaks))) (those (λ b. leb b msg) (map grains (l .deload .breaks)))
+      (map (λ (g : Trigger). g .level) (counting (λ w. leb msg w) (map inGrains (l .dwells))))

@@ -1,6 +1,7 @@
 // A course in code: its rate, next stop and hold at a level, and what follows from them at any second.
 // Others use `level_after`, `since_arrival`, `noted_sums` and `twice_in`; and, to go along a course piece by piece,
-// `is_rising`, `begin_at`, `walk_on` and `piece_between`, whose laws for a loop are in proofs/Pieced.antt.
+// `is_rising`, `own_lists`, `begin_at`, `walk_on` and `piece_between`, whose laws for a loop are in proofs/Pieced.antt.
+// A course's own lists are handed on by value; proofs/Own.antt says that they do for it what the unit's do.
 ghost use mathlib.Core.Path.{_≡_};
 ghost use Prim.Native.Nat.{ℕ, _+_, _*_, _-_, _/_, min, max, _<_, _≤_};
 ghost use mathlib.Core.List.{[], _∷_, _++_, map};
@@ -9,9 +10,9 @@ ghost use lib.Dec.{leb, ltb};
 ghost use Rattle.level.specs.Lists.{listFrom};
 ghost use Rattle.level.specs.Level.{grains};
 ghost use Rattle.segments.specs.Segments.{seconds, area};
-ghost use Rattle.course.specs.Lists.{placeOf, columnFor, replaced, inGrains, listsOf};
+ghost use Rattle.course.specs.Lists.{placeOf, columnFor, replaced, inGrains};
 ghost use Rattle.course.specs.Course.{rising, falling, gap, toward, passed, rateAt, nearest, nextStop, holding, holdAt, trajectoryOf, levelAt, segments};
-ghost use Rattle.trajectory.specs.Ways.{headed, listsIn, ramping, lower, breaksIn, levelsIn};
+ghost use Rattle.trajectory.specs.Ways.{headed, rampFor, ownLists, listsBy, ramping, lower, breaksIn, levelsIn};
 ghost use Rattle.course.proofs.Near.{Short};
 ghost use Rattle.trajectory.specs.Walk.{Reaches, momentOf, segmentTo, segmentFrom, afterHold, afterRest, afterRun, afterShort, along, onward, standing, beginning, pieceBetween, twiceBetween, twiceTo, segmentsFrom, notedAt};
 ghost use Rattle.trajectory.specs.Arrival.{arrivalOf, resting, pause};
@@ -41,6 +42,42 @@ pub fn column_for(u: records::UnitData, heat: u32) -> records::Column
 {
     let at = place_of(heat);
     u.columns[at]
+}
+
+// The lists that a course goes by: the column of its heat, the ramp of its heading, dwells, deload.
+pub struct OwnLists {
+    pub msg: u32,
+    pub column: records::Column,
+    pub ramp: records::Ramp,
+    pub dwells: [records::Trigger; 3],
+    pub deload: records::Deload,
+}
+
+// Ramp-up for a rising course, ramp-down for a falling one.
+fn ramp_for(u: records::UnitData, up: bool) -> records::Ramp
+    ensures { λ r. ⌜ r ≡ rampFor u up ⌝ }
+{
+    if up {
+        return u.up;
+    }
+    u.down
+}
+
+// A course's own lists, picked from the unit's once.
+pub fn own_lists(u: records::UnitData, c: course::Course, up: bool) -> OwnLists
+    ensures { λ r. ⌜ r ≡ ownLists u c up ⌝ }
+{
+    let column = column_for(u, c.heat);
+    let ramp = ramp_for(u, up);
+    let dwells = u.dwells;
+    let deload = u.deload;
+    OwnLists {
+        msg: u.msg,
+        column,
+        ramp,
+        dwells,
+        deload,
+    }
 }
 
 // Whether ramp-up (rising) or ramp-down (falling) is in use at the level v.
@@ -137,39 +174,39 @@ fn rate_of_deload(l: records::Deload, v: u64) -> u64
 }
 
 // "Rising below MSG uses the column, otherwise ramp-up."
-fn rate_rising(u: records::UnitData, c: course::Course, v: u64) -> u64
-    ensures { λ x. ⌜ x ≡ rateAt rising (listsIn u c) v ⌝ }
+fn rate_rising(l: OwnLists, c: course::Course, v: u64) -> u64
+    ensures { λ x. ⌜ x ≡ rateAt rising (listsBy l c) v ⌝ }
 {
-    let msg = grains_of(u.msg);
+    let msg = grains_of(l.msg);
     if in_ramp(true, msg, v) {
-        let l = u.up;
-        return rate_of_ramp(l, c.up, true, v);
+        let ramp = l.ramp;
+        return rate_of_ramp(ramp, c.up, true, v);
     }
-    let l = column_for(u, c.heat);
-    rate_of_column(l, v)
+    let column = l.column;
+    rate_of_column(column, v)
 }
 
 // "Falling above MSG uses ramp-down, otherwise deload."
-fn rate_falling(u: records::UnitData, c: course::Course, v: u64) -> u64
-    ensures { λ x. ⌜ x ≡ rateAt falling (listsIn u c) v ⌝ }
+fn rate_falling(l: OwnLists, c: course::Course, v: u64) -> u64
+    ensures { λ x. ⌜ x ≡ rateAt falling (listsBy l c) v ⌝ }
 {
-    let msg = grains_of(u.msg);
+    let msg = grains_of(l.msg);
     if in_ramp(false, msg, v) {
-        let l = u.down;
-        return rate_of_ramp(l, c.down, false, v);
+        let ramp = l.ramp;
+        return rate_of_ramp(ramp, c.down, false, v);
     }
-    let l = u.deload;
-    rate_of_deload(l, v)
+    let deload = l.deload;
+    rate_of_deload(deload, v)
 }
 
 // The rate (grains a second) at the level v.
-pub fn rate_at(u: records::UnitData, c: course::Course, up: bool, v: u64) -> u64
-    ensures { λ x. ⌜ x ≡ rateAt (headed up) (listsIn u c) v ⌝ }
+pub fn rate_at(l: OwnLists, c: course::Course, up: bool, v: u64) -> u64
+    ensures { λ x. ⌜ x ≡ rateAt (headed up) (listsBy l c) v ⌝ }
 {
     if up {
-        return rate_rising(u, c, v);
+        return rate_rising(l, c, v);
     }
-    rate_falling(u, c, v)
+    rate_falling(l, c, v)
 }
 
 // ---- the hold at a level
@@ -204,32 +241,32 @@ fn held_two(w: u64, gs: [records::Trigger; 2]) -> u64
 }
 
 // Below MSG only soaks hold, and only a rising level.
-fn soaked(u: records::UnitData, c: course::Course, up: bool, w: u64) -> u64
-    requires { ⌜ w < grains (u .msg) ⌝ }
+fn soaked(l: OwnLists, c: course::Course, up: bool, w: u64) -> u64
+    requires { ⌜ w < grains (l .msg) ⌝ }
     requires { ⌜ (w ≡ grains (c .target) → ⊥) ⌝ }
-    ensures { λ r. ⌜ (r ≡ holdAt (headed up) (listsIn u c) (grains (c .target)) w) × (r ≤ 773094113280) ⌝ }
+    ensures { λ r. ⌜ (r ≡ holdAt (headed up) (listsBy l c) (grains (c .target)) w) × (r ≤ 773094113280) ⌝ }
 {
     if up {
-        let l = column_for(u, c.heat);
-        let gs = l.soaks;
+        let column = l.column;
+        let gs = column.soaks;
         return held_two(w, gs);
     }
     0
 }
 
 // The hold (seconds) at the stop w.
-pub fn hold_at(u: records::UnitData, c: course::Course, up: bool, w: u64) -> u64
-    ensures { λ r. ⌜ (r ≡ holdAt (headed up) (listsIn u c) (grains (c .target)) w) × (r ≤ 773094113280) ⌝ }
+pub fn hold_at(l: OwnLists, c: course::Course, up: bool, w: u64) -> u64
+    ensures { λ r. ⌜ (r ≡ holdAt (headed up) (listsBy l c) (grains (c .target)) w) × (r ≤ 773094113280) ⌝ }
 {
     let t = grains_of(c.target);
     if w == t {
         return 0;
     }
-    let msg = grains_of(u.msg);
+    let msg = grains_of(l.msg);
     if w < msg {
-        return soaked(u, c, up, w);
+        return soaked(l, c, up, w);
     }
-    let gs = u.dwells;
+    let gs = l.dwells;
     held_three(w, gs)
 }
 
@@ -345,17 +382,17 @@ fn soak_stops(v: u64, msg: u64, gs: [records::Trigger; 2], n: u64) -> u64
 }
 
 // Every candidate in turn, the nearest so far going along; the target is the furthest.
-fn stop_rising(u: records::UnitData, c: course::Course, v: u64) -> u64
-    ensures { λ r. ⌜ r ≡ nextStop rising (listsIn u c) (grains (c .target)) v ⌝ }
+fn stop_rising(l: OwnLists, c: course::Course, v: u64) -> u64
+    ensures { λ r. ⌜ r ≡ nextStop rising (listsBy l c) (grains (c .target)) v ⌝ }
 {
     let t = grains_of(c.target);
-    let msg = grains_of(u.msg);
-    let dwells = u.dwells;
+    let msg = grains_of(l.msg);
+    let dwells = l.dwells;
     let d = dwell_stops(true, v, msg, dwells, t);
-    let column = column_for(u, c.heat);
+    let column = l.column;
     let soaks = column.soaks;
     let s = soak_stops(v, msg, soaks, d);
-    let ramp = u.up;
+    let ramp = l.ramp;
     let bs = ramp.breaks;
     let r = ramp_breaks(true, v, msg, bs, s);
     let cs = column.breaks;
@@ -363,30 +400,30 @@ fn stop_rising(u: records::UnitData, c: course::Course, v: u64) -> u64
     nearer(true, v, msg, q)
 }
 
-fn stop_falling(u: records::UnitData, c: course::Course, v: u64) -> u64
-    ensures { λ r. ⌜ r ≡ nextStop falling (listsIn u c) (grains (c .target)) v ⌝ }
+fn stop_falling(l: OwnLists, c: course::Course, v: u64) -> u64
+    ensures { λ r. ⌜ r ≡ nextStop falling (listsBy l c) (grains (c .target)) v ⌝ }
 {
     let t = grains_of(c.target);
-    let msg = grains_of(u.msg);
-    let dwells = u.dwells;
+    let msg = grains_of(l.msg);
+    let dwells = l.dwells;
     let d = dwell_stops(false, v, msg, dwells, t);
-    let deload = u.deload;
+    let deload = l.deload;
     let cs = deload.breaks;
     let q = deload_break(v, msg, cs, d);
-    let ramp = u.down;
+    let ramp = l.ramp;
     let bs = ramp.breaks;
     let r = ramp_breaks(false, v, msg, bs, q);
     nearer(false, v, msg, r)
 }
 
 // The next stop past the level v, and the target where nothing stops the course before.
-pub fn next_stop(u: records::UnitData, c: course::Course, up: bool, v: u64) -> u64
-    ensures { λ r. ⌜ r ≡ nextStop (headed up) (listsIn u c) (grains (c .target)) v ⌝ }
+pub fn next_stop(l: OwnLists, c: course::Course, up: bool, v: u64) -> u64
+    ensures { λ r. ⌜ r ≡ nextStop (headed up) (listsBy l c) (grains (c .target)) v ⌝ }
 {
     if up {
-        return stop_rising(u, c, v);
+        return stop_rising(l, c, v);
     }
-    stop_falling(u, c, v)
+    stop_falling(l, c, v)
 }
 
 // ---- segments
@@ -402,27 +439,21 @@ fn gap_between(v: u64, w: u64) -> u64
 }
 
 // The segment from the level v to the stop w.
-fn segment_to(
-    u: records::UnitData,
-    c: course::Course,
-    up: bool,
-    v: u64,
-    w: u64,
-) -> segments::Segment
-    ensures { λ r. ⌜ r ≡ segmentTo (headed up) (listsIn u c) (grains (c .target)) v w ⌝ }
+fn segment_to(l: OwnLists, c: course::Course, up: bool, v: u64, w: u64) -> segments::Segment
+    ensures { λ r. ⌜ r ≡ segmentTo (headed up) (listsBy l c) (grains (c .target)) v w ⌝ }
 {
     let way = gap_between(v, w);
-    let rate = rate_at(u, c, up, v);
-    let hold = hold_at(u, c, up, w);
+    let rate = rate_at(l, c, up, v);
+    let hold = hold_at(l, c, up, w);
     segments::Segment { way, rate, hold }
 }
 
 // The segment from the level v to the next stop: way, rate and hold.
-pub fn segment_from(u: records::UnitData, c: course::Course, up: bool, v: u64) -> segments::Segment
-    ensures { λ r. ⌜ r ≡ segmentFrom (headed up) (listsIn u c) (grains (c .target)) v ⌝ }
+pub fn segment_from(l: OwnLists, c: course::Course, up: bool, v: u64) -> segments::Segment
+    ensures { λ r. ⌜ r ≡ segmentFrom (headed up) (listsBy l c) (grains (c .target)) v ⌝ }
 {
-    let w = next_stop(u, c, up, v);
-    segment_to(u, c, up, v, w)
+    let w = next_stop(l, c, up, v);
+    segment_to(l, c, up, v, w)
 }
 
 // ---- going along a course
@@ -546,10 +577,10 @@ fn along_segment(up: bool, p: Place, s: segments::Segment, n: u32) -> Place
 }
 
 // To the end of the straight piece that begins at p, and no further than the second n.
-pub fn walk_on(u: records::UnitData, c: course::Course, up: bool, p: Place, n: u32) -> Place
+pub fn walk_on(l: OwnLists, c: course::Course, up: bool, p: Place, n: u32) -> Place
     requires { ⌜ p .second < n ⌝ }
     requires { ⌜ Short (headed up) (grains (c .target)) (p .level) ⌝ }
-    ensures { λ r. ⌜ r ≡ onward (headed up) (listsIn u c) (grains (c .target)) n p ⌝ }
+    ensures { λ r. ⌜ r ≡ onward (headed up) (listsBy l c) (grains (c .target)) n p ⌝ }
 {
     if 0 < p.left {
         return after_hold(p, n);
@@ -558,21 +589,21 @@ pub fn walk_on(u: records::UnitData, c: course::Course, up: bool, p: Place, n: u
     if p.level == t {
         return after_rest(p, n);
     }
-    let s = segment_from(u, c, up, p.level);
+    let s = segment_from(l, c, up, p.level);
     along_segment(up, p, s, n)
 }
 
 // Along the course to the second n.
-pub fn walk_to(u: records::UnitData, c: course::Course, up: bool, from: Place, n: u32) -> Place
+pub fn walk_to(l: OwnLists, c: course::Course, up: bool, from: Place, n: u32) -> Place
     requires { ⌜ from .second ≤ n ⌝ }
     requires { ⌜ Short (headed up) (grains (c .target)) (from .level) ⌝ }
-    ensures { λ r. ⌜ (r ≡ standing (headed up) (listsIn u c) (grains (c .target)) n from)
+    ensures { λ r. ⌜ (r ≡ standing (headed up) (listsBy l c) (grains (c .target)) n from)
         × Short (headed up) (grains (c .target)) (r .level)
         × (r .level ≤ max (from .level) (grains (c .target))) ⌝ }
 {
     let mut p = from;
     while p.second < n {
-        p = walk_on(u, c, up, p, n);
+        p = walk_on(l, c, up, p, n);
     }
     p
 }
@@ -615,8 +646,9 @@ pub fn level_after(u: records::UnitData, c: course::Course, k: u32) -> u64
     ensures { λ r. ⌜ r ≡ levelAt (trajectoryOf u c) k ⌝ }
 {
     let up = is_rising(c);
+    let l = own_lists(u, c, up);
     let from = begin_at(c, 0);
-    let p = walk_to(u, c, up, from, k);
+    let p = walk_to(l, c, up, from, k);
     p.level
 }
 
@@ -640,12 +672,12 @@ pub struct Summed {
 }
 
 // Along the course to the second n, with twice the area on the way. Levels are below those of 32 bits of kW.
-pub fn sum_to(u: records::UnitData, c: course::Course, up: bool, from: Place, n: u32) -> Summed
+pub fn sum_to(l: OwnLists, c: course::Course, up: bool, from: Place, n: u32) -> Summed
     requires { ⌜ (from .second ≤ n) × (n ≤ 16777216) ⌝ }
     requires { ⌜ Short (headed up) (grains (c .target)) (from .level) ⌝ }
     requires { ⌜ from .level < 274877906944 ⌝ }
-    ensures { λ r. ⌜ (r .place ≡ standing (headed up) (listsIn u c) (grains (c .target)) n from)
-        × (r .twice ≡ twiceTo (headed up) (listsIn u c) (grains (c .target)) n from)
+    ensures { λ r. ⌜ (r .place ≡ standing (headed up) (listsBy l c) (grains (c .target)) n from)
+        × (r .twice ≡ twiceTo (headed up) (listsBy l c) (grains (c .target)) n from)
         × (r .twice ≤ (n - from .second) * 549755813888)
         × Short (headed up) (grains (c .target)) (r .place .level)
         × (r .place .level < 274877906944) ⌝ }
@@ -653,7 +685,7 @@ pub fn sum_to(u: records::UnitData, c: course::Course, up: bool, from: Place, n:
     let mut p = from;
     let mut twice: u64 = 0;
     while p.second < n {
-        let q = walk_on(u, c, up, p, n);
+        let q = walk_on(l, c, up, p, n);
         twice += twice_between(p, q);
         p = q;
     }
@@ -671,9 +703,10 @@ pub fn twice_in(u: records::UnitData, c: course::Course, from: u32, to: u32) -> 
         return 0;
     }
     let up = is_rising(c);
+    let l = own_lists(u, c, up);
     let begin = begin_at(c, 0);
-    let p = walk_to(u, c, up, begin, from);
-    let s = sum_to(u, c, up, p, to);
+    let p = walk_to(l, c, up, begin, from);
+    let s = sum_to(l, c, up, p, to);
     s.twice
 }
 
@@ -707,13 +740,14 @@ pub fn noted_sums(u: records::UnitData, c: course::Course, end: u32) -> [u64; 49
     ensures { λ r. ⌜ r ≡ listFrom (notedAt u c end) 0 49 ⌝ }
 {
     let up = is_rising(c);
+    let l = own_lists(u, c, up);
     let mut p = begin_at(c, 0);
     let mut total: u64 = 0;
     let mut out = [0u64; 49];
     let mut b: usize = 0;
     while b < 49 {
         let n = own_second(c.begin, end, b);
-        let s = sum_to(u, c, up, p, n);
+        let s = sum_to(l, c, up, p, n);
         total += s.twice;
         p = s.place;
         out[b] = total;
@@ -737,11 +771,11 @@ fn seconds_of(s: segments::Segment) -> u64
 }
 
 // Whether the course goes no further from the level v.
-fn rests_at(u: records::UnitData, c: course::Course, up: bool, v: u64) -> bool
-    ensures { λ r. ⌜ r ≡ resting (headed up) (listsIn u c) (grains (c .target)) v ⌝ }
+fn rests_at(l: OwnLists, c: course::Course, up: bool, v: u64) -> bool
+    ensures { λ r. ⌜ r ≡ resting (headed up) (listsBy l c) (grains (c .target)) v ⌝ }
 {
     let t = grains_of(c.target);
-    let rate = rate_at(u, c, up, v);
+    let rate = rate_at(l, c, up, v);
     if v == t {
         return true;
     }
@@ -749,33 +783,33 @@ fn rests_at(u: records::UnitData, c: course::Course, up: bool, v: u64) -> bool
 }
 
 // What counts of the hold at the level v.
-fn pause_at(u: records::UnitData, c: course::Course, up: bool, v: u64, hold: u64) -> u64
-    ensures { λ r. ⌜ r ≡ pause (headed up) (listsIn u c) (grains (c .target)) v hold ⌝ }
+fn pause_at(l: OwnLists, c: course::Course, up: bool, v: u64, hold: u64) -> u64
+    ensures { λ r. ⌜ r ≡ pause (headed up) (listsBy l c) (grains (c .target)) v hold ⌝ }
 {
-    if rests_at(u, c, up, v) {
+    if rests_at(l, c, up, v) {
         return 0;
     }
     hold
 }
 
 // The seconds since the last stop was reached, k seconds after the course stood at the level `from`.
-fn since_last_stop(u: records::UnitData, c: course::Course, up: bool, from: u64, k: u32) -> u32
+fn since_last_stop(l: OwnLists, c: course::Course, up: bool, from: u64, k: u32) -> u32
     requires { ⌜ Short (headed up) (grains (c .target)) from ⌝ }
-    ensures { λ r. ⌜ r ≡ k - arrivalOf (segmentsFrom (headed up) (listsIn u c) (grains (c .target)) from) ⌝ }
+    ensures { λ r. ⌜ r ≡ k - arrivalOf (segmentsFrom (headed up) (listsBy l c) (grains (c .target)) from) ⌝ }
 {
     let mut v = from;
     let mut left = k;
     while 0 < left {
-        if rests_at(u, c, up, v) {
+        if rests_at(l, c, up, v) {
             return left;
         }
-        let s = segment_from(u, c, up, v);
+        let s = segment_from(l, c, up, v);
         let spent = seconds_of(s);
         if left as u64 <= spent {
             return 0;
         }
         let w = moved(up, v, s.way);
-        let waits = pause_at(u, c, up, w, s.hold);
+        let waits = pause_at(l, c, up, w, s.hold);
         let rest = left - spent as u32;
         if rest as u64 <= waits {
             return 0;
@@ -791,6 +825,7 @@ pub fn since_arrival(u: records::UnitData, c: course::Course, k: u32) -> u32
     ensures { λ r. ⌜ r ≡ k - arrivalOf (segments (trajectoryOf u c)) ⌝ }
 {
     let up = is_rising(c);
+    let l = own_lists(u, c, up);
     let start = c.start;
-    since_last_stop(u, c, up, start.grains, k)
+    since_last_stop(l, c, up, start.grains, k)
 }

@@ -7,7 +7,10 @@ use Rattle.level.specs.Level.{grains, fromKw}
 use Rattle.level.specs.declared.Level.{Level}
 use Rattle.course.proofs.Near.{Short}
 use Rattle.trajectory.specs.declared.Place.{Place}
-use Rattle.trajectory.specs.Ways.{headed, listsIn}
+use Rattle.records.specs.declared.UnitData.{UnitData}
+use Rattle.trajectory.specs.Ways.{headed, listsIn, ownLists}
+use Rattle.trajectory.proofs.Own.{OfUnit, own-standing, own-twice}
+use Rattle.trajectory.proofs.own_lists.Reads as own-lists-reads
 use Rattle.trajectory.specs.Walk.{afterRest, beginning, standing, twiceBetween, twiceTo, notedAt}
 use Rattle.trajectory.proofs.Noted.{Noted, noted-start, noted-on, noted-is}
 use Rattle.close.specs.Summing.{firstSum}
@@ -26,23 +29,23 @@ use Rattle.trajectory.proofs.begin_at.Reads as begin-at-reads
 use Rattle.trajectory.proofs.is_rising.Reads as is-rising-reads
 use Rattle.trajectory.proofs.sum_to.Reads as sum-to-reads
 
--- up to the boundary b the course is added, and it stands there
+-- up to the boundary b the course of any unit with these lists is added, and it stands there
 abbrev Inv-loop : tie.InvT-loop
-Inv-loop parts₀ u c end up target last p₀ half b₀ x₀ parts p b x =
-    (length parts ≡ 49) × (x ≡ 1800 * b) × (p .second ≡ min end (1800 * b) - c .begin) × Noted u c up p (notedAt u c end b) × AddedTo (notedAt u c end) b parts₀ parts
-    × (notedAt u c end (min 48 b) ≤ 47498902319923200)
+Inv-loop parts₀ c end up l target last p₀ half b₀ x₀ parts p b x =
+    (length parts ≡ 49) × (x ≡ 1800 * b) × (p .second ≡ min end (1800 * b) - c .begin)
+    × OfUnit l c up (λ u. Noted u c up p (notedAt u c end b) × AddedTo (notedAt u c end) b parts₀ parts × (notedAt u c end (min 48 b) ≤ 47498902319923200))
 
 abbrev μ-loop : tie.MeasureT-loop
-μ-loop parts₀ u c end up target last p₀ half b₀ x₀ parts p b x = 48 - b
+μ-loop parts₀ c end up l target last p₀ half b₀ x₀ parts p b x = 48 - b
 
 -- the loop goes on: the boundary that was reached is one of the day's before the last, and the second of the next one
 ahead : (c : tie.After-seconds-from2 Inv-loop μ-loop) →
-    let s = c .before .before .before .before .before .before .before .before .before .before .before in
+    let s = c .before .before .before .before .before .before .before .before .before .before .before .before in
     let l = c .before .before .before .before .loop in
     (l .b ≤ 47) × (c .seconds-from2 .result ≡ min (s .args .end) (1800 * l .b + 1800) - s .args .c .begin)
     × (l .p .second ≤ c .seconds-from2 .result) × (c .seconds-from2 .result ≤ 86400)
 ahead c =
-    let s = c .before .before .before .before .before .before .before .before .before .before .before in
+    let s = c .before .before .before .before .before .before .before .before .before .before .before .before in
     let l = c .before .before .before .before .loop in
     let last = c .before .before .before .before .before .before .before .seconds-from .result in
     let more : l .p .second < last = c .before .before .if1 .taken in
@@ -54,77 +57,83 @@ ahead c =
     let n = next-second (s .args .end) (s .args .c .begin) (l .b) (l .p .second) last (l .inv .2) ends (c .seconds-from2 .result) more at in
     (still-open (s .args .end) (s .args .c .begin) (l .b) (l .p .second) last (l .inv .2) ends more, at, n .0, n .1)
 
--- what a step comes to, if it goes where the course stands at the next boundary: what is added with it is what the course comes to there
-gone-by : (c : tie.After-seconds-from2 Inv-loop μ-loop) (q : Place) (x : ℕ) →
-    let s = c .before .before .before .before .before .before .before .before .before .before .before in
-    let l = c .before .before .before .before .loop in
-    let up = c .before .before .before .before .before .before .before .before .before .before .is-rising .result in
-    let f = notedAt (s .args .u) (s .args .c) (s .args .end) in
-    let n = c .seconds-from2 .result in
-    q ≡ standing (headed up) (listsIn (s .args .u) (s .args .c)) (grains (s .args .c .target)) n (l .p) →
-    x ≡ twiceTo (headed up) (listsIn (s .args .u) (s .args .c)) (grains (s .args .c .target)) n (l .p) →
-    x ≤ (n - l .p .second) * 549755813888 → Short (headed up) (grains (s .args .c .target)) (q .level) → q .level < 274877906944 →
-    (q .second ≡ min (s .args .end) (1800 * (l .b + 1)) - s .args .c .begin)
-    × Noted (s .args .u) (s .args .c) up q (f (l .b + 1)) × (f (l .b) + x ≡ f (l .b + 1)) × (f (l .b + 1) ≤ 47498902319923200)
-gone-by c q x e0 e1 e2 e3 e4 =
-    let s = c .before .before .before .before .before .before .before .before .before .before .before in
-    let l = c .before .before .before .before .loop in
-    let up = c .before .before .before .before .before .before .before .before .before .before .is-rising .result in
-    let f = notedAt (s .args .u) (s .args .c) (s .args .end) in
-    let a = ahead c in
-    let g = noted-on (s .args .u) (s .args .c) up (l .p) (f (l .b)) (l .inv .3) (c .seconds-from2 .result) (a .2) q x e0 e1 e2 e3 e4 in
-    let at : q .second ≡ min (s .args .end) (1800 * (l .b + 1)) - s .args .c .begin = g .1 ∙ a .1 ∙ ap (λ (k : ℕ). min (s .args .end) k - s .args .c .begin) {x = 1800 * l .b + 1800} {y = 1800 * (l .b + 1)} (omega arith) in
-    let sum : f (l .b) + x ≡ f (l .b + 1) = noted-is (s .args .u) (s .args .c) up q (f (l .b) + x) (s .args .end) (l .b + 1) (g .0) at in
-    let new : Noted (s .args .u) (s .args .c) up q (f (l .b + 1)) = rw sum at (g .0) in
-    (at, new, sum, most-sum (q .second) (f (l .b + 1)) (omega (arith, g .1, a .3)) (new .most))
+-- what a step to the place q with x more comes to, for any unit with these lists
+module _ (c : tie.After-seconds-from2 Inv-loop μ-loop) (u : UnitData)
+    (o : c .before .before .before .before .before .before .before .before .before .before .own-lists .result ≡ ownLists u (c .before .before .before .before .before .before .before .before .before .before .before .before .args .c) (c .before .before .before .before .before .before .before .before .before .before .before .is-rising .result)) where
+  abbrev Next : Place → ℕ → Type 0
+  Next q x =
+      let s = c .before .before .before .before .before .before .before .before .before .before .before .before in
+      let l = c .before .before .before .before .loop in
+      let f = notedAt u (s .args .c) (s .args .end) in
+      (q .second ≡ min (s .args .end) (1800 * (l .b + 1)) - s .args .c .begin)
+      × Noted u (s .args .c) (c .before .before .before .before .before .before .before .before .before .before .before .is-rising .result) q (f (l .b + 1)) × (f (l .b) + x ≡ f (l .b + 1)) × (f (l .b + 1) ≤ 47498902319923200)
+
+  -- if it goes where the course stands at the next boundary, what is added with it is what the course comes to there
+  gone-by : (q : Place) (x : ℕ) →
+      let s = c .before .before .before .before .before .before .before .before .before .before .before .before in
+      let l = c .before .before .before .before .loop in
+      let h = headed (c .before .before .before .before .before .before .before .before .before .before .before .is-rising .result) in
+      let t = grains (s .args .c .target) in
+      let n = c .seconds-from2 .result in
+      q ≡ standing h (listsIn u (s .args .c)) t n (l .p) → x ≡ twiceTo h (listsIn u (s .args .c)) t n (l .p) → x ≤ (n - l .p .second) * 549755813888 →
+      Short h t (q .level) → q .level < 274877906944 → Next q x
+  gone-by q x e0 e1 e2 e3 e4 =
+      let s = c .before .before .before .before .before .before .before .before .before .before .before .before in
+      let l = c .before .before .before .before .loop in
+      let up = c .before .before .before .before .before .before .before .before .before .before .before .is-rising .result in
+      let f = notedAt u (s .args .c) (s .args .end) in
+      let a = ahead c in
+      let g = noted-on u (s .args .c) up (l .p) (f (l .b)) (l .inv .3 u o .0) (c .seconds-from2 .result) (a .2) q x e0 e1 e2 e3 e4 in
+      let at : q .second ≡ min (s .args .end) (1800 * (l .b + 1)) - s .args .c .begin = g .1 ∙ a .1 ∙ ap (λ (k : ℕ). min (s .args .end) k - s .args .c .begin) {x = 1800 * l .b + 1800} {y = 1800 * (l .b + 1)} (omega arith) in
+      let sum : f (l .b) + x ≡ f (l .b + 1) = noted-is u (s .args .c) up q (f (l .b) + x) (s .args .end) (l .b + 1) (g .0) at in
+      let new : Noted u (s .args .c) up q (f (l .b + 1)) = rw sum at (g .0) in
+      (at, new, sum, most-sum (q .second) (f (l .b + 1)) (omega (arith, g .1, a .3)) (new .most))
 
 -- walked on
-gone : (c : tie.After-sum-to Inv-loop μ-loop) →
-    let k = c .before .before .before in
-    let s = k .before .before .before .before .before .before .before .before .before .before .before in
-    let l = k .before .before .before .before .loop in
-    let up = k .before .before .before .before .before .before .before .before .before .before .is-rising .result in
-    let f = notedAt (s .args .u) (s .args .c) (s .args .end) in
-    (c .sum-to .result .place .second ≡ min (s .args .end) (1800 * (l .b + 1)) - s .args .c .begin)
-    × Noted (s .args .u) (s .args .c) up (c .sum-to .result .place) (f (l .b + 1)) × (f (l .b) + c .sum-to .result .twice ≡ f (l .b + 1)) × (f (l .b + 1) ≤ 47498902319923200)
-gone c = let e = c .sum-to .ensures in gone-by (c .before .before .before) (c .sum-to .result .place) (c .sum-to .result .twice) (e .0) (e .1) (e .2) (e .3) (e .4)
+gone : (c : tie.After-sum-to Inv-loop μ-loop) (u : UnitData)
+    (o : c .before .before .before .before .before .before .before .before .before .before .before .before .before .own-lists .result ≡ ownLists u (c .before .before .before .before .before .before .before .before .before .before .before .before .before .before .before .args .c) (c .before .before .before .before .before .before .before .before .before .before .before .before .before .before .is-rising .result)) → Next (c .before .before .before) u o (c .sum-to .result .place) (c .sum-to .result .twice)
+gone c u o =
+    let s = c .before .before .before .before .before .before .before .before .before .before .before .before .before .before .before in
+    let l = c .before .before .before .before .before .before .before .loop in
+    let up = c .before .before .before .before .before .before .before .before .before .before .before .before .before .before .is-rising .result in
+    let own = c .before .before .before .before .before .before .before .before .before .before .before .before .before .own-lists .result in
+    let t = grains (s .args .c .target) in
+    let n = c .before .before .before .seconds-from2 .result in
+    let e = c .sum-to .ensures in
+    gone-by (c .before .before .before) u o (c .sum-to .result .place) (c .sum-to .result .twice)
+    (e .0 ∙ own-standing u (s .args .c) up own o t n (l .p)) (e .1 ∙ own-twice u (s .args .c) up own o t n (l .p)) (e .2) (e .3) (e .4)
 
 -- at rest
-rested : (c : tie.After-rest-to Inv-loop μ-loop) →
-    let k = c .before .before .before in
-    let s = k .before .before .before .before .before .before .before .before .before .before .before in
-    let l = k .before .before .before .before .loop in
-    let up = k .before .before .before .before .before .before .before .before .before .before .is-rising .result in
-    let f = notedAt (s .args .u) (s .args .c) (s .args .end) in
-    (c .rest-to .result .place .second ≡ min (s .args .end) (1800 * (l .b + 1)) - s .args .c .begin)
-    × Noted (s .args .u) (s .args .c) up (c .rest-to .result .place) (f (l .b + 1)) × (f (l .b) + c .rest-to .result .twice ≡ f (l .b + 1)) × (f (l .b + 1) ≤ 47498902319923200)
+rested : (c : tie.After-rest-to Inv-loop μ-loop) (u : UnitData)
+    (o : c .before .before .before .before .before .before .before .before .before .before .before .before .before .own-lists .result ≡ ownLists u (c .before .before .before .before .before .before .before .before .before .before .before .before .before .before .before .args .c) (c .before .before .before .before .before .before .before .before .before .before .before .before .before .before .is-rising .result)) → Next (c .before .before .before) u o (c .rest-to .result .place) (c .rest-to .result .twice)
 unfolding afterRest fromKw
-rested c =
-    let k = c .before .before .before in
-    let s = k .before .before .before .before .before .before .before .before .before .before .before in
-    let l = k .before .before .before .before .loop in
-    let h = headed (k .before .before .before .before .before .before .before .before .before .before .is-rising .result) in
-    let ls = listsIn (s .args .u) (s .args .c) in
+rested c u o =
+    let s = c .before .before .before .before .before .before .before .before .before .before .before .before .before .before .before in
+    let l = c .before .before .before .before .before .before .before .loop in
+    let h = headed (c .before .before .before .before .before .before .before .before .before .before .before .before .before .before .is-rising .result) in
+    let ls = listsIn u (s .args .c) in
     let t = grains (s .args .c .target) in
-    let n = k .seconds-from2 .result in
-    let a = ahead k in
+    let n = c .before .before .before .seconds-from2 .result in
+    let a = ahead (c .before .before .before) in
     let r = c .before .before .is-at-rest .ensures (c .before .if2 .taken) in
-    let there : l .p .level ≡ t = r .1 ∙ ap (λ (x : Level). x .grains) (k .before .before .before .before .before .before .before .before .before .from-kw .ensures) in
+    let there : l .p .level ≡ t = r .1 ∙ ap (λ (x : Level). x .grains) (c .before .before .before .before .before .before .before .before .before .before .before .before .from-kw .ensures) in
     let e = c .rest-to .ensures in
-    let low = l .inv .3 .low in
-    let short = l .inv .3 .short in
-    gone-by k (c .rest-to .result .place) (c .rest-to .result .twice)
-    (e .0 ∙ rest-stands h ls t n (l .p) short (r .0) there (a .2))
-    (e .1 ∙ ap (twiceBetween (l .p)) (e .0) ∙ rest-twice h ls t n (l .p) short (r .0) there (a .2))
+    let g = l .inv .3 u o .0 in
+    gone-by (c .before .before .before) u o (c .rest-to .result .place) (c .rest-to .result .twice)
+    (e .0 ∙ rest-stands h ls t n (l .p) (g .short) (r .0) there (a .2))
+    (e .1 ∙ ap (twiceBetween (l .p)) (e .0) ∙ rest-twice h ls t n (l .p) (g .short) (r .0) there (a .2))
     (e .2)
-    (subst (λ (x : Place). Short h t (x .level)) (sym (e .0)) short)
-    (subst (λ (x : Place). x .level < 274877906944) (sym (e .0)) low)
+    (subst (λ (x : Place). Short h t (x .level)) (sym (e .0)) (g .short))
+    (subst (λ (x : Place). x .level < 274877906944) (sym (e .0)) (g .low))
 
 -- src/lib.rt:587:9
 is-rising-requires : tie.Need-is-rising-requires Inv-loop μ-loop
 is-rising-requires c κs = search needs
 
 -- src/lib.rt:588:9
+own-lists-requires : tie.Need-own-lists-requires Inv-loop μ-loop
+own-lists-requires c κs = search needs
+
 from-kw-requires : tie.Need-from-kw-requires Inv-loop μ-loop
 from-kw-requires c κs = search needs
 
@@ -151,17 +160,20 @@ mul-x c = omega arith
 -- src/lib.rt:594:5
 loop-holds : tie.Need-loop-holds Inv-loop μ-loop
 unfolding beginning
-loop-holds c = let s = c .before .before .before .before .before .before in
-    let r = c .before .before .before .before .before .is-rising .ensures in
-    let up = c .before .before .before .before .before .is-rising .result in
+loop-holds c = let s = c .before .before .before .before .before .before .before in
+    let r = c .before .before .before .before .before .before .is-rising .ensures in
+    let up = c .before .before .before .before .before .before .is-rising .result in
     let b : ℕ = s .args .c .begin / 1800 in
-    let none : (i : ℕ) → 1800 * i ≤ s .args .c .begin → notedAt (s .args .u) (s .args .c) (s .args .end) i ≡ 0 = λ i h. noted-none (s .args .u) (s .args .c) (s .args .end) up i r (s .pre .0) h in (
+    let first = half-before (s .args .c .begin) in
+    let none : (u : UnitData) (i : ℕ) → 1800 * i ≤ s .args .c .begin → notedAt u (s .args .c) (s .args .end) i ≡ 0 = λ u i h. noted-none u (s .args .c) (s .args .end) up i r (s .pre .0) h in (
       s .pre .1 .0,
       omega arith,
-      rw (c .before .begin-at .ensures) (not-begun (s .args .end) (s .args .c .begin) b (half-before (s .args .c .begin))),
-      rw (c .before .begin-at .ensures) (rw (none b (half-before (s .args .c .begin))) (noted-start (s .args .u) (s .args .c) up r (s .pre .0))),
-      λ j k. omega (arith, none (min j b) (earlier-none (s .args .c .begin) b j (half-before (s .args .c .begin)))),
-      omega (arith, none (min 48 b) (earlier-none (s .args .c .begin) b 48 (half-before (s .args .c .begin)))),
+      rw (c .before .begin-at .ensures) (not-begun (s .args .end) (s .args .c .begin) b first),
+      λ u o. (
+        rw (c .before .begin-at .ensures) (rw (none u b first) (noted-start u (s .args .c) up r (s .pre .0))),
+        λ j k. omega (arith, none u (min j b) (earlier-none (s .args .c .begin) b j first)),
+        omega (arith, none u (min 48 b) (earlier-none (s .args .c .begin) b 48 first)),
+      ),
     )
 
 -- src/lib.rt:595:9
@@ -187,7 +199,7 @@ is-at-rest-requires c κs = search needs
 -- src/lib.rt:599:17
 rest-to-requires : tie.Need-rest-to-requires Inv-loop μ-loop
 rest-to-requires c κs = let a = ahead (c .before .before) in
-    (a .2, omega (arith, a .3), c .before .before .before .before .before .before .loop .inv .3 .low)
+    (a .2, omega (arith, a .3), c .before .before .before .before .before .before .loop .inv .3 (c .before .before .before .before .before .before .before .before .before .before .before .before .before .before .args .u) (c .before .before .before .before .before .before .before .before .before .before .before .before .own-lists .ensures) .0 .low)
 
 -- src/lib.rt:600:24
 mul-parts : tie.Need-mul-parts Inv-loop μ-loop
@@ -199,10 +211,11 @@ element-copy-out-parts c = below-last _ (ahead (c .before .before .before) .0)
 
 -- src/lib.rt:600:24
 add-parts : tie.Need-add-parts Inv-loop μ-loop
-add-parts c = let s = c .before .before .before .before .before .before .before .before .before .before .before .before .before .before .before .before in
+add-parts c = let s = c .before .before .before .before .before .before .before .before .before .before .before .before .before .before .before .before .before in
     let l = c .before .before .before .before .before .before .before .before .before .loop in
-    let g = rested (c .before .before) in
-    record { fits = part-fits (notedAt (s .args .u) (s .args .c) (s .args .end)) (l .b) (c .before .before .rest-to .result .twice) (s .args .parts .now) (l .parts) (ahead (c .before .before .before .before .before) .0) (g .2) (g .3) (s .pre .1 .1) (l .inv .4) }
+    let o = c .before .before .before .before .before .before .before .before .before .before .before .before .before .before .before .own-lists .ensures in
+    let g = rested (c .before .before) (s .args .u) o in
+    record { fits = part-fits (notedAt (s .args .u) (s .args .c) (s .args .end)) (l .b) (c .before .before .rest-to .result .twice) (s .args .parts .now) (l .parts) (ahead (c .before .before .before .before .before) .0) (g .2) (g .3) (s .pre .1 .1) (l .inv .3 (s .args .u) o .1) }
 
 -- src/lib.rt:600:13
 mul-parts-2 : tie.Need-mul-parts-2 Inv-loop μ-loop
@@ -218,24 +231,28 @@ loop-less c = goes-on _ (ahead (c .before .before .before .before .before .befor
 
 -- src/lib.rt:594:5
 loop-again : tie.Need-loop-again Inv-loop μ-loop
-loop-again c = let s = c .before .before .before .before .before .before .before .before .before .before .before .before .before .before .before .before .before in
+loop-again c = let s = c .before .before .before .before .before .before .before .before .before .before .before .before .before .before .before .before .before .before in
     let l = c .before .before .before .before .before .before .before .before .before .before .loop in
-    let f = notedAt (s .args .u) (s .args .c) (s .args .end) in
     let low = ahead (c .before .before .before .before .before .before) .0 in
-    let g = rested (c .before .before .before) in (
+    let own = rested (c .before .before .before) (s .args .u) (c .before .before .before .before .before .before .before .before .before .before .before .before .before .before .before .before .own-lists .ensures) in (
       simp length-set (l .inv .0),
       omega (arith, l .inv .1),
-      g .0,
-      g .1,
-      added-on f (l .b) (c .before .before .before .rest-to .result .twice) (s .args .parts .now) (l .parts) (rw (l .inv .0) (below-last _ low)) (g .2) (l .inv .4),
-      rw (in-day (l .b) low) (g .3),
+      own .0,
+      λ u o.
+          let f = notedAt u (s .args .c) (s .args .end) in
+          let g = rested (c .before .before .before) u o in (
+            g .1,
+            added-on f (l .b) (c .before .before .before .rest-to .result .twice) (s .args .parts .now) (l .parts) (rw (l .inv .0) (below-last _ low)) (g .2) (l .inv .3 u o .1),
+            rw (in-day (l .b) low) (g .3),
+          ),
     )
 
 -- src/lib.rt:603:17
 sum-to-requires : tie.Need-sum-to-requires Inv-loop μ-loop
 sum-to-requires c κs = let l = c .before .before .before .before .before .before .loop in
     let a = ahead (c .before .before) in
-    ((a .2, omega (arith, a .3)), (l .inv .3 .short, l .inv .3 .low))
+    let g = l .inv .3 (c .before .before .before .before .before .before .before .before .before .before .before .before .before .before .args .u) (c .before .before .before .before .before .before .before .before .before .before .before .before .own-lists .ensures) .0 in
+    ((a .2, omega (arith, a .3)), (g .short, g .low))
 
 -- src/lib.rt:604:24
 mul-parts-3 : tie.Need-mul-parts-3 Inv-loop μ-loop
@@ -247,10 +264,11 @@ element-copy-out-parts-2 c = below-last _ (ahead (c .before .before .before) .0)
 
 -- src/lib.rt:604:24
 add-parts-2 : tie.Need-add-parts-2 Inv-loop μ-loop
-add-parts-2 c = let s = c .before .before .before .before .before .before .before .before .before .before .before .before .before .before .before .before in
+add-parts-2 c = let s = c .before .before .before .before .before .before .before .before .before .before .before .before .before .before .before .before .before in
     let l = c .before .before .before .before .before .before .before .before .before .loop in
-    let g = gone (c .before .before) in
-    record { fits = part-fits (notedAt (s .args .u) (s .args .c) (s .args .end)) (l .b) (c .before .before .sum-to .result .twice) (s .args .parts .now) (l .parts) (ahead (c .before .before .before .before .before) .0) (g .2) (g .3) (s .pre .1 .1) (l .inv .4) }
+    let o = c .before .before .before .before .before .before .before .before .before .before .before .before .before .before .before .own-lists .ensures in
+    let g = gone (c .before .before) (s .args .u) o in
+    record { fits = part-fits (notedAt (s .args .u) (s .args .c) (s .args .end)) (l .b) (c .before .before .sum-to .result .twice) (s .args .parts .now) (l .parts) (ahead (c .before .before .before .before .before) .0) (g .2) (g .3) (s .pre .1 .1) (l .inv .3 (s .args .u) o .1) }
 
 -- src/lib.rt:604:13
 mul-parts-4 : tie.Need-mul-parts-4 Inv-loop μ-loop
@@ -266,29 +284,33 @@ loop-less-2 c = goes-on _ (ahead (c .before .before .before .before .before .bef
 
 -- src/lib.rt:594:5
 loop-again-2 : tie.Need-loop-again-2 Inv-loop μ-loop
-loop-again-2 c = let s = c .before .before .before .before .before .before .before .before .before .before .before .before .before .before .before .before .before in
+loop-again-2 c = let s = c .before .before .before .before .before .before .before .before .before .before .before .before .before .before .before .before .before .before in
     let l = c .before .before .before .before .before .before .before .before .before .before .loop in
-    let f = notedAt (s .args .u) (s .args .c) (s .args .end) in
     let low = ahead (c .before .before .before .before .before .before) .0 in
-    let g = gone (c .before .before .before) in (
+    let own = gone (c .before .before .before) (s .args .u) (c .before .before .before .before .before .before .before .before .before .before .before .before .before .before .before .before .own-lists .ensures) in (
       simp length-set (l .inv .0),
       omega (arith, l .inv .1),
-      g .0,
-      g .1,
-      added-on f (l .b) (c .before .before .before .sum-to .result .twice) (s .args .parts .now) (l .parts) (rw (l .inv .0) (below-last _ low)) (g .2) (l .inv .4),
-      rw (in-day (l .b) low) (g .3),
+      own .0,
+      λ u o.
+          let f = notedAt u (s .args .c) (s .args .end) in
+          let g = gone (c .before .before .before) u o in (
+            g .1,
+            added-on f (l .b) (c .before .before .before .sum-to .result .twice) (s .args .parts .now) (l .parts) (rw (l .inv .0) (below-last _ low)) (g .2) (l .inv .3 u o .1),
+            rw (in-day (l .b) low) (g .3),
+          ),
     )
 
 -- src/lib.rt:581:1
 returns : tie.Need-returns Inv-loop μ-loop
 returns c = let l = c .before .before .loop in
-    let s = c .before .before .before .before .before .before .before .before .before in
-    let ends = c .before .before .before .before .before .seconds-from .ensures ∙ ap (λ (k : ℕ). k - s .args .c .begin) (c .before .before .before .before .before .before .smaller .ensures) in (
+    let s = c .before .before .before .before .before .before .before .before .before .before in
+    let ends = c .before .before .before .before .before .seconds-from .ensures ∙ ap (λ (k : ℕ). k - s .args .c .begin) (c .before .before .before .before .before .before .smaller .ensures) in
+    let g = l .inv .3 (s .args .u) (c .before .before .before .before .before .before .before .before .own-lists .ensures) in (
       l .inv .0,
-      λ j k. l .inv .4 j k ∙ ap (λ (m : ℕ). firstSum (suc j) (s .args .parts .now) + m)
+      λ j k. g .1 j k ∙ ap (λ (m : ℕ). firstSum (suc j) (s .args .parts .now) + m)
           (noted-same (s .args .u) (s .args .c) (s .args .end) (min j (l .b)) j
           (stays (s .args .end) (s .args .c .begin) (l .b) (l .p .second) _ (l .inv .2) ends (omega (arith, c .if1 .left)) j k)),
-      omega (arith, l .inv .4 48 (omega arith), l .inv .5),
+      omega (arith, g .1 48 (omega arith), g .2),
     )
 
 pub add-course-spec : {M : Type 1} → statement M
@@ -298,6 +320,7 @@ add-course-spec =
     Inv-loop
     μ-loop
     is-rising-requires
+    own-lists-requires
     from-kw-requires
     smaller-requires
     seconds-from-requires

@@ -1,8 +1,13 @@
+use mathlib.Core.Path.{_≡_, _∙_}
+use Rattle.records.specs.declared.UnitData.{UnitData}
+use Rattle.trajectory.specs.Walk.{onward}
+use Rattle.trajectory.proofs.Own.{OfUnit, own-onward}
+use Rattle.trajectory.proofs.own_lists.Reads as own-lists-reads
 use Prim.Native.Nat.{_-_}
 use native.Mathlib.Omega.{arith}
 use borrow.Author.Needs.{needs}
 use Rattle.trajectory.proofs.Goes.{Goes}
-use Rattle.trajectory.specs.Ways.{headed, listsIn}
+use Rattle.trajectory.specs.Ways.{headed, listsIn, ownLists}
 use Rattle.level.specs.Level.{grains}
 use Rattle.close.proofs.Watching.{Watched, watched-start, watched-goes, watched-on, watched-end}
 use Rattle.close.proofs.state_after.Statement.{statement}
@@ -17,21 +22,37 @@ use Rattle.trajectory.proofs.walk_on.Reads as walk-on-reads
 
 -- the place and the seconds off so far are what the rule of one second comes to
 abbrev Inv-loop : tie.InvT-loop
-Inv-loop u c before k up p₀ off₀ p off = Watched u c before k up p off
+Inv-loop c before k up l p₀ off₀ p off = OfUnit l c up (λ u. Watched u c before k up p off)
 
 abbrev μ-loop : tie.MeasureT-loop
-μ-loop u c before k up p₀ off₀ p off = k - p .second
+μ-loop c before k up l p₀ off₀ p off = k - p .second
+
+-- the walk goes on as the course of any unit with these lists does
+on : (c : tie.After-walk-on Inv-loop μ-loop) (u : UnitData) →
+    let s = c .before .before .before .before .before .before .before .before in
+    let up = c .before .before .before .before .before .before .before .is-rising .result in
+    c .before .before .before .before .before .before .own-lists .result ≡ ownLists u (s .args .c) up →
+    c .walk-on .result ≡ onward (headed up) (listsIn u (s .args .c)) (grains (s .args .c .target)) (s .args .k) (c .before .before .before .loop .p)
+on c u o =
+    let s = c .before .before .before .before .before .before .before .before in
+    c .walk-on .ensures ∙ own-onward u (s .args .c) (c .before .before .before .before .before .before .before .is-rising .result) (c .before .before .before .before .before .before .own-lists .result) o (grains (s .args .c .target)) (s .args .k) (c .before .before .before .loop .p)
 
 gone : (c : tie.After-walk-on Inv-loop μ-loop) →
-    let s = c .before .before .before .before .before .before .before in
-    Goes (headed (c .before .before .before .before .before .before .is-rising .result)) (listsIn (s .args .u) (s .args .c)) (grains (s .args .c .target)) (s .args .k) (c .before .before .before .loop .p) (c .walk-on .result)
-gone c = rw (c .walk-on .ensures) (watched-goes _ _ _ _ _ _ _ (c .before .before .before .loop .inv) (c .before .if1 .taken))
+    let s = c .before .before .before .before .before .before .before .before in
+    Goes (headed (c .before .before .before .before .before .before .before .is-rising .result)) (listsIn (s .args .u) (s .args .c)) (grains (s .args .c .target)) (s .args .k) (c .before .before .before .loop .p) (c .walk-on .result)
+gone c =
+    let s = c .before .before .before .before .before .before .before .before in
+    let o = c .before .before .before .before .before .before .own-lists .ensures in
+    rw (on c (s .args .u) o) (watched-goes (s .args .u) _ _ _ _ _ _ (c .before .before .before .loop .inv (s .args .u) o) (c .before .if1 .taken))
 
 -- src/lib.rt:369:9
 is-rising-requires : tie.Need-is-rising-requires Inv-loop μ-loop
 is-rising-requires c κs = search needs
 
 -- src/lib.rt:370:9
+own-lists-requires : tie.Need-own-lists-requires Inv-loop μ-loop
+own-lists-requires c κs = search needs
+
 begin-at-requires : tie.Need-begin-at-requires Inv-loop μ-loop
 begin-at-requires c κs = search needs
 
@@ -42,12 +63,12 @@ off-starting-requires c κs = search needs
 -- src/lib.rt:372:5
 loop-holds : tie.Need-loop-holds Inv-loop μ-loop
 loop-holds c =
-    let s = c .before .before .before in
-    rw (c .before .begin-at .ensures, c .off-starting .ensures) (watched-start (s .args .u) (s .args .c) (s .args .before) (s .args .k) _ (c .before .before .is-rising .ensures))
+    let s = c .before .before .before .before in
+    λ u o. rw (c .before .begin-at .ensures, c .off-starting .ensures) (watched-start u (s .args .c) (s .args .before) (s .args .k) _ (c .before .before .before .is-rising .ensures))
 
 -- src/lib.rt:373:13
 walk-on-requires : tie.Need-walk-on-requires Inv-loop μ-loop
-walk-on-requires c κs = (c .if1 .taken, c .before .before .loop .inv .short)
+walk-on-requires c κs = (c .if1 .taken, c .before .before .loop .inv (c .before .before .before .before .before .before .before .args .u) (c .before .before .before .before .before .own-lists .ensures) .short)
 
 -- src/lib.rt:374:9
 off-between-requires : tie.Need-off-between-requires Inv-loop μ-loop
@@ -60,11 +81,11 @@ loop-less c = let g = gone (c .before) in omega (arith, g .later, g .within)
 -- src/lib.rt:372:5
 loop-again : tie.Need-loop-again Inv-loop μ-loop
 loop-again c =
-    watched-on _ _ _ _ _ _ _ (c .before .before .before .before .loop .inv) (c .before .before .if1 .taken) _ _ (c .before .walk-on .ensures) (c .off-between .ensures)
+    λ u o. watched-on u _ _ _ _ _ _ (c .before .before .before .before .loop .inv u o) (c .before .before .if1 .taken) _ _ (on (c .before) u o) (c .off-between .ensures)
 
 -- src/lib.rt:366:1
 returns : tie.Need-returns Inv-loop μ-loop
-returns c = watched-end _ _ _ _ _ _ _ (c .before .before .loop .inv) (omega arith)
+returns c = watched-end (c .before .before .before .before .before .before .before .args .u) _ _ _ _ _ _ (c .before .before .loop .inv (c .before .before .before .before .before .before .before .args .u) (c .before .before .before .before .before .own-lists .ensures)) (omega arith)
 
 pub state-after-spec : {M : Type 1} → statement M
 state-after-spec =
@@ -73,6 +94,7 @@ state-after-spec =
     Inv-loop
     μ-loop
     is-rising-requires
+    own-lists-requires
     begin-at-requires
     off-starting-requires
     loop-holds

@@ -1,7 +1,6 @@
 use Rattle.trajectory.proofs.Holds.{hold-target, hold-dwell}
-use Rattle.trajectory.specs.Ways.{headed, listsIn}
+use Rattle.trajectory.specs.Ways.{headed, listsBy}
 use Rattle.level.specs.Level.{grains}
-use Rattle.course.specs.Lists.{listsOf}
 use mathlib.Core.Path.{sym, _∙_}
 use native.Mathlib.Omega.{arith}
 use borrow.Author.Needs.{needs}
@@ -14,7 +13,7 @@ grains-of-requires c κs = search needs
 returns : tie.Need-returns
 returns c =
     let s = c .before .before in
-    (sym (hold-target (listsIn (s .args .u) (s .args .c)) (grains (s .args .c .target)) (s .args .w) (headed (s .args .up)) (omega arith)), omega arith)
+    (sym (hold-target (listsBy (s .args .l) (s .args .c)) (grains (s .args .c .target)) (s .args .w) (headed (s .args .up)) (omega arith)), omega arith)
 
 grains-of-requires-2 : tie.Need-grains-of-requires-2
 grains-of-requires-2 c κs = search needs
@@ -29,10 +28,10 @@ held-three-requires : tie.Need-held-three-requires
 held-three-requires c κs = search needs
 
 returns-3 : tie.Need-returns-3
-unfolding listsOf
+unfolding listsBy
 returns-3 c =
     let s = c .before .before .before .before .before .before in
-    (c .held-three .ensures .0 ∙ sym (hold-dwell (listsIn (s .args .u) (s .args .c)) (grains (s .args .c .target)) (s .args .w) (λ e. omega arith) (headed (s .args .up)) (omega arith)), omega arith)
+    (c .held-three .ensures .0 ∙ sym (hold-dwell (listsBy (s .args .l) (s .args .c)) (grains (s .args .c .target)) (s .args .w) (λ e. omega arith) (headed (s .args .up)) (omega arith)), omega arith)
 
 pub hold-at-spec : {M : Type 1} → statement M
 hold-at-spec =

@@ -1,6 +1,6 @@
 use Rattle.trajectory.proofs.Rates.{rate-down, rate-deload}
-use Rattle.trajectory.specs.Ways.{listsIn}
-use Rattle.course.specs.Lists.{listsOf, ratesOf}
+use Rattle.trajectory.specs.Ways.{listsBy}
+use Rattle.course.specs.Lists.{ratesOf}
 use mathlib.Core.Path.{_∙_}
 use borrow.Author.Needs.{needs}
 use Rattle.trajectory.proofs.rate_falling.Statement.{statement}
@@ -16,20 +16,20 @@ rate-of-ramp-requires : tie.Need-rate-of-ramp-requires
 rate-of-ramp-requires c κs = search needs
 
 returns : tie.Need-returns
-unfolding listsOf ratesOf
+unfolding listsBy ratesOf
 returns c =
     let s = c .before .before .before .before .before in
-    c .rate-of-ramp .ensures ∙ rate-down (listsIn (s .args .u) (s .args .c)) _ _ _ (c .before .before .before .before .grains-of .ensures .0) (c .before .before .before .in-ramp .ensures) (c .before .before .if1 .taken)
+    c .rate-of-ramp .ensures ∙ rate-down (listsBy (s .args .l) (s .args .c)) _ _ _ (c .before .before .before .before .grains-of .ensures .0) (c .before .before .before .in-ramp .ensures) (c .before .before .if1 .taken)
 
 rate-of-deload-requires : tie.Need-rate-of-deload-requires
 rate-of-deload-requires c κs = search needs
 
 returns-2 : tie.Need-returns-2
-unfolding listsOf ratesOf
+unfolding listsBy ratesOf
 returns-2 c =
     let s = c .before .before .before .before .before in
     c .rate-of-deload .ensures
-    ∙ rate-deload (listsIn (s .args .u) (s .args .c)) _ _ _ (c .before .before .before .before .grains-of .ensures .0) (c .before .before .before .in-ramp .ensures) (c .before .before .if1 .left)
+    ∙ rate-deload (listsBy (s .args .l) (s .args .c)) _ _ _ (c .before .before .before .before .grains-of .ensures .0) (c .before .before .before .in-ramp .ensures) (c .before .before .if1 .left)
 
 pub rate-falling-spec : {M : Type 1} → statement M
 rate-falling-spec =

@@ -1,6 +1,6 @@
 use Rattle.trajectory.proofs.Rates.{rate-up, rate-column}
-use Rattle.trajectory.specs.Ways.{listsIn}
-use Rattle.course.specs.Lists.{listsOf, ratesOf}
+use Rattle.trajectory.specs.Ways.{listsBy}
+use Rattle.course.specs.Lists.{ratesOf}
 use mathlib.Core.Path.{_∙_}
 use borrow.Author.Needs.{needs}
 use Rattle.trajectory.proofs.rate_rising.Statement.{statement}
@@ -16,24 +16,20 @@ rate-of-ramp-requires : tie.Need-rate-of-ramp-requires
 rate-of-ramp-requires c κs = search needs
 
 returns : tie.Need-returns
-unfolding listsOf ratesOf
+unfolding listsBy ratesOf
 returns c =
     let s = c .before .before .before .before .before in
-    c .rate-of-ramp .ensures ∙ rate-up (listsIn (s .args .u) (s .args .c)) _ _ _ (c .before .before .before .before .grains-of .ensures .0) (c .before .before .before .in-ramp .ensures) (c .before .before .if1 .taken)
-
-column-for-requires : tie.Need-column-for-requires
-column-for-requires c κs = search needs
+    c .rate-of-ramp .ensures ∙ rate-up (listsBy (s .args .l) (s .args .c)) _ _ _ (c .before .before .before .before .grains-of .ensures .0) (c .before .before .before .in-ramp .ensures) (c .before .before .if1 .taken)
 
 rate-of-column-requires : tie.Need-rate-of-column-requires
 rate-of-column-requires c κs = search needs
 
 returns-2 : tie.Need-returns-2
-unfolding listsOf ratesOf
+unfolding listsBy ratesOf
 returns-2 c =
     let s = c .before .before .before .before .before in
     c .rate-of-column .ensures
-    ∙ (rw (c .before .column-for .ensures)
-    (rate-column (listsIn (s .args .u) (s .args .c)) _ _ _ (c .before .before .before .before .grains-of .ensures .0) (c .before .before .before .in-ramp .ensures) (c .before .before .if1 .left)))
+    ∙ rate-column (listsBy (s .args .l) (s .args .c)) _ _ _ (c .before .before .before .before .grains-of .ensures .0) (c .before .before .before .in-ramp .ensures) (c .before .before .if1 .left)
 
 pub rate-rising-spec : {M : Type 1} → statement M
 rate-rising-spec =
@@ -43,6 +39,5 @@ rate-rising-spec =
     in-ramp-requires
     rate-of-ramp-requires
     returns
-    column-for-requires
     rate-of-column-requires
     returns-2)

@@ -3,7 +3,7 @@ use Rattle.trajectory.proofs.Onward.{reaches-stop, to-stop, grains-low}
 use Rattle.trajectory.proofs.Arrivals.{at-rest, moves, arrival-on, seconds-some}
 use Rattle.trajectory.specs.Arrival.{arrivalOf, resting, pause}
 use Rattle.trajectory.specs.Walk.{segmentTo, segmentFrom, segmentsFrom}
-use Rattle.trajectory.specs.Ways.{headed, listsIn}
+use Rattle.trajectory.specs.Ways.{headed, listsBy}
 use Rattle.course.proofs.Ahead.{next-past}
 use Rattle.course.proofs.Near.{Past, Short, short-past}
 use Rattle.course.specs.Course.{toward, nextStop}
@@ -17,19 +17,19 @@ use Rattle.trajectory.proofs.since_last_stop.Statement.{statement}
 use Rattle.trajectory.proofs.since_last_stop.Tie as tie
 
 abbrev Inv-loop : tie.InvT-loop
-Inv-loop u c up from k v₀ left₀ v left =
+Inv-loop l c up from k v₀ left₀ v left =
     Short (headed up) (grains (c .target)) v
-    × (left - arrivalOf (segmentsFrom (headed up) (listsIn u c) (grains (c .target)) v) ≡ k - arrivalOf (segmentsFrom (headed up) (listsIn u c) (grains (c .target)) from))
+    × (left - arrivalOf (segmentsFrom (headed up) (listsBy l c) (grains (c .target)) v) ≡ k - arrivalOf (segmentsFrom (headed up) (listsBy l c) (grains (c .target)) from))
     × (left ≤ k)
 
 abbrev μ-loop : tie.MeasureT-loop
-μ-loop u c up from k v₀ left₀ v left = left
+μ-loop l c up from k v₀ left₀ v left = left
 
 -- from a level that moves
 on : (c : tie.Else1 Inv-loop μ-loop) →
     let s = c .before .before .before .before in
     let h = headed (s .args .up) in
-    let l = listsIn (s .args .u) (s .args .c) in
+    let l = listsBy (s .args .l) (s .args .c) in
     let t = grains (s .args .c .target) in
     let v = c .before .before .before .loop .v in
     Past h v t × (1 ≤ segmentFrom h l t v .rate) × (resting h l t v ≡ false)
@@ -37,7 +37,7 @@ unfolding segmentFrom segmentTo
 on c =
     let s = c .before .before .before .before in
     let h = headed (s .args .up) in
-    let l = listsIn (s .args .u) (s .args .c) in
+    let l = listsBy (s .args .l) (s .args .c) in
     let t = grains (s .args .c .target) in
     let v = c .before .before .before .loop .v in
     let sh = c .before .before .before .loop .inv .0 in
@@ -49,7 +49,7 @@ on c =
 arrives : (c : tie.After-seconds-of Inv-loop μ-loop) →
     let s = c .before .before .before .before .before .before in
     let h = headed (s .args .up) in
-    let l = listsIn (s .args .u) (s .args .c) in
+    let l = listsBy (s .args .l) (s .args .c) in
     let t = grains (s .args .c .target) in
     let v = c .before .before .before .before .before .loop .v in
     let w = nextStop h l t v in
@@ -58,7 +58,7 @@ arrives : (c : tie.After-seconds-of Inv-loop μ-loop) →
 arrives c =
     let s = c .before .before .before .before .before .before in
     let h = headed (s .args .up) in
-    let l = listsIn (s .args .u) (s .args .c) in
+    let l = listsBy (s .args .l) (s .args .c) in
     let t = grains (s .args .c .target) in
     let lo = c .before .before .before .before .before .loop in
     let o = on (c .before .before) in
@@ -69,7 +69,7 @@ arrives c =
 stepped : (c : tie.After-pause-at Inv-loop μ-loop) →
     let s = c .before .before .before .before .before .before .before .before .before in
     let h = headed (s .args .up) in
-    let l = listsIn (s .args .u) (s .args .c) in
+    let l = listsBy (s .args .l) (s .args .c) in
     let t = grains (s .args .c .target) in
     let v = c .before .before .before .before .before .before .before .before .loop .v in
     Short h t (c .before .moved .result)
@@ -77,7 +77,7 @@ stepped : (c : tie.After-pause-at Inv-loop μ-loop) →
 stepped c =
     let s = c .before .before .before .before .before .before .before .before .before in
     let h = headed (s .args .up) in
-    let l = listsIn (s .args .u) (s .args .c) in
+    let l = listsBy (s .args .l) (s .args .c) in
     let t = grains (s .args .c .target) in
     let v = c .before .before .before .before .before .before .before .before .loop .v in
     let o = on (c .before .before .before .before .before) in
@@ -95,8 +95,8 @@ returns : tie.Need-returns Inv-loop μ-loop
 returns c =
     let s = c .before .before .before .before in
     let l = c .before .before .before .loop in
-    let z : arrivalOf (segmentsFrom (headed (s .args .up)) (listsIn (s .args .u) (s .args .c)) (grains (s .args .c .target)) (l .v)) ≡ 0 =
-    at-rest (headed (s .args .up)) (listsIn (s .args .u) (s .args .c)) (grains (s .args .c .target)) (l .v) (l .inv .0) (sym (c .before .rests-at .ensures) ∙ c .if1 .taken) in
+    let z : arrivalOf (segmentsFrom (headed (s .args .up)) (listsBy (s .args .l) (s .args .c)) (grains (s .args .c .target)) (l .v)) ≡ 0 =
+    at-rest (headed (s .args .up)) (listsBy (s .args .l) (s .args .c)) (grains (s .args .c .target)) (l .v) (l .inv .0) (sym (c .before .rests-at .ensures) ∙ c .if1 .taken) in
     omega (arith, l .inv .1)
 
 segment-from-requires : tie.Need-segment-from-requires Inv-loop μ-loop
@@ -119,7 +119,7 @@ moved-requires c κs =
     let o = on (c .before .before .before) in
     let lo = c .before .before .before .before .before .before .loop in
     rw (c .before .before .segment-from .ensures)
-    (reaches-stop (headed (s .args .up)) (listsIn (s .args .u) (s .args .c)) (grains (s .args .c .target)) (lo .v) (o .0) (grains-low _ (s .good .1 .0 .1 .1 .1 .1 .0 .1)))
+    (reaches-stop (headed (s .args .up)) (listsBy (s .args .l) (s .args .c)) (grains (s .args .c .target)) (lo .v) (o .0) (grains-low _ (s .good .1 .0 .1 .1 .1 .1 .0 .1)))
 
 pause-at-requires : tie.Need-pause-at-requires Inv-loop μ-loop
 pause-at-requires c κs = search needs

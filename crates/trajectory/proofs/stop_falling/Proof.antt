@@ -26,7 +26,7 @@ returns : tie.Need-returns
 returns c =
     let s = c .before .before .before .before .before .before .before .before .before .before .before in
     rw (c .nearer .ensures, c .before .ramp-breaks .ensures, c .before .before .before .before .deload-break .ensures, c .before .before .before .before .before .before .before .dwell-stops .ensures, c .before .before .before .before .before .before .before .before .before .«grains-of2» .ensures .0, c .before .before .before .before .before .before .before .before .before .before .grains-of .ensures .0)
-    (next-falling (s .args .u) (s .args .c) (grains (s .args .c .target)) (s .args .v))
+    (next-falling (s .args .l) (s .args .c) (grains (s .args .c .target)) (s .args .v))
 
 pub stop-falling-spec : {M : Type 1} → statement M
 stop-falling-spec =

@@ -13,9 +13,6 @@ grains-of-requires-2 c κs = search needs
 dwell-stops-requires : tie.Need-dwell-stops-requires
 dwell-stops-requires c κs = search needs
 
-column-for-requires : tie.Need-column-for-requires
-column-for-requires c κs = search needs
-
 soak-stops-requires : tie.Need-soak-stops-requires
 soak-stops-requires c κs = search needs
 
@@ -31,8 +28,8 @@ nearer-requires c κs = search needs
 returns : tie.Need-returns
 returns c =
     let s = c .before .before .before .before .before .before .before .before .before .before .before .before .before in
-    rw (c .nearer .ensures, c .before .column-breaks .ensures, c .before .before .before .ramp-breaks .ensures, c .before .before .before .before .before .before .soak-stops .ensures, c .before .before .before .before .before .before .before .before .column-for .ensures, c .before .before .before .before .before .before .before .before .before .dwell-stops .ensures, c .before .before .before .before .before .before .before .before .before .before .before .«grains-of2» .ensures .0, c .before .before .before .before .before .before .before .before .before .before .before .before .grains-of .ensures .0)
-    (next-rising (s .args .u) (s .args .c) (grains (s .args .c .target)) (s .args .v))
+    rw (c .nearer .ensures, c .before .column-breaks .ensures, c .before .before .before .ramp-breaks .ensures, c .before .before .before .before .before .before .soak-stops .ensures, c .before .before .before .before .before .before .before .before .before .dwell-stops .ensures, c .before .before .before .before .before .before .before .before .before .before .before .«grains-of2» .ensures .0, c .before .before .before .before .before .before .before .before .before .before .before .before .grains-of .ensures .0)
+    (next-rising (s .args .l) (s .args .c) (grains (s .args .c .target)) (s .args .v))
 
 pub stop-rising-spec : {M : Type 1} → statement M
 stop-rising-spec =
@@ -41,7 +38,6 @@ stop-rising-spec =
     grains-of-requires
     grains-of-requires-2
     dwell-stops-requires
-    column-for-requires
     soak-stops-requires
     ramp-breaks-requires
     column-breaks-requires

@@ -1,7 +1,7 @@
 use Rattle.trajectory.proofs.Areas.{twice-on, twice-here}
 use Rattle.trajectory.proofs.Goes.{Goes, onward-goes, standing-on, standing-here}
 use Rattle.trajectory.specs.Walk.{standing, twiceTo}
-use Rattle.trajectory.specs.Ways.{headed, listsIn}
+use Rattle.trajectory.specs.Ways.{headed, listsBy}
 use Rattle.course.proofs.Near.{Short}
 use Rattle.level.specs.Level.{grains}
 use native.Mathlib.Omega.{arith}
@@ -11,22 +11,22 @@ use Rattle.trajectory.proofs.sum_to.Statement.{statement}
 use Rattle.trajectory.proofs.sum_to.Tie as tie
 
 abbrev Inv-loop : tie.InvT-loop
-Inv-loop u c up n p₀ twice₀ p twice =
+Inv-loop l c up n p₀ twice₀ p twice =
     (p₀ .second ≤ p .second) × (p .second ≤ n) × Short (headed up) (grains (c .target)) (p .level) × (p .level < 274877906944)
-    × (standing (headed up) (listsIn u c) (grains (c .target)) n p ≡ standing (headed up) (listsIn u c) (grains (c .target)) n p₀)
-    × (twice + twiceTo (headed up) (listsIn u c) (grains (c .target)) n p ≡ twiceTo (headed up) (listsIn u c) (grains (c .target)) n p₀)
+    × (standing (headed up) (listsBy l c) (grains (c .target)) n p ≡ standing (headed up) (listsBy l c) (grains (c .target)) n p₀)
+    × (twice + twiceTo (headed up) (listsBy l c) (grains (c .target)) n p ≡ twiceTo (headed up) (listsBy l c) (grains (c .target)) n p₀)
     × (twice ≤ (p .second - p₀ .second) * 549755813888)
 
 abbrev μ-loop : tie.MeasureT-loop
-μ-loop u c up n p₀ twice₀ p twice = n - p .second
+μ-loop l c up n p₀ twice₀ p twice = n - p .second
 
 gone : (c : tie.After-walk-on Inv-loop μ-loop) →
     let s = c .before .before .before .before in
-    Goes (headed (s .args .up)) (listsIn (s .args .u) (s .args .c)) (grains (s .args .c .target)) (s .args .n) (c .before .before .before .loop .p) (c .walk-on .result)
+    Goes (headed (s .args .up)) (listsBy (s .args .l) (s .args .c)) (grains (s .args .c .target)) (s .args .n) (c .before .before .before .loop .p) (c .walk-on .result)
 gone c =
     let s = c .before .before .before .before in
     let l = c .before .before .before .loop in
-    rw (c .walk-on .ensures) (onward-goes (headed (s .args .up)) (listsIn (s .args .u) (s .args .c)) (grains (s .args .c .target)) (s .args .n) (l .p) (c .before .if1 .taken) (l .inv .2))
+    rw (c .walk-on .ensures) (onward-goes (headed (s .args .up)) (listsBy (s .args .l) (s .args .c)) (grains (s .args .c .target)) (s .args .n) (l .p) (c .before .if1 .taken) (l .inv .2))
 
 low : (c : tie.After-walk-on Inv-loop μ-loop) → c .walk-on .result .level < 274877906944
 unfolding grains
@@ -74,7 +74,7 @@ returns c =
     let l = c .before .before .loop in
     let s = c .before .before .before in
     let h = headed (s .args .up) in
-    let ls = listsIn (s .args .u) (s .args .c) in
+    let ls = listsBy (s .args .l) (s .args .c) in
     let t = grains (s .args .c .target) in (
       sym (standing-here h ls t (s .args .n) (l .p) (omega arith)) ∙ l .inv .4,
       omega (arith, twice-here h ls t (s .args .n) (l .p) (omega arith), l .inv .5),

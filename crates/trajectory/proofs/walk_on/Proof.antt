@@ -1,5 +1,5 @@
 use Rattle.trajectory.proofs.Onward.{onward-hold, onward-rest, onward-along, reaches-stop}
-use Rattle.trajectory.specs.Ways.{headed, listsIn}
+use Rattle.trajectory.specs.Ways.{headed, listsBy}
 use Rattle.course.proofs.Near.{short-past}
 use Rattle.level.specs.Level.{grains}
 use native.Mathlib.Omega.{arith}
@@ -14,7 +14,7 @@ after-hold-requires c κs = search needs
 returns : tie.Need-returns
 returns c =
     let s = c .before .before .before in
-    c .after-hold .ensures ∙ onward-hold (headed (s .args .up)) (listsIn (s .args .u) (s .args .c)) (grains (s .args .c .target)) (s .args .n) (s .args .p) (c .before .if1 .taken)
+    c .after-hold .ensures ∙ onward-hold (headed (s .args .up)) (listsBy (s .args .l) (s .args .c)) (grains (s .args .c .target)) (s .args .n) (s .args .p) (c .before .if1 .taken)
 
 grains-of-requires : tie.Need-grains-of-requires
 grains-of-requires c κs = search needs
@@ -25,7 +25,7 @@ after-rest-requires c κs = search needs
 returns-2 : tie.Need-returns-2
 returns-2 c =
     let s = c .before .before .before .before .before .before in
-    c .after-rest .ensures ∙ onward-rest (headed (s .args .up)) (listsIn (s .args .u) (s .args .c)) (grains (s .args .c .target)) (s .args .n) (s .args .p) (c .before .before .before .before .if1 .left) (omega arith)
+    c .after-rest .ensures ∙ onward-rest (headed (s .args .up)) (listsBy (s .args .l) (s .args .c)) (grains (s .args .c .target)) (s .args .n) (s .args .p) (c .before .before .before .before .if1 .left) (omega arith)
 
 segment-from-requires : tie.Need-segment-from-requires
 segment-from-requires c κs = search needs
@@ -35,13 +35,13 @@ along-segment-requires c κs =
     let s = c .before .before .before .before .before .before in
     let h = headed (s .args .up) in
     let t = grains (s .args .c .target) in
-    (s .pre .0, rw (c .segment-from .ensures) (reaches-stop h (listsIn (s .args .u) (s .args .c)) t (s .args .p .level) (short-past h t (s .args .p .level) (s .pre .1) (λ e. omega arith)) (omega arith)))
+    (s .pre .0, rw (c .segment-from .ensures) (reaches-stop h (listsBy (s .args .l) (s .args .c)) t (s .args .p .level) (short-past h t (s .args .p .level) (s .pre .1) (λ e. omega arith)) (omega arith)))
 
 returns-3 : tie.Need-returns-3
 returns-3 c =
     let s = c .before .before .before .before .before .before .before in
     rw (c .along-segment .ensures, c .before .segment-from .ensures)
-    (onward-along (headed (s .args .up)) (listsIn (s .args .u) (s .args .c)) (grains (s .args .c .target)) (s .args .n) (s .args .p) (c .before .before .before .before .before .if1 .left) (λ e. omega arith))
+    (onward-along (headed (s .args .up)) (listsBy (s .args .l) (s .args .c)) (grains (s .args .c .target)) (s .args .n) (s .args .p) (c .before .before .before .before .before .if1 .left) (λ e. omega arith))
 
 pub walk-on-spec : {M : Type 1} → statement M
 walk-on-spec =

@@ -1,7 +1,7 @@
 use Prim.Native.Nat.{_≤_, _-_, max}
 use Rattle.trajectory.proofs.Goes.{Goes, onward-goes, standing-on, standing-here}
 use Rattle.trajectory.specs.Walk.{standing}
-use Rattle.trajectory.specs.Ways.{headed, listsIn}
+use Rattle.trajectory.specs.Ways.{headed, listsBy}
 use Rattle.course.proofs.Near.{Short}
 use Rattle.level.specs.Level.{grains}
 use native.Mathlib.Omega.{arith}
@@ -10,21 +10,21 @@ use Rattle.trajectory.proofs.walk_to.Statement.{statement}
 use Rattle.trajectory.proofs.walk_to.Tie as tie
 
 abbrev Inv-loop : tie.InvT-loop
-Inv-loop u c up n p₀ p =
+Inv-loop l c up n p₀ p =
     (p .second ≤ n) × Short (headed up) (grains (c .target)) (p .level)
-    × (standing (headed up) (listsIn u c) (grains (c .target)) n p ≡ standing (headed up) (listsIn u c) (grains (c .target)) n p₀)
+    × (standing (headed up) (listsBy l c) (grains (c .target)) n p ≡ standing (headed up) (listsBy l c) (grains (c .target)) n p₀)
     × (p .level ≤ max (p₀ .level) (grains (c .target)))
 
 abbrev μ-loop : tie.MeasureT-loop
-μ-loop u c up n p₀ p = n - p .second
+μ-loop l c up n p₀ p = n - p .second
 
 gone : (c : tie.After-walk-on Inv-loop μ-loop) →
     let s = c .before .before .before .before in
-    Goes (headed (s .args .up)) (listsIn (s .args .u) (s .args .c)) (grains (s .args .c .target)) (s .args .n) (c .before .before .before .loop .p) (c .walk-on .result)
+    Goes (headed (s .args .up)) (listsBy (s .args .l) (s .args .c)) (grains (s .args .c .target)) (s .args .n) (c .before .before .before .loop .p) (c .walk-on .result)
 gone c =
     let s = c .before .before .before .before in
     let l = c .before .before .before .loop in
-    rw (c .walk-on .ensures) (onward-goes (headed (s .args .up)) (listsIn (s .args .u) (s .args .c)) (grains (s .args .c .target)) (s .args .n) (l .p) (c .before .if1 .taken) (l .inv .1))
+    rw (c .walk-on .ensures) (onward-goes (headed (s .args .up)) (listsBy (s .args .l) (s .args .c)) (grains (s .args .c .target)) (s .args .n) (l .p) (c .before .if1 .taken) (l .inv .1))
 
 loop-holds : tie.Need-loop-holds Inv-loop μ-loop
 loop-holds c = (c .pre .0, c .pre .1, refl, omega arith)
@@ -45,7 +45,7 @@ returns : tie.Need-returns Inv-loop μ-loop
 returns c =
     let l = c .before .before .loop in
     let s = c .before .before .before in (
-      sym (standing-here (headed (s .args .up)) (listsIn (s .args .u) (s .args .c)) (grains (s .args .c .target)) (s .args .n) (l .p) (omega arith)) ∙ l .inv .2,
+      sym (standing-here (headed (s .args .up)) (listsBy (s .args .l) (s .args .c)) (grains (s .args .c .target)) (s .args .n) (l .p) (omega arith)) ∙ l .inv .2,
       l .inv .1,
       l .inv .3,
     )
