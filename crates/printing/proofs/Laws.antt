@@ -22,10 +22,12 @@ use Rattle.course.specs.Pieces.{piecesIn}
 use Rattle.course.proofs.Near.{Short}
 use Rattle.profile.specs.Profile.{beginOf, spansOf, dayPieces, rounded}
 use Rattle.day.specs.Day.{halfHours, daySeconds, noCourse, quantityAt}
+use Rattle.trajectory.specs.declared.OwnLists.{OwnLists}
 use Rattle.trajectory.specs.declared.Place.{Place}
-use Rattle.trajectory.specs.Ways.{headed, listsIn}
+use Rattle.trajectory.specs.Ways.{headed, ownLists, listsBy}
 use Rattle.trajectory.specs.Walk.{beginning, pieceBetween, onward, piecesLeft}
 use Rattle.trajectory.proofs.Left.{left-none, onward-first, all-left}
+use Rattle.trajectory.proofs.Own.{own-left}
 use Rattle.lines.specs.Text.{fLine, sLine, qLine, laid}
 use Rattle.lines.proofs.Laws.{laid-part, laid-length}
 use Rattle.listing.specs.Listing.{fLines, sLines, runLines, qLines}
@@ -99,23 +101,23 @@ module _ (fs : List ℕ) (n i : ℕ) where
 -- ---- S lines of a course
 
 -- those of the pieces from the place p on, up to the second n
-abbrev pub pieces-left : UnitData → Course → Bool → ℕ → Place → List ℕ
-pieces-left u c up n p = sLines (piecesLeft (headed up) (listsIn u c) (grains (c .target)) n p)
+abbrev pub pieces-left : OwnLists → Course → Bool → ℕ → Place → List ℕ
+pieces-left l c up n p = sLines (piecesLeft (headed up) (listsBy l c) (grains (c .target)) n p)
 
-module _ (u : UnitData) (c : Course) (up : Bool) (n : ℕ) where
-  pub pieces-more : (p q : Place) → p .second < n → Short (headed up) (grains (c .target)) (p .level) → q ≡ onward (headed up) (listsIn u c) (grains (c .target)) n p →
-      pieces-left u c up n p ≡ pieceLine p q ++ pieces-left u c up n q
+module _ (l : OwnLists) (c : Course) (up : Bool) (n : ℕ) where
+  pub pieces-more : (p q : Place) → p .second < n → Short (headed up) (grains (c .target)) (p .level) → q ≡ onward (headed up) (listsBy l c) (grains (c .target)) n p →
+      pieces-left l c up n p ≡ pieceLine p q ++ pieces-left l c up n q
   unfolding sLines pieceLine pieceBetween
-  pieces-more p q h sh e = rw e (ap sLines (onward-first (headed up) (listsIn u c) (grains (c .target)) n p h sh))
+  pieces-more p q h sh e = rw e (ap sLines (onward-first (headed up) (listsBy l c) (grains (c .target)) n p h sh))
 
-  pub pieces-none : (p : Place) → n ≤ p .second → pieces-left u c up n p ≡ []
+  pub pieces-none : (p : Place) → n ≤ p .second → pieces-left l c up n p ≡ []
   unfolding sLines
-  pieces-none p h = ap sLines (left-none (headed up) (listsIn u c) (grains (c .target)) n p h)
+  pieces-none p h = ap sLines (left-none (headed up) (listsBy l c) (grains (c .target)) n p h)
 
   -- from the beginning: those of the course
-  pub pieces-all : up ≡ ltb (c .start .grains) (grains (c .target)) → (p : Place) → p ≡ beginning c (c .begin) →
-      pieces-left u c up n p ≡ courseLines u c n
-  pieces-all rises p e = rw e (ap sLines (all-left u c up rises (c .begin) n))
+  pub pieces-all : (u : UnitData) → l ≡ ownLists u c up → up ≡ ltb (c .start .grains) (grains (c .target)) → (p : Place) → p ≡ beginning c (c .begin) →
+      pieces-left l c up n p ≡ courseLines u c n
+  pieces-all u o rises p e = rw e (ap sLines (own-left u c up l o (grains (c .target)) n (beginning c (c .begin)) ∙ all-left u c up rises (c .begin) n))
 
 -- ---- S lines of courses
 s-append : (ps qs : List Piece) → sLines (ps ++ qs) ≡ sLines ps ++ sLines qs

@@ -1,20 +1,22 @@
 -- A course's own lists do for it what the unit's do: a heading never looks at the other's ramp.
 -- Assumes nothing.
-use Prim.Native.Nat.{ℕ, zero, suc, _-_, min}
+use Prim.Native.Nat.{ℕ, zero, suc, _+_, _-_, min}
 use mathlib.Core.Path.{_≡_, refl, ap}
-use mathlib.Core.List.{List, [], _∷_}
+use mathlib.Core.List.{List, [], _∷_, _++_}
 use mathlib.Core.Bool.{Bool, true, false}
 use lib.Dec.{ltb, eqb}
 use lib.ListN.{length}
 use Rattle.level.specs.Choice.{pick}
+use Rattle.segments.specs.declared.Segment.{Segment}
 use Rattle.records.specs.declared.UnitData.{UnitData}
 use Rattle.course.specs.declared.Course.{Course}
 use Rattle.course.specs.Lists.{Lists, ratesOf, listsOf}
 use Rattle.course.specs.Course.{Heading, Moment, toward, gap, inUse, rateAt, breaksInUse, triggers, candidates, nextStop, holdAt, arrived, second, after, stopsFrom, segmentsOf}
+use Rattle.course.specs.Pieces.{piece, piecesOf}
 use Rattle.trajectory.specs.declared.OwnLists.{OwnLists}
 use Rattle.trajectory.specs.declared.Place.{Place}
 use Rattle.trajectory.specs.Ways.{headed, listsIn, ownLists, listsBy}
-use Rattle.trajectory.specs.Walk.{momentOf, afterHold, afterRest, along, segmentTo, segmentFrom, onward, standing, segmentsFrom, twiceTo}
+use Rattle.trajectory.specs.Walk.{momentOf, afterHold, afterRest, along, segmentTo, segmentFrom, onward, standing, segmentsFrom, piecesLeft, twiceTo}
 use Rattle.trajectory.proofs.Areas.{area-same}
 
 -- two lists that a heading cannot tell apart
@@ -84,6 +86,9 @@ module _ (u : UnitData) (c : Course) (up : Bool) (l : OwnLists) (e : l ≡ ownLi
   pub alike : Alike (headed up) (listsBy l c) (listsIn u c)
   alike = rw e (own-alike u c up)
 
+  pub own-segments : (t v : ℕ) → segmentsFrom (headed up) (listsBy l c) t v ≡ segmentsFrom (headed up) (listsIn u c) t v
+  own-segments t v = alike-segments (headed up) (listsBy l c) (listsIn u c) alike t v
+
   module _ (t n : ℕ) (p : Place) where
     pub own-onward : onward (headed up) (listsBy l c) t n p ≡ onward (headed up) (listsIn u c) t n p
     own-onward = alike-onward (headed up) (listsBy l c) (listsIn u c) alike t n p
@@ -94,5 +99,8 @@ module _ (u : UnitData) (c : Course) (up : Bool) (l : OwnLists) (e : l ≡ ownLi
     pub own-twice : twiceTo (headed up) (listsBy l c) t n p ≡ twiceTo (headed up) (listsIn u c) t n p
     own-twice = alike-twice (headed up) (listsBy l c) (listsIn u c) alike t n p
 
-  pub own-segments : (t v : ℕ) → segmentsFrom (headed up) (listsBy l c) t v ≡ segmentsFrom (headed up) (listsIn u c) t v
-  own-segments t v = alike-segments (headed up) (listsBy l c) (listsIn u c) alike t v
+    pub own-left : piecesLeft (headed up) (listsBy l c) t n p ≡ piecesLeft (headed up) (listsIn u c) t n p
+    unfolding piecesLeft
+    own-left =
+        let held : ℕ = min (p .second + p .left) n in
+        ap (λ (ls : List Segment). piece (p .second) held (p .level) (p .level) ++ piecesOf (headed up) n held (p .level) ls) (own-segments t (p .level))
