@@ -7,7 +7,8 @@ use Prim.Native.Nat.{ℕ, zero, suc, _+_, _-_, _≤_, _<_, min}
 use native.Mathlib.Decide.{ℕ-discrete, decLe}
 use native.Mathlib.Omega.{arith}
 use lib.Dec.{leb, ltb, eqb}
-use lib.ListN.{length, getD}
+use lib.ListN.{length, take, getD, length-take}
+use lib.Seq.{getD-take}
 use borrow.Author.Tests.{le-ltb, le-leb, lt-leb, eq-eqb, ne-eqb}
 use Rattle.level.specs.Choice.{pick}
 use Rattle.level.specs.Lists.{some, those}
@@ -15,10 +16,10 @@ use Rattle.records.specs.Codes.{codeNumber}
 use Rattle.validation.specs.declared.Numbered.{Numbered}
 use Rattle.validation.specs.Kept.{effectiveOf, effectOf, superseded, group, highest, present, merged, usedOf, nextTime, usedFrom, used}
 use Rattle.keeping.specs.Outcome.{noNumbered}
-use Rattle.keeping.specs.Working.{holding, foundList, joined, issueOf, Rising, Run}
+use Rattle.keeping.specs.Working.{holding, foundList, joined, issueOf, supersedesAt, supersededAt, Rising, Run, Alone}
 use Rattle.keeping.specs.declared.Sequence.{Sequence}
 use Rattle.keeping.specs.declared.Found.{Found}
-use Rattle.keeping.proofs.Laws.{Begun, begun-none, begun-found}
+use Rattle.keeping.proofs.Laws.{Begun, begun-none, begun-found, supersedes-same, supersedes-other}
 use Rattle.keeping.proofs.Steps.{used-more, used-stop}
 
 -- ---- the next time
@@ -184,3 +185,25 @@ least-more ts i before h least j l = elim (ℕ-discrete j i) [ yes e ↦ rw e (o
 
 pub same-more : (ts : List ℕ) (from i t : ℕ) → getD ts i 0 ≡ t → ((j : ℕ) → from ≤ j → j < i → getD ts j 0 ≡ t) → (j : ℕ) → from ≤ j → j < i + 1 → getD ts j 0 ≡ t
 same-more ts from i t e same j p l = elim (ℕ-discrete j i) [ yes q ↦ rw q e | no n ↦ same j p (omega arith) ]
+
+-- ---- alone
+pub alone-between : (ts : List ℕ) (n at from r : ℕ) → Rising ts n → at < n → (0 < at → getD ts (at - 1) 0 ≡ getD ts at 0 → ⊥) → from ≡ at + 1 → r ≡ from → Run ts n (getD ts at 0) from r → Alone ts n at
+alone-between ts n at from r rising h before f e run j l ne q = elim (decLe at j) [
+  | yes p ↦ run .other (omega arith) (omega (arith, rising at r (omega arith) (omega arith), rising r j (omega arith) l))
+  | no p ↦ before (omega arith) (omega (arith, rising j (at - 1) (omega arith) (omega arith), rising (at - 1) at (omega arith) h))
+]
+
+supersedes-none : (ts js : List ℕ) (t issue : ℕ) → ((j : ℕ) → j < length ts → supersedesAt (getD ts j 0) (getD js j 0) t issue ≡ false) → supersededAt ts js t issue ≡ false
+unfolding supersededAt
+supersedes-none [] js t issue h = refl
+supersedes-none (x ∷ xs) [] t issue h = refl
+supersedes-none (x ∷ xs) (j ∷ js) t issue h = rw (h 0 (omega arith)) (supersedes-none xs js t issue (λ k l. h (suc k) (omega arith)))
+
+pub alone-stays : (ts js : List ℕ) (n at : ℕ) → at < n → Alone ts n at → supersededAt (take n ts) (take n js) (getD ts at 0) (getD js at 0) ≡ false
+alone-stays ts js n at h alone = supersedes-none (take n ts) (take n js) (getD ts at 0) (getD js at 0) (λ j l. each j (omega (arith, length-take n ts)))
+  where
+    each : (j : ℕ) → j < n → supersedesAt (getD (take n ts) j 0) (getD (take n js) j 0) (getD ts at 0) (getD js at 0) ≡ false
+    each j l = rw (getD-take n ts j 0 l, getD-take n js j 0 l) (elim (ℕ-discrete j at) [
+      | no ne ↦ sym (supersedes-other _ _ _ _ (alone j l ne))
+      | yes e ↦ rw e (sym (supersedes-same (getD ts at 0) (getD js at 0) (getD ts at 0) (getD js at 0) refl) ∙ le-ltb (getD js at 0) (getD js at 0) (omega arith))
+    ])

@@ -76,6 +76,10 @@ pub record Run (ts : List ℕ) (n t from r : ℕ) : Type 0 where
   pub same : (j : ℕ) → from ≤ j → j < r → getD ts j 0 ≡ t
   pub other : r < n → getD ts r 0 ≡ t → ⊥
 
+-- no other of the first n times is that at this place
+abbrev pub Alone : List ℕ → ℕ → ℕ → Type 0
+Alone ts n at = (j : ℕ) → j < n → (j ≡ at → ⊥) → getD ts j 0 ≡ getD ts at 0 → ⊥
+
 -- ---- step 3: the kept ones stand in an array, the latest last; fates by number in another, 2 where none is settled
 
 -- the first h places, the latest first

@@ -10,7 +10,7 @@ ghost use Rattle.records.specs.declared.Effect.the-variants.{Sync, Desy};
 ghost use Rattle.records.specs.Codes.{codeNumber};
 ghost use Rattle.validation.specs.Kept.{effectiveOf, effectOf, group, goesBefore, highest, orElse, present, carrying, merged, usedOf, numbered, used, Checked, failed, check, acting, actors, lateMarks};
 ghost use Rattle.keeping.specs.Outcome.{noNumbered, validationOf};
-ghost use Rattle.keeping.specs.Working.{holding, pushed, foundList, joined, earliest, issueOf, Timed, supersedesAt, supersededAt, earlierOf, nextAt, Rising, Run, topCode, repeatsCode, syncPlace, setFate, settled, lateAt, LateFates, voided, withFate, withinHour, noChecking, noneChecked, Tracks, Follows, fatesTo};
+ghost use Rattle.keeping.specs.Working.{holding, pushed, foundList, joined, earliest, issueOf, Timed, supersedesAt, supersededAt, earlierOf, nextAt, Rising, Run, Alone, topCode, repeatsCode, syncPlace, setFate, settled, lateAt, LateFates, voided, withFate, withinHour, noChecking, noneChecked, Tracks, Follows, fatesTo};
 
 // What steps 1 to 4 come to: the fates by number, those that act in time order, and how many these are.
 pub struct Validation {
@@ -386,6 +386,24 @@ fn run_end(times: &[u32; 40], n: usize, t: u32, from: usize) -> usize
         i += 1;
     }
     i
+}
+
+// In order, and with another time on either side: no other has the time at this place.
+fn stands_alone(times: &[u32; 40], n: usize, at: usize, ordered: bool) -> bool
+    requires { ⌜ (at < n) × (n ≤ 40) × (ordered ≡ true → Rising (now times) n) ⌝ }
+    ensures { λ r. ⌜ (r ≡ true → Alone (now (times .entry)) n at) ⌝ }
+{
+    if !ordered {
+        return false;
+    }
+    let t = times[at];
+    if at == 0 {
+        return run_end(times, n, t, 1) == 1;
+    }
+    if times[at - 1] == t {
+        return false;
+    }
+    run_end(times, n, t, at + 1) == at + 1
 }
 
 // Those used, where the times stand in order: those at one time stand side by side, and one alone is used as it is.
@@ -795,14 +813,20 @@ fn fates_of(times: &[u32; 40], issues: &[u32; 40], n: usize, later: [u8; 40]) ->
     ensures { λ r. ⌜ r ≡ filled 40 0 (fatesTo (take n (now (times .entry))) (take n (now (issues .entry))) later n) ⌝ }
 {
     let mut out = [0u8; 40];
+    let ordered = in_order(times, n);
     let mut i: usize = 0;
     while i < n {
-        let t = times[i];
-        let issue = issues[i];
-        let superseded = is_superseded(times, issues, n, t, issue);
-        let fate = later[i];
-        out[i] = final_fate(superseded, fate);
+        let at = i;
         i += 1;
+        let fate = later[at];
+        if stands_alone(times, n, at, ordered) {
+            out[at] = fate;
+            continue;
+        }
+        let t = times[at];
+        let issue = issues[at];
+        let superseded = is_superseded(times, issues, n, t, issue);
+        out[at] = final_fate(superseded, fate);
     }
     out
 }
