@@ -8,7 +8,7 @@ mod cases;
 mod days;
 mod product;
 
-use product::{product_listing, run_program, LINKED, PROFILER};
+use product::{product_listing, run_program, run_program_open, LINKED, PROFILER};
 use reference::calls::calls;
 use reference::day::profile_input;
 use reference::records::Unit;
@@ -218,6 +218,7 @@ fn vectors(options: &Options, all: &mut (u64, u64)) {
     let mut theirs = Tally::new("vectors, product");
     let mut linked = Tally::new("vectors, product in this process");
     let mut pieces = Tally::new("vectors, plain Rust by segments");
+    let mut open = Tally::new("vectors, input left open");
     for path in names {
         let name = path.file_stem().unwrap().to_string_lossy().to_string();
         let records = std::fs::read(&path).unwrap();
@@ -225,6 +226,10 @@ fn vectors(options: &Options, all: &mut (u64, u64)) {
         own.check(&name, difference(&printed, &reference::profiler(&records)));
         theirs.check(&name, difference(&printed, &run_program(&options.profiler, &records)));
         pieces.check(&name, difference(&printed, &by_segments(&records)));
+        // With too few bytes the program waits for more; any other answer comes at close or at the refusal.
+        if printed != b"X 2\n" {
+            open.check(&name, difference(&printed, &run_program_open(&options.profiler, &records)));
+        }
         if LINKED {
             linked.check(&name, difference(&printed, &product_listing(&records)));
         }
@@ -232,6 +237,7 @@ fn vectors(options: &Options, all: &mut (u64, u64)) {
     own.done(all);
     theirs.done(all);
     pieces.done(all);
+    open.done(all);
     if LINKED {
         linked.done(all);
     }

@@ -71,6 +71,16 @@ const PATIENCE: Duration = Duration::from_secs(60);
 /// Runs a program on these bytes of standard input: what it printed, and a note if it did not end by itself.
 #[allow(dead_code)]
 pub fn run_program(program: &Path, input: &[u8]) -> Vec<u8> {
+    run(program, input, false)
+}
+
+/// The same with a standard input that stays open after these bytes, at most 16,384.
+#[allow(dead_code)]
+pub fn run_program_open(program: &Path, input: &[u8]) -> Vec<u8> {
+    run(program, input, true)
+}
+
+fn run(program: &Path, input: &[u8], open: bool) -> Vec<u8> {
     let mut child = Command::new(program)
         .stdin(Stdio::piped())
         .stdout(Stdio::piped())
@@ -83,8 +93,11 @@ pub fn run_program(program: &Path, input: &[u8]) -> Vec<u8> {
     // The program may stop reading at close; that is no error. What fits in a pipe is written before anything is read.
     let (front, rest) = input.split_at(input.len().min(16_384));
     let _ = stdin.write_all(front);
+    let mut kept = None;
     std::thread::scope(|scope| {
-        if rest.is_empty() {
+        if open {
+            kept = Some(stdin);
+        } else if rest.is_empty() {
             drop(stdin);
         } else {
             scope.spawn(move || {
@@ -103,5 +116,6 @@ pub fn run_program(program: &Path, input: &[u8]) -> Vec<u8> {
     if child.wait().unwrap().code().is_none() {
         out.extend_from_slice(b"(ended by a signal)\n");
     }
+    drop(kept);
     out
 }

@@ -1,0 +1,39 @@
+use mathlib.Core.Path.{sym}
+use native.Mathlib.Omega.{arith}
+use lib.Seq.{length-take-le}
+use borrow.Author.Needs.{needs}
+use Rattle.profiler.proofs.list_first.Statement.{statement}
+use Rattle.profiler.proofs.list_first.Tie as tie
+use Rattle.profiler.proofs.list_first.Reads as reads
+use Rattle.profiler.proofs.list_first.Lts as lts
+use Rattle.gristpebble.proofs.gristpebble_listing.Reads as gristpebble-listing-reads
+
+-- src/main.rt:49:9
+returns : tie.Need-returns
+returns c = search needs
+
+-- src/main.rt:51:38
+slice-aggregate-gristpebble-listing : tie.Need-slice-aggregate-gristpebble-listing
+slice-aggregate-gristpebble-listing c = sym (length-take-le _ _ (omega arith))
+
+-- src/main.rt:51:5
+gristpebble-listing-requires : tie.Need-gristpebble-listing-requires
+gristpebble-listing-requires c κs = search needs
+
+-- src/main.rt:47:1
+same-length : tie.Need-same-length
+same-length c = search needs
+
+-- src/main.rt:47:1
+returns-2 : tie.Need-returns-2
+returns-2 c = search needs
+
+pub list-first-spec : {M : Type 1} → statement M
+list-first-spec =
+    tie.close
+    (tie.spec
+    returns
+    slice-aggregate-gristpebble-listing
+    gristpebble-listing-requires
+    same-length
+    returns-2)
