@@ -4,7 +4,7 @@ use Prim.Native.Nat.{ℕ, zero, suc, _+_, _*_, _-_, _<_, _≤_}
 use native.Mathlib.Omega.{arith}
 use mathlib.Core.Path.{_≡_, refl, sym, ap, _∙_}
 use mathlib.Core.List.{List}
-use mathlib.Core.Bool.{Bool, true, false}
+use mathlib.Core.Bool.{Bool, true, false, not}
 use lib.ListN.{length, take, drop, length-drop}
 use lib.Seq.{take-all, drop-drop}
 use Rattle.records.specs.declared.Answer.{Answer}
@@ -19,7 +19,10 @@ use Rattle.day.specs.declared.Ran.{Ran}
 use Rattle.day.specs.Day.{empty, foundIn, withInstruction}
 use Rattle.day.specs.Step.{stepOf}
 use Rattle.listing.specs.declared.Listed.{Listed}
-use Rattle.listing.specs.Listing.{listOf, lentAfter}
+use Rattle.lines.specs.Text.{laid}
+use Rattle.listing.specs.Listing.{printedDay, listOf, lentAfter}
+use Rattle.printing.specs.Rest.{someListing}
+use Rattle.printing.proofs.Whole.{ask-room}
 use Rattle.gristpebble.specs.Listed.{inOne, listResult, afterRun, lentRun, listedResult, listedLent}
 use Rattle.records.specs.declared.Instruction.{Instruction}
 use Rattle.records.specs.Records.{instructionOf}
@@ -111,6 +114,10 @@ module _ (d : Day) (o : List ℕ) (l : Listed) (made : l ≡ listOf d o) where
 
   pub list-refused : {r : Refusal} → l .answer ≡ Refused r → refusalNumber r * 4294967296 ≡ listResult d o
   list-refused a = ap (λ (x : Answer). inOne x (listOf d o .count)) (sym (sym (ap (λ (x : Listed). x .answer) made) ∙ a))
+
+-- a closed day, where there is room
+pub list-room : (d : Day) (o : List ℕ) → d .closed ≡ true → length (printedDay d) ≤ length o → (length (printedDay d) ≡ listResult d o) × (laid (printedDay d) o ≡ lentAfter d o)
+list-room d o c h = let a = ask-room d o (ap not c) h in (list-accepted d o (someListing (length (printedDay d))) (a .0) refl, a .1)
 
 -- ---- a run's result
 module _ (s o : List ℕ) (r : Ran) (made : r ≡ ranBy (foundIn paper) s) where

@@ -1,7 +1,7 @@
 -- The day of a run that is accepted is closed, and its listing has at most 46,080 bytes: a run is a list of calls.
 -- Assumes nothing.
 use Prim.Native.Nat.{ℕ, zero, suc, _≤_}
-use mathlib.Core.Path.{_≡_, refl, ap, sym, _∙_}
+use mathlib.Core.Path.{_≡_, refl, ap, sym, _∙_, subst}
 use mathlib.Core.List.{List, [], _∷_}
 use mathlib.Core.Bool.{Bool, true, false}
 use lib.ListN.{length, drop}
@@ -71,3 +71,7 @@ ran-fits s h =
     let calls : List Call = callsIn (length s) empty s in
     let e : dayAfter calls ≡ runBy (foundIn paper) (length s) empty s .day = calls-leave (length s) empty s in
     (c, rw e at (listing-suffices calls (ap (λ (d : Day). d .closed) e ∙ c)))
+
+pub run-fits : (s : List ℕ) (r : Ran) → r ≡ ranBy (foundIn paper) s → r .answer ≡ Accepted → (r .day .closed ≡ true) × (length (printedDay (r .day)) ≤ 46080)
+run-fits s r made a =
+    subst (λ (x : Ran). (x .day .closed ≡ true) × (length (printedDay (x .day)) ≤ 46080)) (sym made) (ran-fits s (sym (ap (λ (x : Ran). x .answer) made) ∙ a))

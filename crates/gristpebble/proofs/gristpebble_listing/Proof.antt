@@ -1,5 +1,6 @@
 use mathlib.Core.Path.{_≡_, _∙_}
 use Rattle.gristpebble.proofs.Laws.{run-listed, run-refused}
+use Rattle.gristpebble.proofs.Room.{run-fits}
 use borrow.Author.Needs.{needs}
 use Rattle.gristpebble.proofs.gristpebble_listing.Statement.{statement}
 use Rattle.gristpebble.proofs.gristpebble_listing.Tie as tie
@@ -16,7 +17,7 @@ enum-told : tie.Need-enum-told
 enum-told c = search needs
 
 list-day-requires : tie.Need-list-day-requires
-list-day-requires c κs = search needs
+list-day-requires c κs = run-fits _ (c .before .before .before .before .run .result) (c .before .before .before .before .run .ensures) (c .before .enum-told .given .1)
 
 enum-known-a : tie.Need-enum-known-a
 enum-known-a c = search needs

@@ -1,5 +1,6 @@
 use mathlib.Core.Path.{_≡_, _∙_}
-use Rattle.gristpebble.proofs.Laws.{list-accepted, list-refused}
+use native.Mathlib.Omega.{arith}
+use Rattle.gristpebble.proofs.Laws.{list-room, list-accepted, list-refused}
 use borrow.Author.Needs.{needs}
 use Rattle.gristpebble.proofs.list_day.Statement.{statement}
 use Rattle.gristpebble.proofs.list_day.Tie as tie
@@ -7,41 +8,69 @@ use Rattle.gristpebble.proofs.list_day.Reads as reads
 use Rattle.gristpebble.proofs.list_day.Lts as lts
 use Rattle.gristpebble.proofs.refusal_result.Reads as refusal-result-reads
 use Rattle.printing.proofs.list.Reads as list-reads
+use Rattle.printing.proofs.put_day.Reads as put-day-reads
 
-list-requires : tie.Need-list-requires
-list-requires c κs = search needs
+-- src/lib.rt:76:13
+put-day-requires : tie.Need-put-day-requires
+put-day-requires c κs = search needs
 
-enum-told : tie.Need-enum-told
-enum-told c = search needs
-
-enum-known-a : tie.Need-enum-known-a
-enum-known-a c = search needs
-
-refusal-result-requires : tie.Need-refusal-result-requires
-refusal-result-requires c κs = search needs
-
+-- src/lib.rt:77:9
 same-length : tie.Need-same-length
 same-length c = search needs
 
+-- src/lib.rt:77:9
 returns : tie.Need-returns
-returns c = (list-accepted _ _ (c .before .before .before .before .list .result) (c .before .before .before .before .list .ensures .0) (c .enum-told .given .1), c .before .before .before .before .list .ensures .1)
+returns c =
+    let s = c .before .before .before .before .before .before in
+    let p = c .before .before .put-day in
+    let a = list-room (s .args .day) (s .args .out .now) (s .pre .0) (omega (arith, s .pre .1, c .before .before .before .before .if1 .taken)) in
+    (p .ensures .0 ∙ a .0, p .ensures .1 ∙ a .1)
 
+-- src/lib.rt:79:9
+list-requires : tie.Need-list-requires
+list-requires c κs = search needs
+
+-- src/lib.rt:82:29
+enum-told : tie.Need-enum-told
+enum-told c = search needs
+
+-- src/lib.rt:83:25
+enum-known-a : tie.Need-enum-known-a
+enum-known-a c = search needs
+
+-- src/lib.rt:83:31
+refusal-result-requires : tie.Need-refusal-result-requires
+refusal-result-requires c κs = search needs
+
+-- src/lib.rt:71:1
 same-length-2 : tie.Need-same-length-2
 same-length-2 c = search needs
 
+-- src/lib.rt:71:1
 returns-2 : tie.Need-returns-2
-returns-2 c =
+returns-2 c = (list-accepted _ _ (c .before .before .before .before .list .result) (c .before .before .before .before .list .ensures .0) (c .enum-told .given .1), c .before .before .before .before .list .ensures .1)
+
+-- src/lib.rt:71:1
+same-length-3 : tie.Need-same-length-3
+same-length-3 c = search needs
+
+-- src/lib.rt:71:1
+returns-3 : tie.Need-returns-3
+returns-3 c =
     (c .refusal-result .ensures ∙ list-refused _ _ (c .before .before .before .before .before .before .list .result) (c .before .before .before .before .before .before .list .ensures .0) (c .before .before .a .given .1), c .before .before .before .before .before .before .list .ensures .1)
 
 pub list-day-spec : {M : Type 1} → statement M
 list-day-spec =
     tie.close
     (tie.spec
+    put-day-requires
+    same-length
+    returns
     list-requires
     enum-told
     enum-known-a
     refusal-result-requires
-    same-length
-    returns
     same-length-2
-    returns-2)
+    returns-2
+    same-length-3
+    returns-3)
