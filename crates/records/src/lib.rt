@@ -242,11 +242,18 @@ fn wide(x: u8) -> u32
     x as u32
 }
 
-// The number whose four bytes begin at a place.
+// The number whose four bytes begin at a place. Where the body has all four, the compiler reads them at once.
 pub fn number(body: &[u8], at: usize) -> u32
     requires { ⌜ at < 2 ^ 32 ⌝ }
     ensures { λ r. ⌜ r ≡ numberAt (now (body .entry)) at ⌝ }
 {
+    if at + 4 <= body.len() {
+        let a = wide(body[at]);
+        let b = wide(body[at + 1]);
+        let c = wide(body[at + 2]);
+        let d = wide(body[at + 3]);
+        return a * 16777216 + b * 65536 + c * 256 + d;
+    }
     let a = wide(byte(body, at));
     let b = wide(byte(body, at + 1));
     let c = wide(byte(body, at + 2));
