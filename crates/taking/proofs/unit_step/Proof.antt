@@ -10,9 +10,9 @@ use Rattle.taking.proofs.unit_step.Statement.{statement}
 use Rattle.taking.proofs.unit_step.Tie as tie
 use Rattle.taking.proofs.unit_step.Reads as reads
 use Rattle.taking.proofs.unit_step.Lts as lts
-use Rattle.records.proofs.unit_answer.Reads as unit-answer-reads
-use Rattle.records.proofs.unit_numbers.Reads as unit-numbers-reads
-use Rattle.records.proofs.unit_of.Reads as unit-of-reads
+use Rattle.units.proofs.unit_answer.Reads as unit-answer-reads
+use Rattle.units.proofs.unit_numbers.Reads as unit-numbers-reads
+use Rattle.units.proofs.unit_of.Reads as unit-of-reads
 use Rattle.taking.proofs.accepted.Reads as accepted-reads
 use Rattle.taking.proofs.refused.Reads as refused-reads
 use Rattle.taking.proofs.with_unit.Reads as with-unit-reads

@@ -1,10 +1,10 @@
 use borrow.Author.Needs.{needs}
 use Rattle.records.specs.Records.{columnOf}
-use Rattle.records.proofs.column_of.Statement.{statement}
-use Rattle.records.proofs.column_of.Tie as tie
-use Rattle.records.proofs.column_of.Reads as reads
-use Rattle.records.proofs.column_of.Lts as lts
-use Rattle.records.proofs.trigger_of.Reads as trigger-of-reads
+use Rattle.units.proofs.column_of.Statement.{statement}
+use Rattle.units.proofs.column_of.Tie as tie
+use Rattle.units.proofs.column_of.Reads as reads
+use Rattle.units.proofs.column_of.Lts as lts
+use Rattle.units.proofs.trigger_of.Reads as trigger-of-reads
 
 add-t9 : tie.Need-add-t9
 add-t9 c = search needs

@@ -8,12 +8,12 @@ use native.Mathlib.Numerals.{add-one}
 use borrow.Author.Needs.{needs}
 use lib.ListN.{length, take, set, length-set}
 use lib.Seq.{take-suc-set, take-all}
 use Rattle.records.specs.Records.{numberAt, numbers}
-use Rattle.records.proofs.unit_numbers.Statement.{statement}
-use Rattle.records.proofs.unit_numbers.Tie as tie
-use Rattle.records.proofs.unit_numbers.Reads as reads
-use Rattle.records.proofs.unit_numbers.Lts as lts
+use Rattle.units.proofs.unit_numbers.Statement.{statement}
+use Rattle.units.proofs.unit_numbers.Tie as tie
+use Rattle.units.proofs.unit_numbers.Reads as reads
+use Rattle.units.proofs.unit_numbers.Lts as lts
 use Rattle.records.proofs.number.Reads as number-reads
 
 abbrev Inv-loop : tie.InvT-loop
 Inv-loop s out₀ i₀ out i = (i ≤ 62) × (length out ≡ 62) × (take i out ≡ numbers s i)

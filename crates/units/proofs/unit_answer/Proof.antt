@@ -1,12 +1,12 @@
 use borrow.Author.Needs.{needs}
-use Rattle.records.proofs.Laws.{unit-out, unit-disagreeing, unit-taken}
-use Rattle.records.proofs.unit_answer.Statement.{statement}
-use Rattle.records.proofs.unit_answer.Tie as tie
-use Rattle.records.proofs.unit_answer.Reads as reads
-use Rattle.records.proofs.unit_answer.Lts as lts
-use Rattle.records.proofs.all_fit.Reads as all-fit-reads
-use Rattle.records.proofs.unit_disagrees.Reads as unit-disagrees-reads
-use Rattle.records.proofs.unit_of.Reads as unit-of-reads
+use Rattle.units.proofs.Laws.{unit-out, unit-disagreeing, unit-taken}
+use Rattle.units.proofs.unit_answer.Statement.{statement}
+use Rattle.units.proofs.unit_answer.Tie as tie
+use Rattle.units.proofs.unit_answer.Reads as reads
+use Rattle.units.proofs.unit_answer.Lts as lts
+use Rattle.units.proofs.all_fit.Reads as all-fit-reads
+use Rattle.units.proofs.unit_disagrees.Reads as unit-disagrees-reads
+use Rattle.units.proofs.unit_of.Reads as unit-of-reads
 
 all-fit-requires : tie.Need-all-fit-requires
 all-fit-requires c κs = search needs

@@ -3,12 +3,12 @@ use mathlib.Core.Path.{_≡_, refl, sym, _∙_}
 use native.Mathlib.Omega.{arith}
 use borrow.Author.Needs.{needs}
 use lib.ListN.{drop}
 use Rattle.records.specs.Fields.{aLevel, aMaximum, aRate, aHold, aBoundary, columnRanges, rampRanges, unitRanges, fitFrom}
-use Rattle.records.proofs.Laws.{lowsOf, highsOf, fit-below, fit-above, fit-next}
-use Rattle.records.proofs.all_fit.Statement.{statement}
-use Rattle.records.proofs.all_fit.Tie as tie
-use Rattle.records.proofs.all_fit.Reads as reads
-use Rattle.records.proofs.all_fit.Lts as lts
+use Rattle.units.proofs.Laws.{lowsOf, highsOf, fit-below, fit-above, fit-next}
+use Rattle.units.proofs.all_fit.Statement.{statement}
+use Rattle.units.proofs.all_fit.Tie as tie
+use Rattle.units.proofs.all_fit.Reads as reads
+use Rattle.units.proofs.all_fit.Lts as lts
 
 -- what is left to look at says what the whole says
 abbrev Inv-loop : tie.InvT-loop

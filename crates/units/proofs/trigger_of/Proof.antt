@@ -1,10 +1,10 @@
 use mathlib.Core.Path.{refl}
 use borrow.Author.Needs.{needs}
 use Rattle.records.specs.Records.{triggerOf}
-use Rattle.records.proofs.trigger_of.Statement.{statement}
-use Rattle.records.proofs.trigger_of.Tie as tie
-use Rattle.records.proofs.trigger_of.Reads as reads
-use Rattle.records.proofs.trigger_of.Lts as lts
+use Rattle.units.proofs.trigger_of.Statement.{statement}
+use Rattle.units.proofs.trigger_of.Tie as tie
+use Rattle.units.proofs.trigger_of.Reads as reads
+use Rattle.units.proofs.trigger_of.Lts as lts
 
 mul-t5 : tie.Need-mul-t5
 mul-t5 c = search needs

@@ -2,14 +2,14 @@ use mathlib.Core.Path.{_≡_}
 use mathlib.Core.List.{[], _∷_}
 use lib.ListN.{getD}
 use borrow.Author.Needs.{needs}
 use Rattle.records.specs.Records.{triggerOf, columnOf, unitOf}
-use Rattle.records.proofs.unit_of.Statement.{statement}
-use Rattle.records.proofs.unit_of.Tie as tie
-use Rattle.records.proofs.unit_of.Reads as reads
-use Rattle.records.proofs.unit_of.Lts as lts
-use Rattle.records.proofs.column_of.Reads as column-of-reads
-use Rattle.records.proofs.ramp_of.Reads as ramp-of-reads
-use Rattle.records.proofs.trigger_of.Reads as trigger-of-reads
+use Rattle.units.proofs.unit_of.Statement.{statement}
+use Rattle.units.proofs.unit_of.Tie as tie
+use Rattle.units.proofs.unit_of.Reads as reads
+use Rattle.units.proofs.unit_of.Lts as lts
+use Rattle.units.proofs.column_of.Reads as column-of-reads
+use Rattle.units.proofs.ramp_of.Reads as ramp-of-reads
+use Rattle.units.proofs.trigger_of.Reads as trigger-of-reads
 
 column-of-requires : tie.Need-column-of-requires
 column-of-requires c κs = search needs

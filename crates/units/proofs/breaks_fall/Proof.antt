@@ -3,12 +3,12 @@ use mathlib.Core.Path.{_≡_, refl, sym, _∙_}
 use native.Mathlib.Omega.{arith}
 use borrow.Author.Needs.{needs}
 use lib.ListN.{length, drop}
 use Rattle.records.specs.Fields.{falls, fallsBelow}
-use Rattle.records.proofs.Laws.{fall-here, fall-next, fall-none}
-use Rattle.records.proofs.breaks_fall.Statement.{statement}
-use Rattle.records.proofs.breaks_fall.Tie as tie
-use Rattle.records.proofs.breaks_fall.Reads as reads
-use Rattle.records.proofs.breaks_fall.Lts as lts
+use Rattle.units.proofs.Laws.{fall-here, fall-next, fall-none}
+use Rattle.units.proofs.breaks_fall.Statement.{statement}
+use Rattle.units.proofs.breaks_fall.Tie as tie
+use Rattle.units.proofs.breaks_fall.Reads as reads
+use Rattle.units.proofs.breaks_fall.Lts as lts
 
 -- what is left to look at says what the whole says
 abbrev Inv-loop : tie.InvT-loop
