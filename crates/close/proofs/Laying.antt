@@ -19,7 +19,7 @@ use Rattle.records.specs.Codes.{same}
 use Rattle.validation.specs.declared.Numbered.{Numbered}
 use Rattle.validation.specs.Kept.{Mark, mark, numbered, superseded, effectOf, effectiveOf, repeats, syncWithinHour, fromSync, Checked, failed, checkOne, check, used, overtaken, acting, lateFate, lateMarks, turned, keptOf, validated, fateAmong, fatesOf}
 use Rattle.validation.proofs.Few.{numbered-length, fates-length}
-use Rattle.keeping.specs.Outcome.{noNumbered}
+use Rattle.choosing.specs.Working.{noNumbered}
 use Rattle.profile.specs.declared.UnderWay.{UnderWay}
 use Rattle.profile.specs.declared.State.{State}
 use Rattle.profile.specs.State.{byRule}

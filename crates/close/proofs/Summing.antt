@@ -19,7 +19,7 @@ use Rattle.course.specs.Course.{trajectoryOf}
 use Rattle.course.specs.Pieces.{piecesIn, twiceArea}
 use Rattle.trajectory.specs.Walk.{beginning, notedAt}
 use Rattle.trajectory.proofs.Noted.{noted-start, noted-is}
-use Rattle.keeping.proofs.Laws.{left-cons, left-none}
+use Rattle.choosing.proofs.Laws.{left-cons, left-none}
 use Rattle.profile.specs.Profile.{beginOf, spansOf, piecesTo}
 use Rattle.day.specs.Day.{noCourse}
 use Rattle.close.specs.Summing.{firstSum, Adds}

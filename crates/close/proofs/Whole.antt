@@ -18,8 +18,9 @@ use Rattle.validation.specs.Kept.{acting, numbered, validated}
 use Rattle.validation.proofs.Acting.{acting-rise}
 use Rattle.validation.proofs.Few.{numbered-length, acts-few}
 use Rattle.keeping.specs.declared.Validation.{Validation}
-use Rattle.keeping.specs.Outcome.{noNumbered, outcomeOf, validationOf}
-use Rattle.keeping.proofs.Laws.{filled-listed}
+use Rattle.choosing.specs.Working.{noNumbered}
+use Rattle.keeping.specs.Outcome.{outcomeOf, validationOf}
+use Rattle.choosing.proofs.Laws.{filled-listed}
 use Rattle.profile.specs.declared.UnderWay.{UnderWay}
 use Rattle.profile.specs.declared.State.{State}
 use Rattle.profile.specs.State.{byRule}

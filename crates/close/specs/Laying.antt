@@ -7,7 +7,7 @@ use lib.ListN.{getD, set}
 use Rattle.level.specs.Choice.{pick}
 use Rattle.validation.specs.declared.Numbered.{Numbered}
 use Rattle.validation.specs.Kept.{Mark}
-use Rattle.keeping.specs.Outcome.{noNumbered}
+use Rattle.choosing.specs.Working.{noNumbered}
 use Rattle.close.specs.declared.Fates.{Fates}
 
 -- one fate laid over: a number that none of the first count has, and a fate of 1, change nothing

@@ -20,7 +20,7 @@ use Rattle.records.specs.Codes.{same}
 use Rattle.validation.specs.declared.Numbered.{Numbered}
 use Rattle.validation.specs.Kept.{effectiveOf, effectOf, numbered, Mark, mark, superseded, group, goesBefore, highest, firstOne, orElse, present, carrying, merged, usedOf, nextTime, usedFrom, used, repeats, syncWithinHour, fromSync, beforeSync, Checked, failed, checkOne, check, lateFate, actors, turned, keptOf, validated, fateAmong, fatesOf}
 use Rattle.validation.proofs.Few.{numbered-length, fates-length}
-use Rattle.keeping.specs.Outcome.{noNumbered}
+use Rattle.choosing.specs.Working.{noNumbered}
 use Rattle.keeping.proofs.Whole.{number-at}
 
 -- the number has a place among os, and step 1 does not settle the one there

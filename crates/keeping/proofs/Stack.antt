@@ -16,7 +16,7 @@ use Rattle.records.specs.declared.Effect.the-variants.{Trip, Mwof, Mxon, Sync, 
 use Rattle.records.specs.Codes.{codeNumber, same}
 use Rattle.validation.specs.declared.Numbered.{Numbered}
 use Rattle.validation.specs.Kept.{effectiveOf, effectOf, repeats, syncWithinHour, fromSync, beforeSync, turned}
-use Rattle.keeping.specs.Outcome.{noNumbered}
+use Rattle.choosing.specs.Working.{noNumbered}
 use Rattle.keeping.specs.Working.{stackOf, topCode, repeatsCode, between, syncPlace}
 
 -- a place above is another matter

@@ -1,4 +1,4 @@
--- The cases of steps 2 to 4, each with its conditions as plain facts.
+-- The cases of steps 3 and 4, each with its conditions as plain facts.
 -- Assumes nothing.
 use mathlib.Core.Path.{_≡_, refl, sym, ap, _∙_}
 use mathlib.Core.List.{List, [], _∷_, _++_, map}
@@ -9,18 +9,18 @@ use native.Mathlib.Decide.{decLe}
 use native.Mathlib.Omega.{arith}
 use lib.Dec.{leb}
 use lib.ListN.{length, take, drop, getD, set, replicate, length-append, List·getD-eq-default}
-use lib.Seq.{take-suc, set-out, length-take-le, getD-take}
-use borrow.Author.Tests.{lt-ltb, le-ltb, le-leb, lt-leb, eq-eqb, ne-eqb}
+use lib.Seq.{take-suc, take-suc-set, set-out, getD-take}
+use borrow.Author.Tests.{le-leb, lt-leb, eq-eqb, ne-eqb}
 use Rattle.level.specs.Choice.{pick}
 use Rattle.level.specs.Lists.{some, filled}
 use Rattle.records.specs.declared.Instruction.{Instruction}
 use Rattle.records.specs.Codes.{codeNumber}
 use Rattle.validation.specs.declared.Numbered.{Numbered}
-use Rattle.validation.specs.Kept.{effectiveOf, effectOf, numbered, Mark, mark, group, usedOf, nextTime, usedFrom, used, repeats, syncWithinHour, fromSync, beforeSync, Checked, failed, checkOne, check, acting, overtaken, lateFate, actors, lateMarks}
+use Rattle.validation.specs.Kept.{effectiveOf, effectOf, numbered, Mark, mark, repeats, syncWithinHour, fromSync, beforeSync, Checked, failed, checkOne, check, acting, overtaken, lateFate, actors, lateMarks}
 use Rattle.keeping.specs.declared.Checking.{Checking}
-use Rattle.keeping.specs.Outcome.{noNumbered}
-use Rattle.keeping.specs.Working.{stackOf, between, syncPlace, withinHour, setFate, marked, withFate, voided, keeping, noChecking, noneChecked, Tracks, Follows, settleFate, settled, earliestActing, lateAt, supersededAt, fatesTo}
-use Rattle.keeping.proofs.Laws.{left-cons, filled-push}
+use Rattle.choosing.specs.Working.{noNumbered, supersededAt}
+use Rattle.keeping.specs.Working.{stackOf, between, syncPlace, withinHour, setFate, marked, withFate, voided, keeping, noChecking, noneChecked, Tracks, Follows, settleFate, settled, earliestActing, lateAt, fatesTo}
+use Rattle.choosing.proofs.Laws.{left-cons, filled-push}
 use Rattle.keeping.proofs.Stack.{stack-push, hour-none, hour-some, before-sync, from-sync}
 
 -- ---- numbers
@@ -33,33 +33,16 @@ pub number-none : {is : List Instruction} (k : ℕ) → is ≡ [] → numbered k
 unfolding numbered
 number-none k e = rw e
 
--- ---- those used
-pub used-stop : (end : ℕ) (os : List Numbered) (m t : ℕ) → end ≤ nextTime end os t → usedFrom end os m t ≡ []
-unfolding usedFrom
-used-stop end os zero t h = refl
-used-stop end os (suc m) t h = rw (le-ltb (nextTime end os t) end h, usedFrom)
+-- ---- times
+map-last : (f : Numbered → ℕ) (xs : List Numbered) (x : Numbered) → map f (xs ++ (x ∷ [])) ≡ map f xs ++ (f x ∷ [])
+map-last f [] x = refl
+map-last f (y ∷ ys) x = ap (λ (l : List ℕ). f y ∷ l) (map-last f ys x)
 
-used-step : (end : ℕ) (os : List Numbered) (m t : ℕ) → nextTime end os t < end →
-    usedFrom end os (suc m) t ≡ usedOf (group os (nextTime end os t)) ++ usedFrom end os m (suc (nextTime end os t))
-unfolding usedFrom
-used-step end os m t h = rw (lt-ltb (nextTime end os t) end h, usedFrom)
-
-pub used-more : (end : ℕ) (os : List Numbered) (m t : ℕ) → 0 < m → nextTime end os t < end →
-    usedFrom end os m t ≡ usedOf (group os (nextTime end os t)) ++ usedFrom end os (m - 1) (nextTime end os t + 1)
-used-more end os zero t p h = absurd (omega arith)
-used-more end os (suc m) t p h =
-    let e : suc m - 1 ≡ m = omega arith in
-    rw (e, add-one (nextTime end os t)) (used-step end os m t h)
-
-pub used-zero : (end : ℕ) (os : List Numbered) (t : ℕ) → usedFrom end os 0 t ≡ []
-unfolding usedFrom
-used-zero end os t = refl
-
-pub used-begins : (end : ℕ) (os : List Numbered) (n : ℕ) → n ≤ length os → usedFrom end (take n os) (n - 0) 0 ≡ used end (take n os)
-unfolding used
-used-begins end os n h =
-    let e : n - 0 ≡ length (take n os) = omega (arith, length-take-le n os h) in
-    ap (λ (k : ℕ). usedFrom end (take n os) k 0) e
+-- one more of the times
+pub map-more : (f : Numbered → ℕ) (os : List Numbered) (ts : List ℕ) (i : ℕ) → i < length os → i < length ts → take i ts ≡ map f (take i os) →
+    take (i + 1) (set ts i (f (getD os i noNumbered))) ≡ map f (take (i + 1) os)
+map-more f os ts i h k e =
+    rw (add-one, take-suc-set ts i (f (getD os i noNumbered)) k, take-suc os i noNumbered h, e) (sym (map-last f (take i os) (getD os i noNumbered)))
 
 -- ---- fates in an array
 module _ (fates : List ℕ) (number fate : ℕ) where

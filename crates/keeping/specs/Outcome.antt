@@ -4,18 +4,11 @@ use Prim.Native.Nat.{ℕ}
 use mathlib.Core.List.{List}
 use lib.ListN.{length, take}
 use Rattle.level.specs.Lists.{filled}
-use Rattle.records.specs.declared.Effect.the-variants.{Trip}
 use Rattle.records.specs.declared.Instruction.{Instruction}
 use Rattle.validation.specs.declared.Numbered.{Numbered}
 use Rattle.validation.specs.Kept.{numbered, validated, fatesOf}
+use Rattle.choosing.specs.Working.{noNumbered}
 use Rattle.keeping.specs.declared.Validation.{Validation}
-
--- a place that holds none
-abbrev pub noNumbered : Numbered
-noNumbered = record {
-  number = 0;
-  instruction = record { effective = 0; issue = 0; meaning = record { lag = 0; rank = 0; effect = Trip }; level = 0; up = 0; down = 0 };
-}
 
 -- of the numbered ones: the fates by number, those that act in time order, and how many these are
 unfoldable pub outcomeOf : List Numbered → ℕ → Validation

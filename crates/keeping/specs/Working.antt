@@ -1,84 +1,18 @@
--- What the code of steps 1 to 4 works with, beside the definitions.
+-- What the code of steps 3 and 4 works with, beside the definitions.
 -- Assumes nothing.
-use Prim.Native.Nat.{ℕ, zero, suc, _+_, _-_, _<_, _≤_, min}
+use Prim.Native.Nat.{ℕ, zero, suc, _+_, _-_, _<_, min}
 use mathlib.Core.Path.{_≡_}
 use mathlib.Core.List.{List, [], _∷_, _++_, map}
-use mathlib.Core.Bool.{Bool, false, _&&_, _||_}
-use lib.Dec.{leb, ltb, eqb}
-use lib.ListN.{length, take, drop, set, getD, replicate}
-use Rattle.level.specs.Lists.{filled, those}
+use mathlib.Core.Bool.{Bool, _&&_, _||_}
+use lib.Dec.{leb, eqb}
+use lib.ListN.{take, drop, set, getD, replicate}
 use Rattle.level.specs.Choice.{pick}
 use Rattle.records.specs.declared.Effect.the-variants.{Sync}
 use Rattle.records.specs.Codes.{codeNumber, same}
 use Rattle.validation.specs.declared.Numbered.{Numbered}
-use Rattle.validation.specs.Kept.{effectiveOf, effectOf, firstOne, Mark, mark, Checked, acting, lateFate}
-use Rattle.keeping.specs.Outcome.{noNumbered}
+use Rattle.validation.specs.Kept.{effectiveOf, effectOf, Mark, mark, Checked, acting, lateFate}
+use Rattle.choosing.specs.Working.{noNumbered, supersededAt}
 use Rattle.keeping.specs.declared.Checking.{Checking}
-use Rattle.keeping.specs.declared.Sequence.{Sequence}
-use Rattle.keeping.specs.declared.Found.{Found}
-use Rattle.keeping.specs.declared.Found.the-variants.{One, Nothing}
-
--- the sequence that holds these; a sequence with one more
-abbrev pub holding : List Numbered → Sequence
-holding xs = record { items = filled 40 noNumbered xs; count = length xs }
-
-unfoldable pub pushed : Sequence → Numbered → Sequence
-pushed s o = record { items = set (s .items) (s .count) o; count = s .count + 1 }
-
--- what was found, as a list
-abbrev pub foundList : Found → List Numbered
-foundList (One o) = o ∷ []
-foundList Nothing = []
-
-unfoldable pub joined : Sequence → Found → Sequence
-joined s (One o) = pushed s o
-joined s Nothing = s
-
--- the earliest entered of the code with this number, where it is present
-unfoldable pub earliest : ℕ → List Numbered → List Numbered
-earliest code g = firstOne (those (λ (o : Numbered). eqb (codeNumber (effectOf o)) code) g)
-
--- ---- steps 1 and 2: over the effective times and the issue times
-
-abbrev pub issueOf : Numbered → ℕ
-issueOf o = o .instruction .issue
-
--- these are the times of these
-pub record Timed (os : List Numbered) (times issues : List ℕ) : Type 0 where
-  pub effective : times ≡ map effectiveOf os
-  pub issued : issues ≡ map issueOf os
-
--- the effective time x is t, and its issue time j is later; one of the times is so
-unfoldable pub supersedesAt : ℕ → ℕ → ℕ → ℕ → Bool
-supersedesAt x j t issue = eqb x t && ltb issue j
-
-unfoldable pub supersededAt : List ℕ → List ℕ → ℕ → ℕ → Bool
-supersededAt [] js t issue = false
-supersededAt (x ∷ xs) [] t issue = false
-supersededAt (x ∷ xs) (j ∷ js) t issue = supersedesAt x j t issue || supersededAt xs js t issue
-
--- the least so far, with one more looked at; the least of the times from t on, else the day's end
-unfoldable pub earlierOf : ℕ → ℕ → ℕ → ℕ
-earlierOf x t best = pick (leb t x) (min x best) best
-
-unfoldable pub nextAt : ℕ → List ℕ → ℕ → ℕ
-nextAt end [] t = end
-nextAt end (x ∷ xs) t = earlierOf x t (nextAt end xs t)
-
--- the first n times stand in order
-abbrev pub Rising : List ℕ → ℕ → Type 0
-Rising ts n = (i j : ℕ) → i ≤ j → j < n → getD ts i 0 ≤ getD ts j 0
-
--- among the first n times, from a place on, the run of t ends before the place r
-pub record Run (ts : List ℕ) (n t from r : ℕ) : Type 0 where
-  pub starts : from ≤ r
-  pub ends : r ≤ n
-  pub same : (j : ℕ) → from ≤ j → j < r → getD ts j 0 ≡ t
-  pub other : r < n → getD ts r 0 ≡ t → ⊥
-
--- no other of the first n times is that at this place
-abbrev pub Alone : List ℕ → ℕ → ℕ → Type 0
-Alone ts n at = (j : ℕ) → j < n → (j ≡ at → ⊥) → getD ts j 0 ≡ getD ts at 0 → ⊥
 
 -- ---- step 3: the kept ones stand in an array, the latest last; fates by number in another, 2 where none is settled
 

@@ -1,34 +1,20 @@
-// Which instructions are kept, steps 1 to 4: over up to forty instructions with their numbers.
+// Which instructions are kept, steps 1 to 4: over up to forty instructions with their numbers. Steps 1 and 2 are in `choosing`.
 ghost use mathlib.Core.Path.{_≡_};
-ghost use Prim.Native.Nat.{ℕ, _+_, _-_, _<_, _≤_, min};
-ghost use mathlib.Core.Bool.{true};
-ghost use mathlib.Core.List.{[], _∷_, map};
-ghost use lib.ListN.{length, take, drop, getD};
+ghost use Prim.Native.Nat.{ℕ, _-_, _<_, _≤_, min};
+ghost use mathlib.Core.List.{map};
+ghost use lib.ListN.{length, take};
 ghost use Rattle.level.specs.Lists.{filled};
 ghost use Rattle.level.specs.Choice.{pick};
-ghost use Rattle.records.specs.declared.Effect.the-variants.{Sync, Desy};
-ghost use Rattle.records.specs.Codes.{codeNumber};
-ghost use Rattle.validation.specs.Kept.{effectiveOf, effectOf, group, goesBefore, highest, orElse, present, carrying, merged, usedOf, numbered, used, Checked, failed, check, acting, actors, lateMarks};
-ghost use Rattle.keeping.specs.Outcome.{noNumbered, validationOf};
-ghost use Rattle.keeping.specs.Working.{holding, pushed, foundList, joined, earliest, issueOf, Timed, supersedesAt, supersededAt, earlierOf, nextAt, Rising, Run, Alone, topCode, repeatsCode, syncPlace, setFate, settled, lateAt, LateFates, voided, withFate, withinHour, noChecking, noneChecked, Tracks, Follows, fatesTo};
+ghost use Rattle.validation.specs.Kept.{effectiveOf, numbered, used, Checked, failed, check, acting, actors, lateMarks};
+ghost use Rattle.choosing.specs.Working.{holding, issueOf, Timed};
+ghost use Rattle.keeping.specs.Outcome.{validationOf};
+ghost use Rattle.keeping.specs.Working.{topCode, repeatsCode, syncPlace, setFate, settled, lateAt, LateFates, voided, withFate, withinHour, noChecking, noneChecked, Tracks, Follows, fatesTo};
 
 // What steps 1 to 4 come to: the fates by number, those that act in time order, and how many these are.
 pub struct Validation {
     pub fates: [u8; 40],
     pub acts: [validation::Numbered; 40],
     pub acting: usize,
-}
-
-// Some of the instructions, in order: the first `count` places.
-struct Sequence {
-    pub items: [validation::Numbered; 40],
-    pub count: usize,
-}
-
-// One of them, or none.
-enum Found {
-    One(validation::Numbered),
-    Nothing,
 }
 
 // Step 3 under way: the kept ones, the latest on top, the first `height` places; and the fates by number, 2 where none is settled.
@@ -41,8 +27,6 @@ struct Checking {
 // The codes that the steps name.
 const TRIP: u8 = 1;
 
-const MWOF: u8 = 2;
-
 const SYNC: u8 = 4;
 
 const DESY: u8 = 6;
@@ -51,441 +35,6 @@ const FAIL: u8 = 7;
 
 // Later than any acting time.
 const NEVER: u64 = 8589934592;
-
-// ---- codes
-
-// The number of a code.
-fn code_number(e: records::Effect) -> u8
-    ensures { λ r. ⌜ r ≡ codeNumber e ⌝ }
-{
-    match e {
-        records::Effect::Trip => 1,
-        records::Effect::Mwof => 2,
-        records::Effect::Mxon => 3,
-        records::Effect::Sync => 4,
-        records::Effect::Mxof => 5,
-        records::Effect::Desy => 6,
-        records::Effect::Fail => 7,
-    }
-}
-
-// The number of an instruction's code.
-fn code_of(o: validation::Numbered) -> u8
-    ensures { λ r. ⌜ r ≡ codeNumber (effectOf o) ⌝ }
-{
-    let i = o.instruction;
-    let m = i.meaning;
-    let e = m.effect;
-    code_number(e)
-}
-
-// ---- sequences
-
-// A place that holds none.
-fn no_one() -> validation::Numbered
-    ensures { λ r. ⌜ r ≡ noNumbered ⌝ }
-{
-    let effect = records::Effect::Trip;
-    let meaning = records::Meaning {
-        lag: 0,
-        rank: 0,
-        effect,
-    };
-    let instruction = records::Instruction {
-        effective: 0,
-        issue: 0,
-        meaning,
-        level: 0,
-        up: 0,
-        down: 0,
-    };
-    validation::Numbered {
-        number: 0,
-        instruction,
-    }
-}
-
-// None of them.
-fn empty() -> Sequence
-    ensures { λ r. ⌜ r ≡ holding [] ⌝ }
-{
-    let none = no_one();
-    let items = [none; 40];
-    Sequence { items, count: 0 }
-}
-
-// With one more.
-fn push(s: Sequence, o: validation::Numbered) -> Sequence
-    requires { ⌜ s .count < 40 ⌝ }
-    ensures { λ r. ⌜ r ≡ pushed s o ⌝ }
-{
-    let at = s.count;
-    let mut next = s;
-    next.items[at] = o;
-    next.count = at + 1;
-    next
-}
-
-// With what was found.
-fn push_found(s: Sequence, found: Found) -> Sequence
-    requires { ⌜ s .count < 40 ⌝ }
-    ensures { λ r. ⌜ r ≡ joined s found ⌝ }
-{
-    match found {
-        Found::One(o) => push(s, o),
-        Found::Nothing => s,
-    }
-}
-
-// ---- step 1: of equal effective times only the latest issue time stays
-
-// The effective time x is t, and its issue time j is later.
-fn supersedes(x: u32, j: u32, t: u32, issue: u32) -> bool
-    ensures { λ r. ⌜ r ≡ supersedesAt x j t issue ⌝ }
-{
-    if x == t {
-        return issue < j;
-    }
-    false
-}
-
-// One of the first n has the effective time t and a later issue time.
-fn is_superseded(times: &[u32; 40], issues: &[u32; 40], n: usize, t: u32, issue: u32) -> bool
-    requires { ⌜ (n ≤ 40) × (n ≤ length (now times)) × (n ≤ length (now issues)) ⌝ }
-    ensures { λ r. ⌜ r ≡ supersededAt (take n (now (times .entry))) (take n (now (issues .entry))) t issue ⌝ }
-{
-    let mut i: usize = 0;
-    while i < n {
-        let x = times[i];
-        let j = issues[i];
-        if supersedes(x, j, t, issue) {
-            return true;
-        }
-        i += 1;
-    }
-    false
-}
-
-// Those left at the effective time t, of the first n with these times.
-fn group_at(
-    os: [validation::Numbered; 40],
-    times: &[u32; 40],
-    issues: &[u32; 40],
-    n: usize,
-    t: u32,
-) -> Sequence
-    requires { ⌜ (n ≤ 40) × Timed (take n os) (take n (now times)) (take n (now issues)) ⌝ }
-    ensures { λ r. ⌜ (r ≡ holding (group (take n os) t)) × (r .count ≤ 40) ⌝ }
-{
-    let mut out = empty();
-    let mut i: usize = 0;
-    while i < n {
-        let at = i;
-        i += 1;
-        if times[at] != t {
-            continue;
-        }
-        let issue = issues[at];
-        if is_superseded(times, issues, n, t, issue) {
-            continue;
-        }
-        let o = os[at];
-        let k = out.count;
-        out.items[k] = o;
-        out.count = k + 1;
-    }
-    out
-}
-
-// ---- step 2: the one that is used of those left at one effective time
-
-// x, entered after o, goes before it.
-fn goes_before(x: validation::Numbered, o: validation::Numbered) -> bool
-    ensures { λ r. ⌜ r ≡ goesBefore x o ⌝ }
-{
-    let i = x.instruction;
-    let j = o.instruction;
-    let m = i.meaning;
-    let k = j.meaning;
-    if m.rank < k.rank {
-        return true;
-    }
-    if code_of(x) != MWOF {
-        return false;
-    }
-    if code_of(o) != MWOF {
-        return false;
-    }
-    j.level < i.level
-}
-
-// The one of two that goes before the other; o was entered first.
-fn higher(x: validation::Numbered, o: validation::Numbered) -> validation::Numbered
-    ensures { λ r. ⌜ r ≡ pick (goesBefore x o) x o ⌝ }
-{
-    if goes_before(x, o) {
-        return x;
-    }
-    o
-}
-
-// The highest ranked of a group.
-fn highest_of(g: [validation::Numbered; 40], n: usize) -> validation::Numbered
-    requires { ⌜ (1 ≤ n) × (n ≤ 40) ⌝ }
-    ensures { λ r. ⌜ r ≡ highest (getD g 0 noNumbered) (drop 1 (take n g)) ⌝ }
-{
-    let mut best = g[0];
-    let mut i: usize = 1;
-    while i < n {
-        let x = g[i];
-        best = higher(x, best);
-        i += 1;
-    }
-    best
-}
-
-// The earliest entered of a code.
-fn earliest_of(g: [validation::Numbered; 40], n: usize, code: u8) -> Found
-    requires { ⌜ n ≤ 40 ⌝ }
-    ensures { λ r. ⌜ foundList r ≡ earliest code (take n g) ⌝ }
-{
-    let mut i: usize = 0;
-    while i < n {
-        let o = g[i];
-        if code_of(o) == code {
-            return Found::One(o);
-        }
-        i += 1;
-    }
-    Found::Nothing
-}
-
-// c with the level and the rates of m.
-fn carry(m: validation::Numbered, c: validation::Numbered) -> validation::Numbered
-    ensures { λ r. ⌜ r ≡ carrying m c ⌝ }
-{
-    let i = m.instruction;
-    let j = c.instruction;
-    let meaning = j.meaning;
-    let instruction = records::Instruction {
-        effective: j.effective,
-        issue: j.issue,
-        meaning,
-        level: i.level,
-        up: i.up,
-        down: i.down,
-    };
-    validation::Numbered {
-        number: c.number,
-        instruction,
-    }
-}
-
-// The SYNC of a group, else its DESY.
-fn carrier_of(g: [validation::Numbered; 40], n: usize) -> Found
-    requires { ⌜ n ≤ 40 ⌝ }
-    ensures { λ r. ⌜ foundList r ≡ orElse (present Sync (take n g)) (present Desy (take n g)) ⌝ }
-{
-    let sync = earliest_of(g, n, SYNC);
-    match sync {
-        Found::One(o) => Found::One(o),
-        Found::Nothing => earliest_of(g, n, DESY),
-    }
-}
-
-// The highest ranked of the group; an MWOF goes into the carrier, where there is one.
-fn merge(
-    g: [validation::Numbered; 40],
-    n: usize,
-    highest: validation::Numbered,
-) -> validation::Numbered
-    requires { ⌜ n ≤ 40 ⌝ }
-    ensures { λ r. ⌜ r ∷ [] ≡ merged (take n g) highest ⌝ }
-{
-    if code_of(highest) != MWOF {
-        return highest;
-    }
-    let carrier = carrier_of(g, n);
-    match carrier {
-        Found::One(c) => carry(highest, c),
-        Found::Nothing => highest,
-    }
-}
-
-// The one that is used of a group.
-fn used_of(g: [validation::Numbered; 40], n: usize) -> Found
-    requires { ⌜ n ≤ 40 ⌝ }
-    ensures { λ r. ⌜ foundList r ≡ usedOf (take n g) ⌝ }
-{
-    if n == 0 {
-        return Found::Nothing;
-    }
-    let o = highest_of(g, n);
-    let u = merge(g, n, o);
-    Found::One(u)
-}
-
-// ---- those used, in time order
-
-// The earlier of a time from t on and the best so far.
-fn earlier(x: u32, t: u32, best: u32) -> u32
-    ensures { λ r. ⌜ r ≡ earlierOf x t best ⌝ }
-{
-    if x < t {
-        return best;
-    }
-    if x < best {
-        return x;
-    }
-    best
-}
-
-// The least of the first n times from t on; the day's end where there is none.
-fn next_time(times: &[u32; 40], n: usize, t: u32, end: u32) -> u32
-    requires { ⌜ (n ≤ 40) × (n ≤ length (now times)) ⌝ }
-    ensures { λ r. ⌜ r ≡ nextAt end (take n (now (times .entry))) t ⌝ }
-{
-    let mut best = end;
-    let mut i = n;
-    while 0 < i {
-        i -= 1;
-        let x = times[i];
-        best = earlier(x, t, best);
-    }
-    best
-}
-
-// The times stand in order.
-fn in_order(times: &[u32; 40], n: usize) -> bool
-    requires { ⌜ n ≤ 40 ⌝ }
-    ensures { λ r. ⌜ (r ≡ true → Rising (now (times .entry)) n) ⌝ }
-{
-    let mut before: u32 = 0;
-    let mut i: usize = 0;
-    while i < n {
-        let t = times[i];
-        if t < before {
-            return false;
-        }
-        before = t;
-        i += 1;
-    }
-    true
-}
-
-// The place after the run of the time t from a place on.
-fn run_end(times: &[u32; 40], n: usize, t: u32, from: usize) -> usize
-    requires { ⌜ (from ≤ n) × (n ≤ 40) ⌝ }
-    ensures { λ r. ⌜ Run (now (times .entry)) n t from r ⌝ }
-{
-    let mut i = from;
-    while i < n {
-        if times[i] != t {
-            return i;
-        }
-        i += 1;
-    }
-    i
-}
-
-// In order, and with another time on either side: no other has the time at this place.
-fn stands_alone(times: &[u32; 40], n: usize, at: usize, ordered: bool) -> bool
-    requires { ⌜ (at < n) × (n ≤ 40) × (ordered ≡ true → Rising (now times) n) ⌝ }
-    ensures { λ r. ⌜ (r ≡ true → Alone (now (times .entry)) n at) ⌝ }
-{
-    if !ordered {
-        return false;
-    }
-    let t = times[at];
-    if at == 0 {
-        return run_end(times, n, t, 1) == 1;
-    }
-    if times[at - 1] == t {
-        return false;
-    }
-    run_end(times, n, t, at + 1) == at + 1
-}
-
-// Those used, where the times stand in order: those at one time stand side by side, and one alone is used as it is.
-fn used_ordered(
-    os: [validation::Numbered; 40],
-    times: &[u32; 40],
-    issues: &[u32; 40],
-    n: usize,
-    end: u32,
-) -> Sequence
-    requires { ⌜ (n ≤ 40) × Timed (take n os) (take n (now times)) (take n (now issues)) × Rising (now times) n ⌝ }
-    ensures { λ r. ⌜ (r ≡ holding (used end (take n os))) × (r .count ≤ 40) ⌝ }
-{
-    let mut out = empty();
-    let mut i: usize = 0;
-    while i < n {
-        let t = times[i];
-        if end <= t {
-            return out;
-        }
-        let from = i;
-        i = run_end(times, n, t, from + 1);
-        if i == from + 1 {
-            let o = os[from];
-            let k = out.count;
-            out.items[k] = o;
-            out.count = k + 1;
-            continue;
-        }
-        let g = group_at(os, times, issues, n, t);
-        let items = g.items;
-        let u = used_of(items, g.count);
-        out = push_found(out, u);
-    }
-    out
-}
-
-// Those used, whatever the order of the times: those at the next time, one time after another.
-fn used_any(
-    os: [validation::Numbered; 40],
-    times: &[u32; 40],
-    issues: &[u32; 40],
-    n: usize,
-    end: u32,
-) -> Sequence
-    requires { ⌜ (n ≤ 40) × Timed (take n os) (take n (now times)) (take n (now issues)) ⌝ }
-    ensures { λ r. ⌜ (r ≡ holding (used end (take n os))) × (r .count ≤ 40) ⌝ }
-{
-    let mut out = empty();
-    let mut t: u32 = 0;
-    let mut i: usize = 0;
-    while i < n {
-        let next = next_time(times, n, t, end);
-        if end <= next {
-            return out;
-        }
-        let g = group_at(os, times, issues, n, next);
-        let items = g.items;
-        let u = used_of(items, g.count);
-        out = push_found(out, u);
-        t = next + 1;
-        i += 1;
-    }
-    out
-}
-
-// Those used, in the order of their effective times.
-fn used_in(
-    os: [validation::Numbered; 40],
-    times: &[u32; 40],
-    issues: &[u32; 40],
-    n: usize,
-    end: u32,
-) -> Sequence
-    requires { ⌜ (n ≤ 40) × Timed (take n os) (take n (now times)) (take n (now issues)) ⌝ }
-    ensures { λ r. ⌜ (r ≡ holding (used end (take n os))) × (r .count ≤ 40) ⌝ }
-{
-    if in_order(times, n) {
-        return used_ordered(os, times, issues, n, end);
-    }
-    used_any(os, times, issues, n, end)
-}
 
 // ---- step 3: in time order, against the last kept one
 
@@ -523,7 +72,7 @@ fn with_fate(s: Checking, o: validation::Numbered, fate: u8) -> Checking
 fn no_checking() -> Checking
     ensures { λ r. ⌜ r ≡ noChecking ⌝ }
 {
-    let none = no_one();
+    let none = choosing::no_one();
     let kept = [none; 40];
     let fates = [2u8; 40];
     Checking {
@@ -543,7 +92,7 @@ fn last_code(s: Checking) -> u8
         return 0;
     }
     let last = s.kept[height - 1];
-    code_of(last)
+    choosing::code_of(last)
 }
 
 // One of this code repeats the last kept one: SYNC after SYNC, DESY after DESY, TRIP after TRIP.
@@ -570,7 +119,7 @@ fn latest_sync(kept: [validation::Numbered; 40], height: usize) -> usize
     let mut i = height;
     while 0 < i {
         let k = kept[i - 1];
-        if code_of(k) == SYNC {
+        if choosing::code_of(k) == SYNC {
             return i;
         }
         i -= 1;
@@ -643,7 +192,7 @@ fn check_all(os: [validation::Numbered; 40], n: usize) -> Checking
     while i < n {
         let o = os[i];
         i += 1;
-        let code = code_of(o);
+        let code = choosing::code_of(o);
         if code == FAIL {
             s = fail_one(s, o);
             last = last_code(s);
@@ -674,7 +223,7 @@ fn checked_in(
     requires { ⌜ (n ≤ 40) × Timed (take n os) (take n (now times)) (take n (now issues)) ⌝ }
     ensures { λ r. ⌜ (r .height ≤ 40) × Tracks r (check noneChecked (used end (take n os))) ⌝ }
 {
-    let s = used_in(os, times, issues, n, end);
+    let s = choosing::used_in(os, times, issues, n, end);
     let items = s.items;
     check_all(items, s.count)
 }
@@ -744,11 +293,11 @@ fn late_fates(kept: [validation::Numbered; 40], n: usize, end: u32) -> [u8; 40]
 }
 
 // Those that act, in time order, by the fates of step 4.
-fn acts_of(kept: [validation::Numbered; 40], n: usize, late: [u8; 40]) -> Sequence
+fn acts_of(kept: [validation::Numbered; 40], n: usize, late: [u8; 40]) -> choosing::Sequence
     requires { ⌜ n ≤ 40 ⌝ }
     ensures { λ r. ⌜ ((end : ℕ) → LateFates end kept n late → r ≡ holding (actors end (take n kept))) ⌝ }
 {
-    let mut out = empty();
+    let mut out = choosing::empty();
     let mut i: usize = 0;
     while i < n {
         let at = i;
@@ -813,30 +362,30 @@ fn fates_of(times: &[u32; 40], issues: &[u32; 40], n: usize, later: [u8; 40]) ->
     ensures { λ r. ⌜ r ≡ filled 40 0 (fatesTo (take n (now (times .entry))) (take n (now (issues .entry))) later n) ⌝ }
 {
     let mut out = [0u8; 40];
-    let ordered = in_order(times, n);
+    let ordered = choosing::in_order(times, n);
     let mut i: usize = 0;
     while i < n {
         let at = i;
         i += 1;
         let fate = later[at];
-        if stands_alone(times, n, at, ordered) {
+        if choosing::stands_alone(times, n, at, ordered) {
             out[at] = fate;
             continue;
         }
         let t = times[at];
         let issue = issues[at];
-        let superseded = is_superseded(times, issues, n, t, issue);
+        let superseded = choosing::is_superseded(times, issues, n, t, issue);
         out[at] = final_fate(superseded, fate);
     }
     out
 }
 
 // The instructions with their numbers, from 1 as entered.
-fn number_all(instructions: [records::Instruction; 40], n: usize) -> Sequence
+fn number_all(instructions: [records::Instruction; 40], n: usize) -> choosing::Sequence
     requires { ⌜ n ≤ 40 ⌝ }
     ensures { λ r. ⌜ r ≡ holding (numbered 1 (take n instructions)) ⌝ }
 {
-    let mut out = empty();
+    let mut out = choosing::empty();
     let mut i: usize = 0;
     while i < n {
         let instruction = instructions[i];

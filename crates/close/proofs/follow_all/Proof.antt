@@ -6,8 +6,8 @@ use lib.ListN.{take, drop, getD}
 use Rattle.validation.specs.declared.Numbered.{Numbered}
 use Rattle.validation.specs.Kept.{acting}
 use Rattle.close.specs.declared.Walk.{Walk}
-use Rattle.keeping.specs.Outcome.{noNumbered}
-use Rattle.keeping.proofs.Laws.{left-cons, left-none}
+use Rattle.choosing.specs.Working.{noNumbered}
+use Rattle.choosing.proofs.Laws.{left-cons, left-none}
 use Rattle.profile.specs.State.{byRule}
 use Rattle.profile.specs.Effects.{stateAt, follow}
 use Rattle.close.specs.Walk.{walkOf, walkAll, wentOn, replacedBy}

@@ -3,9 +3,9 @@ use mathlib.Core.Path.{_≡_, refl, sym, _∙_}
 use mathlib.Core.List.{_∷_}
 use lib.ListN.{take, drop, getD}
 use Rattle.validation.specs.Kept.{actors}
-use Rattle.keeping.specs.Outcome.{noNumbered}
+use Rattle.choosing.specs.Working.{noNumbered}
 use Rattle.keeping.specs.Working.{LateFates}
-use Rattle.keeping.proofs.Laws.{Begun, left-none, begun-none, begun-store, begun-all}
+use Rattle.choosing.proofs.Laws.{Begun, left-none, begun-none, begun-store, begun-all}
 use Rattle.keeping.proofs.Steps.{actors-skip, actors-keep, actors-none}
 use native.Mathlib.Omega.{arith}
 use borrow.Author.Needs.{needs}

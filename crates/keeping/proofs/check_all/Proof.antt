@@ -3,9 +3,9 @@ use mathlib.Core.Path.{_≡_, refl, sym, _∙_}
 use mathlib.Core.Bool.{true, false}
 use lib.ListN.{length, take, getD, length-set}
 use Rattle.validation.specs.Kept.{check}
-use Rattle.keeping.specs.Outcome.{noNumbered}
+use Rattle.choosing.specs.Working.{noNumbered}
 use Rattle.keeping.specs.Working.{noChecking, noneChecked, topCode, withFate, keeping, Tracks}
-use Rattle.keeping.proofs.Laws.{map-length}
+use Rattle.choosing.proofs.Laws.{map-length}
 use Rattle.keeping.proofs.Stack.{repeats-told, code-push}
 use Rattle.keeping.proofs.Steps.{check-fail, check-repeat, check-keep, check-more, check-none}
 use native.Mathlib.Omega.{arith}

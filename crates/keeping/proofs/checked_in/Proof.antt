@@ -1,4 +1,4 @@
-use Rattle.keeping.proofs.Laws.{held}
+use Rattle.choosing.proofs.Laws.{held}
 use borrow.Author.Needs.{needs}
 use Rattle.keeping.proofs.checked_in.Statement.{statement}
 use Rattle.keeping.proofs.checked_in.Tie as tie

@@ -4,9 +4,10 @@ use mathlib.Core.Bool.{Bool, false}
 use lib.ListN.{set, take, getD}
 use Rattle.level.specs.Choice.{pick}
 use Rattle.level.specs.Lists.{filled}
-use Rattle.keeping.specs.Working.{supersededAt, fatesTo}
+use Rattle.choosing.specs.Working.{supersededAt}
+use Rattle.keeping.specs.Working.{fatesTo}
 use Rattle.keeping.proofs.Steps.{fates-more}
-use Rattle.keeping.proofs.Order.{alone-stays}
+use Rattle.choosing.proofs.Order.{alone-stays}
 use native.Mathlib.Omega.{arith}
 use borrow.Author.Needs.{needs}
 use Rattle.keeping.proofs.fates_of.Statement.{statement}

@@ -2,8 +2,8 @@ use Prim.Native.Nat.{_≤_, _-_}
 use mathlib.Core.Path.{_≡_, refl, _∙_}
 use mathlib.Core.List.{map}
 use lib.ListN.{length, take, length-set}
-use Rattle.keeping.specs.Working.{issueOf}
-use Rattle.keeping.proofs.Laws.{map-more}
+use Rattle.choosing.specs.Working.{issueOf}
+use Rattle.keeping.proofs.Steps.{map-more}
 use native.Mathlib.Omega.{arith}
 use Rattle.keeping.proofs.issues_of.Statement.{statement}
 use Rattle.keeping.proofs.issues_of.Tie as tie

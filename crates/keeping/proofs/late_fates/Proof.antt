@@ -5,9 +5,9 @@ use native.Mathlib.Decide.{ℕ-discrete}
 use lib.ListN.{length, take, drop, getD, set, length-set}
 use lib.Seq.{getD-set-same, getD-set-other}
 use Rattle.validation.specs.Kept.{lateFate}
-use Rattle.keeping.specs.Outcome.{noNumbered}
+use Rattle.choosing.specs.Working.{noNumbered}
 use Rattle.keeping.specs.Working.{earliestActing}
-use Rattle.keeping.proofs.Laws.{left-none}
+use Rattle.choosing.proofs.Laws.{left-none}
 use Rattle.keeping.proofs.Steps.{acting-none, acting-more, late-is}
 use native.Mathlib.Omega.{arith}
 use borrow.Author.Needs.{needs}

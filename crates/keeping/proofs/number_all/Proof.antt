@@ -2,8 +2,8 @@ use Prim.Native.Nat.{_≤_, _-_, _+_}
 use mathlib.Core.Path.{_≡_}
 use lib.ListN.{take, drop}
 use Rattle.validation.specs.Kept.{numbered}
-use Rattle.keeping.specs.Outcome.{noNumbered}
-use Rattle.keeping.proofs.Laws.{Begun, left-none, begun-none, begun-store, begun-all}
+use Rattle.choosing.specs.Working.{noNumbered}
+use Rattle.choosing.proofs.Laws.{Begun, left-none, begun-none, begun-store, begun-all}
 use Rattle.keeping.proofs.Steps.{number-next, number-none}
 use native.Mathlib.Omega.{arith}
 use borrow.Author.Needs.{needs}

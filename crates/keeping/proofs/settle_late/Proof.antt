@@ -3,9 +3,9 @@ use mathlib.Core.Path.{_≡_, refl, sym, _∙_}
 use mathlib.Core.List.{List}
 use lib.ListN.{length, take, drop, getD, length-set}
 use Rattle.validation.specs.Kept.{lateMarks}
-use Rattle.keeping.specs.Outcome.{noNumbered}
+use Rattle.choosing.specs.Working.{noNumbered}
 use Rattle.keeping.specs.Working.{settleFate, settled, LateFates}
-use Rattle.keeping.proofs.Laws.{left-none}
+use Rattle.choosing.proofs.Laws.{left-none}
 use Rattle.keeping.proofs.Steps.{settle-zero, settle-large, settle-done, settle-some, settled-more, settled-none}
 use native.Mathlib.Omega.{arith}
 use Rattle.keeping.proofs.settle_late.Statement.{statement}

@@ -3,7 +3,7 @@ use mathlib.Core.Path.{_≡_, refl, _∙_}
 use mathlib.Core.List.{map}
 use lib.ListN.{length, take, length-set}
 use Rattle.validation.specs.Kept.{effectiveOf}
-use Rattle.keeping.proofs.Laws.{map-more}
+use Rattle.keeping.proofs.Steps.{map-more}
 use native.Mathlib.Omega.{arith}
 use Rattle.keeping.proofs.times_of.Statement.{statement}
 use Rattle.keeping.proofs.times_of.Tie as tie

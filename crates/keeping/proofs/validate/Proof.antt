@@ -4,8 +4,9 @@ use Prim.Native.Nat.{ℕ}
 use native.Mathlib.Omega.{arith}
 use lib.ListN.{length, take}
 use Rattle.level.specs.Lists.{filled}
-use Rattle.keeping.specs.Working.{Timed, fatesTo}
-use Rattle.keeping.proofs.Laws.{map-length}
+use Rattle.choosing.specs.Working.{Timed}
+use Rattle.keeping.specs.Working.{fatesTo}
+use Rattle.choosing.proofs.Laws.{map-length}
 use Rattle.keeping.proofs.Whole.{result, validation-is}
 use borrow.Author.Needs.{needs}
 use Rattle.keeping.proofs.validate.Statement.{statement}

@@ -3,7 +3,7 @@ use native.Mathlib.Omega.{arith}
 use Prim.Native.Nat.{ℕ, suc, _≤_, _-_, _+_}
 use lib.ListN.{getD}
 use borrow.Author.Needs.{needs}
-use Rattle.keeping.specs.Outcome.{noNumbered}
+use Rattle.choosing.specs.Working.{noNumbered}
 use Rattle.keeping.specs.Working.{withFate, voided}
 use Rattle.keeping.specs.declared.Checking.{Checking}
 use Rattle.keeping.proofs.Steps.{voided-more, voided-none}

@@ -1,0 +1,327 @@
+-- Walks over the first places of an array, and the cases of the definitions, each with its conditions as plain facts.
+-- Assumes nothing.
+use mathlib.Core.Path.{_≡_, refl, sym, ap, _∙_}
+use mathlib.Core.List.{List, [], _∷_, _++_, map, append-assoc, append-nil}
+use mathlib.Core.Bool.{Bool, true, false, _&&_, _||_, not}
+use Prim.Native.Nat.{ℕ, zero, suc, _+_, _-_, _≤_, _<_, min}
+use native.Mathlib.Numerals.{add-one}
+use native.Mathlib.Omega.{arith}
+use lib.Dec.{leb, ltb, eqb}
+use lib.ListN.{length, take, drop, getD, set, replicate, length-take, length-append, length-replicate, replicate-append-replicate, drop-of-length-le}
+use lib.Seq.{drop-cons, getD-take, length-take-le, take-take, take-append-seam, take-append-le, take-set-lt, set-append-seam}
+use borrow.Author.Tests.{lt-ltb, le-ltb, le-leb, lt-leb, eq-eqb, ne-eqb}
+use Rattle.level.specs.Choice.{pick}
+use Rattle.level.specs.Lists.{some, those, filled}
+use Rattle.records.specs.declared.Effect.the-variants.{Sync, Desy}
+use Rattle.records.specs.Codes.{codeNumber}
+use Rattle.validation.specs.declared.Numbered.{Numbered}
+use Rattle.validation.specs.Kept.{effectiveOf, effectOf, levelOf, superseded, group, goesBefore, highest, orElse, present, carrying, merged, usedOf, nextTime, usedFrom, used}
+use Rattle.choosing.specs.Working.{noNumbered, holding, pushed, foundList, joined, earliest, issueOf, Timed, supersedesAt, supersededAt, earlierOf, nextAt}
+use Rattle.choosing.specs.declared.Sequence.{Sequence}
+use Rattle.choosing.specs.declared.Found.{Found}
+use Rattle.choosing.specs.declared.Found.the-variants.{One, Nothing}
+
+pub map-length : {A B : Type 0} (f : A → B) (xs : List A) → length (map f xs) ≡ length xs
+map-length f [] = refl
+map-length f (x ∷ xs) = ap suc (map-length f xs)
+
+-- ---- what is left of the first n places, from the place i on
+module _ {A : Type 0} (xs : List A) (n : ℕ) where
+  pub left-cons : (i : ℕ) (d : A) → i < n → n ≤ length xs → drop i (take n xs) ≡ getD xs i d ∷ drop (i + 1) (take n xs)
+  left-cons i d h k =
+      let l : i < length (take n xs) = omega (arith, length-take-le n xs k) in
+      rw (add-one, drop-cons (take n xs) i d l, getD-take n xs i d h)
+
+  pub left-none : (i : ℕ) → n ≤ i → drop i (take n xs) ≡ []
+  left-none i h = drop-of-length-le (take n xs) {i = i} (omega (arith, length-take n xs))
+
+  pub those-skip : (f : A → Bool) (i : ℕ) (d : A) → i < n → n ≤ length xs → f (getD xs i d) ≡ false → those f (drop i (take n xs)) ≡ those f (drop (i + 1) (take n xs))
+  unfolding those
+  those-skip f i d h k e = rw (left-cons i d h k, e)
+
+  pub those-keep : (f : A → Bool) (i : ℕ) (d : A) → i < n → n ≤ length xs → f (getD xs i d) ≡ true → those f (drop i (take n xs)) ≡ getD xs i d ∷ those f (drop (i + 1) (take n xs))
+  unfolding those
+  those-keep f i d h k e = rw (left-cons i d h k, e)
+
+-- ---- an array that begins with a list
+module _ {A : Type 0} (x : A) where
+  pub filled-listed : (n : ℕ) (xs : List A) → length xs ≤ n → take (length xs) (filled n x xs) ≡ xs
+  unfolding filled
+  filled-listed n xs h = rw (take-take (length xs) n (xs ++ replicate n x) h, take-append-seam)
+
+  pub filled-push : (n : ℕ) (xs : List A) (o : A) → length xs < n → set (filled n x xs) (length xs) o ≡ filled n x (xs ++ (o ∷ []))
+  unfolding filled
+  filled-push zero xs o h = absurd (omega arith)
+  filled-push (suc m) xs o h =
+      let r : replicate (suc m) x ≡ replicate m x ++ (x ∷ []) = ap (λ (k : ℕ). replicate k x) (sym (add-one m)) ∙ sym (replicate-append-replicate m 1 x) in
+      let k : suc m ≤ length (xs ++ (o ∷ replicate m x)) = simp (length-append, length-replicate) (omega arith) in
+      let e : take (suc m) (xs ++ (o ∷ replicate (suc m) x)) ≡ take (suc m) (xs ++ (o ∷ replicate m x)) =
+      ap (λ (l : List A). take (suc m) (xs ++ (o ∷ l))) r ∙ (ap (take (suc m)) (sym (append-assoc xs (o ∷ replicate m x) (x ∷ []))) ∙ take-append-le (suc m) (xs ++ (o ∷ replicate m x)) (x ∷ []) k) in
+      sym (take-set-lt (suc m) (xs ++ replicate (suc m) x) (length xs) o h)
+      ∙ (ap (take (suc m)) (set-append-seam xs x (replicate m x) o)
+      ∙ (sym e ∙ ap (take (suc m)) (sym (append-assoc xs (o ∷ []) (replicate (suc m) x)))))
+
+-- ---- sequences
+-- a sequence that holds the beginning of a whole; the rest of it is still to come
+pub record Begun (s : Sequence) (rest whole : List Numbered) : Type 0 where
+  pub xs : List Numbered
+  pub holds : s ≡ holding xs
+  pub parts : xs ++ rest ≡ whole
+
+pub push-holding : (xs : List Numbered) (o : Numbered) → length xs < 40 → pushed (holding xs) o ≡ holding (xs ++ (o ∷ []))
+unfolding pushed
+push-holding xs o h =
+    let e : length xs + 1 ≡ length (xs ++ (o ∷ [])) = simp length-append in
+    λ i. record { items = filled-push noNumbered 40 xs o h i; count = e i }
+
+-- nothing is in it yet; all is in it
+pub begun-none : (whole : List Numbered) → Begun (holding []) whole whole
+begun-none whole = record { xs = []; holds = refl; parts = refl }
+
+pub begun-all : {s : Sequence} {whole : List Numbered} → Begun s [] whole → s ≡ holding whole
+begun-all b = b .holds ∙ ap holding (sym (append-nil (b .xs)) ∙ b .parts)
+
+module _ {s : Sequence} {rest whole : List Numbered} where
+  pub begun-push : (o : Numbered) → s .count < 40 → Begun s (o ∷ rest) whole → Begun (pushed s o) rest whole
+  begun-push o h b =
+      let k : length (b .xs) < 40 = omega (arith, ap (λ (q : Sequence). q .count) (b .holds)) in
+      record {
+        xs = b .xs ++ (o ∷ []);
+        holds = ap (λ (q : Sequence). pushed q o) (b .holds) ∙ push-holding (b .xs) o k;
+        parts = append-assoc (b .xs) (o ∷ []) rest ∙ b .parts;
+      }
+
+  -- stored in place
+  pub begun-store : (k : ℕ) (o : Numbered) → s .count ≡ k → k < 40 → Begun s (o ∷ rest) whole → Begun (record { items = set (s .items) k o; count = k + 1 }) rest whole
+  unfolding pushed
+  begun-store k o e h b = rw e at (begun-push o (omega arith) b)
+
+  pub begun-found : (f : Found) → s .count < 40 → Begun s (foundList f ++ rest) whole → Begun (joined s f) rest whole
+  unfolding joined
+  begun-found (One o) h b = begun-push o h b
+  begun-found Nothing h b = b
+
+-- the list that a sequence holds
+pub held : {s : Sequence} {xs : List Numbered} → s ≡ holding xs → s .count ≤ 40 → take (s .count) (s .items) ≡ xs
+held {s} {xs} e h =
+    ap (λ (q : Sequence). take (q .count) (q .items)) e ∙ filled-listed noNumbered 40 xs (omega (arith, ap (λ (q : Sequence). q .count) e))
+
+pub joined-count : (s : Sequence) (f : Found) → joined s f .count ≤ s .count + 1
+unfolding joined pushed
+joined-count s (One o) = omega arith
+joined-count s Nothing = omega arith
+
+-- ---- the cases of tests and choices
+module _ (x o : Numbered) where
+  pub goes-rank : x .instruction .meaning .rank < o .instruction .meaning .rank → true ≡ goesBefore x o
+  unfolding goesBefore
+  goes-rank h = simp (lt-ltb _ _ h)
+
+  pub goes-other : o .instruction .meaning .rank ≤ x .instruction .meaning .rank → (codeNumber (effectOf x) ≡ 2 → ⊥) → false ≡ goesBefore x o
+  unfolding goesBefore
+  goes-other h k = simp (le-ltb _ _ h, ne-eqb _ _ k)
+
+  pub goes-second : o .instruction .meaning .rank ≤ x .instruction .meaning .rank → codeNumber (effectOf x) ≡ 2 → (codeNumber (effectOf o) ≡ 2 → ⊥) → false ≡ goesBefore x o
+  unfolding goesBefore
+  goes-second h k j = simp (le-ltb _ _ h, eq-eqb _ _ k, ne-eqb _ _ j)
+
+  pub goes-level : o .instruction .meaning .rank ≤ x .instruction .meaning .rank → codeNumber (effectOf x) ≡ 2 → codeNumber (effectOf o) ≡ 2 → ltb (levelOf o) (levelOf x) ≡ goesBefore x o
+  unfolding goesBefore
+  goes-level h k j = simp (le-ltb _ _ h, eq-eqb _ _ k, eq-eqb _ _ j)
+
+  pub higher-yes : goesBefore x o ≡ true → x ≡ pick (goesBefore x o) x o
+  higher-yes e = rw e
+
+  pub higher-no : goesBefore x o ≡ false → o ≡ pick (goesBefore x o) x o
+  higher-no e = rw e
+
+-- ---- the effective times and the issue times
+module _ (x j t issue : ℕ) where
+  pub supersedes-same : x ≡ t → ltb issue j ≡ supersedesAt x j t issue
+  unfolding supersedesAt
+  supersedes-same e = simp (eq-eqb _ _ e)
+
+  pub supersedes-other : (x ≡ t → ⊥) → false ≡ supersedesAt x j t issue
+  unfolding supersedesAt
+  supersedes-other h = simp (ne-eqb _ _ h)
+
+module _ (x t best : ℕ) where
+  pub earlier-past : x < t → best ≡ earlierOf x t best
+  unfolding earlierOf
+  earlier-past h = simp (lt-leb _ _ h)
+
+  pub earlier-less : t ≤ x → x < best → x ≡ earlierOf x t best
+  unfolding earlierOf
+  earlier-less h k = simp (le-leb _ _ h) (omega arith)
+
+  pub earlier-not : t ≤ x → best ≤ x → best ≡ earlierOf x t best
+  unfolding earlierOf
+  earlier-not h k = simp (le-leb _ _ h) (omega arith)
+
+pub next-none : {ts : List ℕ} (end t : ℕ) → ts ≡ [] → nextAt end ts t ≡ end
+unfolding nextAt
+next-none end t e = rw e
+
+pub superseded-none : {ts : List ℕ} (js : List ℕ) (t issue : ℕ) → ts ≡ [] → supersededAt ts js t issue ≡ false
+unfolding supersededAt
+superseded-none js t issue e = rw e
+
+module _ (ts : List ℕ) (n : ℕ) (fits : n ≤ length ts) where
+  pub next-more : (end t i : ℕ) → i < n → earlierOf (getD ts i 0) t (nextAt end (drop (i + 1) (take n ts)) t) ≡ nextAt end (drop i (take n ts)) t
+  unfolding nextAt
+  next-more end t i h = rw (left-cons ts n i 0 h fits)
+
+  module _ (js : List ℕ) (room : n ≤ length js) (t issue i : ℕ) (h : i < n) where
+    pub superseded-here : supersedesAt (getD ts i 0) (getD js i 0) t issue ≡ true → supersededAt (drop i (take n ts)) (drop i (take n js)) t issue ≡ true
+    unfolding supersededAt
+    superseded-here e = rw (left-cons ts n i 0 h fits, left-cons js n i 0 h room, e)
+
+    pub superseded-next : supersedesAt (getD ts i 0) (getD js i 0) t issue ≡ false → supersededAt (drop i (take n ts)) (drop i (take n js)) t issue ≡ supersededAt (drop (i + 1) (take n ts)) (drop (i + 1) (take n js)) t issue
+    unfolding supersededAt
+    superseded-next e = rw (left-cons ts n i 0 h fits, left-cons js n i 0 h room, e)
+
+-- they say of the times what the definitions say of the instructions
+superseded-times : (os : List Numbered) (o : Numbered) → supersededAt (map effectiveOf os) (map issueOf os) (effectiveOf o) (issueOf o) ≡ superseded os o
+unfolding superseded some supersededAt supersedesAt
+superseded-times [] o = refl
+superseded-times (x ∷ os) o = ap (λ (b : Bool). (eqb (effectiveOf x) (effectiveOf o) && ltb (issueOf o) (issueOf x)) || b) (superseded-times os o)
+
+next-times : (end : ℕ) (os : List Numbered) (t : ℕ) → nextAt end (map effectiveOf os) t ≡ nextTime end os t
+unfolding nextAt nextTime earlierOf
+next-times end [] t = refl
+next-times end (o ∷ os) t = ap (λ (k : ℕ). pick (leb t (effectiveOf o)) (min (effectiveOf o) k) k) (next-times end os t)
+
+module _ {os : List Numbered} {ts js : List ℕ} (timed : Timed os ts js) where
+  pub superseded-is : (o : Numbered) (t issue : ℕ) → t ≡ effectiveOf o → issue ≡ issueOf o → supersededAt ts js t issue ≡ superseded os o
+  superseded-is o t issue e k = rw (timed .effective, timed .issued, e, k) (superseded-times os o)
+
+  pub next-is : (end t : ℕ) → nextAt end ts t ≡ nextTime end os t
+  next-is end t = rw (timed .effective) (next-times end os t)
+
+map-at : (f : Numbered → ℕ) (xs : List Numbered) (i : ℕ) → getD (map f xs) i (f noNumbered) ≡ f (getD xs i noNumbered)
+map-at f [] i = refl
+map-at f (x ∷ xs) zero = refl
+map-at f (x ∷ xs) (suc i) = map-at f xs i
+
+-- as many as there are
+pub time-fits : (f : Numbered → ℕ) (os : List Numbered) (ts : List ℕ) (n : ℕ) → take n ts ≡ map f (take n os) → n ≤ length os → n ≤ length ts
+time-fits f os ts n e h = omega (arith, length-take n ts, ap length e, map-length f (take n os), length-take-le n os h)
+
+pub time-at : (f : Numbered → ℕ) (os : List Numbered) (ts : List ℕ) (n i : ℕ) → take n ts ≡ map f (take n os) → i < n → getD ts i (f noNumbered) ≡ f (getD os i noNumbered)
+time-at f os ts n i e h =
+    sym (getD-take n ts i (f noNumbered) h) ∙ (ap (λ (l : List ℕ). getD l i (f noNumbered)) e ∙ (map-at f (take n os) i ∙ ap f (getD-take n os i noNumbered h)))
+
+pub superseded-at : {os : List Numbered} {ts js : List ℕ} → Timed os ts js → (i : ℕ) → supersededAt ts js (getD ts i 0) (getD js i 0) ≡ superseded os (getD os i noNumbered)
+superseded-at {os} {ts} {js} timed i =
+    superseded-is timed (getD os i noNumbered) (getD ts i 0) (getD js i 0) (ap (λ (l : List ℕ). getD l i 0) (timed .effective) ∙ map-at effectiveOf os i) (ap (λ (l : List ℕ). getD l i 0) (timed .issued) ∙ map-at issueOf os i)
+
+-- left at the effective time t
+unfoldable pub inGroup : List Numbered → ℕ → Numbered → Bool
+inGroup os t o = eqb (effectiveOf o) t && not (superseded os o)
+
+module _ (os : List Numbered) (t : ℕ) (o : Numbered) where
+  pub group-other : (effectiveOf o ≡ t → ⊥) → inGroup os t o ≡ false
+  unfolding inGroup
+  group-other h = simp (ne-eqb _ _ h)
+
+  pub group-gone : superseded os o ≡ true → inGroup os t o ≡ false
+  unfolding inGroup
+  group-gone e = rw e (go (eqb (effectiveOf o) t))
+    where
+      go : (b : Bool) → (b && false) ≡ false
+      go true = refl
+      go false = refl
+
+  pub group-left : effectiveOf o ≡ t → superseded os o ≡ false → inGroup os t o ≡ true
+  unfolding inGroup
+  group-left h e = simp (eq-eqb _ _ h, e)
+
+-- ---- the carrier, and the one that is used
+module _ (g : List Numbered) where
+  pub carrier-sync : (f : Found) (o : Numbered) → foundList f ≡ earliest 4 g → f ≡ One o → o ∷ [] ≡ orElse (present Sync g) (present Desy g)
+  unfolding earliest present
+  carrier-sync f o p q = let e : present Sync g ≡ o ∷ [] = sym p ∙ ap foundList q in rw e
+
+  pub carrier-desy : (f k : Found) → foundList f ≡ earliest 4 g → f ≡ Nothing → foundList k ≡ earliest 6 g → foundList k ≡ orElse (present Sync g) (present Desy g)
+  unfolding earliest present
+  carrier-desy f k p q r = let e : present Sync g ≡ [] = sym p ∙ ap foundList q in rw e r
+
+  pub merged-other : (o : Numbered) → (codeNumber (effectOf o) ≡ 2 → ⊥) → o ∷ [] ≡ merged g o
+  unfolding merged
+  merged-other o h = simp (ne-eqb _ _ h)
+
+  pub merged-into : (o : Numbered) (f : Found) (c : Numbered) → codeNumber (effectOf o) ≡ 2 → foundList f ≡ orElse (present Sync g) (present Desy g) → f ≡ One c → carrying o c ∷ [] ≡ merged g o
+  unfolding merged
+  merged-into o f c h p q = let e : orElse (present Sync g) (present Desy g) ≡ c ∷ [] = sym p ∙ ap foundList q in simp (eq-eqb _ _ h, e)
+
+  pub merged-alone : (o : Numbered) (f : Found) → codeNumber (effectOf o) ≡ 2 → foundList f ≡ orElse (present Sync g) (present Desy g) → f ≡ Nothing → o ∷ [] ≡ merged g o
+  unfolding merged
+  merged-alone o f h p q = let e : orElse (present Sync g) (present Desy g) ≡ [] = sym p ∙ ap foundList q in simp (eq-eqb _ _ h, e)
+
+used-first : (g : List Numbered) → 1 ≤ length g → merged g (highest (getD g 0 noNumbered) (drop 1 g)) ≡ usedOf g
+unfolding usedOf
+used-first [] h = absurd (omega arith)
+used-first (o ∷ os) h = refl
+
+pub used-some : (g : List Numbered) (n : ℕ) → 1 ≤ n → n ≤ length g → merged (take n g) (highest (getD g 0 noNumbered) (drop 1 (take n g))) ≡ usedOf (take n g)
+used-some g n h k =
+    ap (λ (o : Numbered). merged (take n g) (highest o (drop 1 (take n g)))) (sym (getD-take n g 0 noNumbered h))
+    ∙ used-first (take n g) (omega (arith, length-take-le n g k))
+
+pub used-empty : (g : List Numbered) (n : ℕ) → n ≡ 0 → [] ≡ usedOf (take n g)
+unfolding usedOf
+used-empty g n e = rw e
+
+pub those-none : {A : Type 0} {xs : List A} (f : A → Bool) → xs ≡ [] → those f xs ≡ []
+unfolding those
+those-none f e = rw e
+
+pub highest-none : {os : List Numbered} (o : Numbered) → os ≡ [] → highest o os ≡ o
+unfolding highest
+highest-none o e = rw e
+
+pub earliest-none : {os : List Numbered} (code : ℕ) → os ≡ [] → earliest code os ≡ []
+unfolding earliest those
+earliest-none code e = rw e
+
+module _ (os : List Numbered) (n : ℕ) (d : Numbered) (fits : n ≤ length os) where
+  -- ---- a group: the highest of them, the earliest of a code
+  pub highest-next : (best : Numbered) (i : ℕ) → i < n → highest best (drop i (take n os)) ≡ highest (pick (goesBefore (getD os i d) best) (getD os i d) best) (drop (i + 1) (take n os))
+  unfolding highest
+  highest-next best i h = rw (left-cons os n i d h fits)
+
+  pub earliest-here : (code i : ℕ) → i < n → codeNumber (effectOf (getD os i d)) ≡ code → earliest code (drop i (take n os)) ≡ getD os i d ∷ []
+  unfolding earliest those
+  earliest-here code i h e = rw (left-cons os n i d h fits) (simp (eq-eqb _ _ e))
+
+  pub earliest-next : (code i : ℕ) → i < n → (codeNumber (effectOf (getD os i d)) ≡ code → ⊥) → earliest code (drop i (take n os)) ≡ earliest code (drop (i + 1) (take n os))
+  unfolding earliest those
+  earliest-next code i h e = rw (left-cons os n i d h fits) (simp (ne-eqb _ _ e))
+
+-- ---- those used
+pub used-stop : (end : ℕ) (os : List Numbered) (m t : ℕ) → end ≤ nextTime end os t → usedFrom end os m t ≡ []
+unfolding usedFrom
+used-stop end os zero t h = refl
+used-stop end os (suc m) t h = rw (le-ltb (nextTime end os t) end h, usedFrom)
+
+used-step : (end : ℕ) (os : List Numbered) (m t : ℕ) → nextTime end os t < end →
+    usedFrom end os (suc m) t ≡ usedOf (group os (nextTime end os t)) ++ usedFrom end os m (suc (nextTime end os t))
+unfolding usedFrom
+used-step end os m t h = rw (lt-ltb (nextTime end os t) end h, usedFrom)
+
+pub used-more : (end : ℕ) (os : List Numbered) (m t : ℕ) → 0 < m → nextTime end os t < end →
+    usedFrom end os m t ≡ usedOf (group os (nextTime end os t)) ++ usedFrom end os (m - 1) (nextTime end os t + 1)
+used-more end os zero t p h = absurd (omega arith)
+used-more end os (suc m) t p h =
+    let e : suc m - 1 ≡ m = omega arith in
+    rw (e, add-one (nextTime end os t)) (used-step end os m t h)
+
+pub used-zero : (end : ℕ) (os : List Numbered) (t : ℕ) → usedFrom end os 0 t ≡ []
+unfolding usedFrom
+used-zero end os t = refl
+
+pub used-begins : (end : ℕ) (os : List Numbered) (n : ℕ) → n ≤ length os → usedFrom end (take n os) (n - 0) 0 ≡ used end (take n os)
+unfolding used
+used-begins end os n h =
+    let e : n - 0 ≡ length (take n os) = omega (arith, length-take-le n os h) in
+    ap (λ (k : ℕ). usedFrom end (take n os) k 0) e

@@ -1,0 +1,48 @@
+use mathlib.Core.Path.{sym, ap, _∙_}
+use mathlib.Core.List.{[], _∷_}
+use Rattle.validation.specs.declared.Numbered.{Numbered}
+use Rattle.choosing.proofs.Laws.{merged-other, merged-into, merged-alone}
+use borrow.Author.Needs.{needs}
+use Rattle.choosing.proofs.merge.Statement.{statement}
+use Rattle.choosing.proofs.merge.Tie as tie
+
+code-of-requires : tie.Need-code-of-requires
+code-of-requires c κs = search needs
+
+returns : tie.Need-returns
+returns c = merged-other _ _ (λ e. c .if1 .taken (c .before .code-of .ensures ∙ e))
+
+carrier-of-requires : tie.Need-carrier-of-requires
+carrier-of-requires c κs = search needs
+
+enum-known-carrier : tie.Need-enum-known-carrier
+enum-known-carrier c = search needs
+
+carry-requires : tie.Need-carry-requires
+carry-requires c κs = search needs
+
+enum-told : tie.Need-enum-told
+enum-told c = search needs
+
+returns-2 : tie.Need-returns-2
+returns-2 c =
+    let s = c .before .before .before .before .before .before .before in
+    ap (λ (o : Numbered). o ∷ []) (c .carry .ensures) ∙ merged-into _ (s .args .highest) (c .before .before .before .before .carrier-of .result) _ (sym (c .before .before .before .before .before .before .code-of .ensures) ∙ c .before .before .before .before .before .if1 .left) (c .before .before .before .before .carrier-of .ensures) (c .before .before .carrier .given .1)
+
+returns-3 : tie.Need-returns-3
+returns-3 c =
+    let s = c .before .before .before .before .before in
+    merged-alone _ (s .args .highest) (c .before .before .carrier-of .result) (sym (c .before .before .before .before .code-of .ensures) ∙ c .before .before .before .if1 .left) (c .before .before .carrier-of .ensures) (c .enum-told .given .1)
+
+pub merge-spec : {M : Type 1} → statement M
+merge-spec =
+    tie.close
+    (tie.spec
+    code-of-requires
+    returns
+    carrier-of-requires
+    enum-known-carrier
+    carry-requires
+    enum-told
+    returns-2
+    returns-3)

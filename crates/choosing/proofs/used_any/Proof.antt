@@ -1,0 +1,103 @@
+use Prim.Native.Nat.{ℕ, _≤_, _-_, _+_}
+use mathlib.Core.Path.{_≡_, sym, ap, _∙_}
+use mathlib.Core.List.{List, [], _++_}
+use lib.ListN.{take}
+use Rattle.validation.specs.declared.Numbered.{Numbered}
+use Rattle.validation.specs.Kept.{effectiveOf, used, usedFrom, usedOf, group, nextTime}
+use Rattle.choosing.specs.Working.{foundList}
+use Rattle.choosing.proofs.Laws.{Begun, begun-none, begun-found, begun-all, joined-count, held, next-is, time-fits, used-stop, used-more, used-zero, used-begins}
+use native.Mathlib.Omega.{arith}
+use borrow.Author.Needs.{needs}
+use Rattle.choosing.proofs.used_any.Statement.{statement}
+use Rattle.choosing.proofs.used_any.Tie as tie
+
+abbrev Inv-loop : tie.InvT-loop
+Inv-loop os times issues n end out₀ t₀ i₀ out t i = (i ≤ n) × (out .count ≤ i) × Begun out (usedFrom end (take n os) (n - i) t) (used end (take n os))
+
+abbrev μ-loop : tie.MeasureT-loop
+μ-loop os times issues n end out₀ t₀ i₀ out t i = n - i
+
+empty-requires : tie.Need-empty-requires Inv-loop μ-loop
+empty-requires c κs = search needs
+
+loop-holds : tie.Need-loop-holds Inv-loop μ-loop
+loop-holds c =
+    let s = c .before in
+    (omega arith, rw (c .empty .ensures) (omega arith), rw (c .empty .ensures, used-begins (s .args .end) (s .args .os) (s .args .n) (omega (arith, s .good .0 .1 .0 .1))) (begun-none (used (s .args .end) (take (s .args .n) (s .args .os)))))
+
+next-time-requires : tie.Need-next-time-requires Inv-loop μ-loop
+next-time-requires c κs =
+    let s = c .before .before .before in
+    (omega arith, time-fits effectiveOf (s .args .os) (s .args .times .now) (s .args .n) (s .pre .1 .effective) (omega (arith, s .good .0 .1 .0 .1)))
+
+returns : tie.Need-returns Inv-loop μ-loop
+returns c =
+    let s = c .before .before .before .before .before in
+    let l = c .before .before .before .loop in
+    let a = s .args in
+    let t = c .before .next-time .ensures ∙ next-is (s .pre .1) (a .end) (l .t) in
+    (begun-all (rw (used-stop (a .end) (take (a .n) (a .os)) (a .n - l .i) (l .t) (omega (arith, t))) at (l .inv .2)), omega arith)
+
+group-at-requires : tie.Need-group-at-requires Inv-loop μ-loop
+group-at-requires c κs = search needs
+
+used-of-requires : tie.Need-used-of-requires Inv-loop μ-loop
+used-of-requires c κs = search needs
+
+push-found-requires : tie.Need-push-found-requires Inv-loop μ-loop
+push-found-requires c κs = search needs
+
+add-t : tie.Need-add-t Inv-loop μ-loop
+add-t c = omega arith
+
+add-i : tie.Need-add-i Inv-loop μ-loop
+add-i c = omega arith
+
+loop-less : tie.Need-loop-less Inv-loop μ-loop
+loop-less c = omega arith
+
+loop-again : tie.Need-loop-again Inv-loop μ-loop
+loop-again c =
+    let z = c .before .before .before .before .before .before .before .before .before in
+    let s = z .args in
+    let l = c .before .before .before .before .before .before .before .loop in
+    let os = take (s .n) (s .os) in
+    let next = c .before .before .before .before .before .next-time .result in
+    let t : next ≡ nextTime (s .end) os (l .t) = c .before .before .before .before .before .next-time .ensures ∙ next-is (z .pre .1) (s .end) (l .t) in
+    let u = c .before .used-of .result in
+    let g : foundList u ≡ usedOf (group os next) = c .before .used-of .ensures ∙ ap usedOf (held (c .before .before .before .group-at .ensures .0) (c .before .before .before .group-at .ensures .1)) in
+    let m : s .n - (l .i + 1) ≡ s .n - l .i - 1 = omega arith in
+    let q : usedFrom (s .end) os (s .n - l .i) (l .t) ≡ foundList u ++ usedFrom (s .end) os (s .n - (l .i + 1)) (next + 1) =
+    used-more (s .end) os (s .n - l .i) (l .t) (omega arith) (omega arith)
+    ∙ (ap (λ (k : ℕ). usedOf (group os k) ++ usedFrom (s .end) os (s .n - l .i - 1) (k + 1)) (sym t)
+    ∙ (ap (λ (k : ℕ). usedOf (group os next) ++ usedFrom (s .end) os k (next + 1)) (sym m)
+    ∙ ap (λ (xs : List Numbered). xs ++ usedFrom (s .end) os (s .n - (l .i + 1)) (next + 1)) (sym g))) in
+    let e = c .push-found .ensures in
+    (omega arith, rw e (omega (arith, joined-count (l .out) u)), rw e (begun-found u (omega arith) (rw q at (l .inv .2))))
+
+returns-2 : tie.Need-returns-2 Inv-loop μ-loop
+returns-2 c =
+    let s = c .before .before .before .args in
+    let l = c .before .loop in
+    let z : s .n - l .i ≡ 0 = omega arith in
+    let e : usedFrom (s .end) (take (s .n) (s .os)) (s .n - l .i) (l .t) ≡ [] = ap (λ (k : ℕ). usedFrom (s .end) (take (s .n) (s .os)) k (l .t)) z ∙ used-zero (s .end) (take (s .n) (s .os)) (l .t) in
+    (begun-all (rw e at (l .inv .2)), omega arith)
+
+pub used-any-spec : {M : Type 1} → statement M
+used-any-spec =
+    tie.close
+    (tie.spec
+    Inv-loop
+    μ-loop
+    empty-requires
+    loop-holds
+    next-time-requires
+    returns
+    group-at-requires
+    used-of-requires
+    push-found-requires
+    add-t
+    add-i
+    loop-less
+    loop-again
+    returns-2)
