@@ -2,6 +2,7 @@ pub mod Arrays
 pub mod Rates
 pub mod Holds
 pub mod Nexts
+pub mod Sides
 pub mod Onward
 pub mod Seconds
 pub mod Goes

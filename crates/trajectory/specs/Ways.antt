@@ -11,7 +11,7 @@ use Rattle.records.specs.declared.Ramp.{Ramp}
 use Rattle.records.specs.declared.UnitData.{UnitData}
 use Rattle.course.specs.declared.Course.{Course}
 use Rattle.course.specs.Lists.{Lists, ratesOf, inGrains, columnFor, replaced, listsOf}
-use Rattle.course.specs.Course.{Heading, rising, falling, counting}
+use Rattle.course.specs.Course.{Heading, rising, falling}
 use Rattle.trajectory.specs.declared.OwnLists.{OwnLists}
 
 -- the heading, rising or not
@@ -49,14 +49,6 @@ unfoldable pub ramping : Heading → ℕ → ℕ → Bool
 ramping rising msg = λ v. leb msg v
 ramping falling msg = λ v. ltb msg v
 
-unfoldable pub lower : Heading → ℕ → ℕ → Bool
-lower rising msg = λ v. ltb v msg
-lower falling msg = λ v. leb v msg
-
--- breaks (kW) that pass a test, in grains
-unfoldable pub breaksIn : (ℕ → Bool) → List ℕ → List ℕ
-breaksIn f bs = those f (map grains bs)
-
--- the levels of the triggers that count
-unfoldable pub levelsIn : (ℕ → Bool) → List Trigger → List ℕ
-levelsIn f gs = map (λ (g : Trigger). g .level) (counting f (map inGrains gs))
+-- the levels (grains) of the triggers that have minutes
+unfoldable pub timedLevels : List Trigger → List ℕ
+timedLevels gs = map (λ (g : Trigger). grains (g .level)) (those (λ g. ltb 0 (g .minutes)) gs)

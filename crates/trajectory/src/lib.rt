@@ -8,12 +8,13 @@ ghost use Prim.Native.Nat.{ℕ, _+_, _*_, _-_, _/_, min, max, _<_, _≤_};
 ghost use mathlib.Core.List.{[], _∷_, _++_, map};
 ghost use lib.ListN.{length, getD};
 ghost use lib.Dec.{leb, ltb};
+ghost use Rattle.level.specs.Choice.{pick};
 ghost use Rattle.level.specs.Lists.{listFrom};
 ghost use Rattle.level.specs.Level.{grains};
 ghost use Rattle.segments.specs.Segments.{seconds, area};
 ghost use Rattle.course.specs.Lists.{placeOf, columnFor, replaced, inGrains};
 ghost use Rattle.course.specs.Course.{rising, falling, gap, toward, passed, rateAt, nearest, nextStop, holding, holdAt, trajectoryOf, levelAt, segments};
-ghost use Rattle.trajectory.specs.Ways.{headed, rampFor, ownLists, listsBy, ramping, lower, breaksIn, levelsIn};
+ghost use Rattle.trajectory.specs.Ways.{headed, rampFor, ownLists, listsBy, ramping, timedLevels};
 ghost use Rattle.course.proofs.Near.{Short};
 ghost use Rattle.trajectory.specs.Walk.{Reaches, momentOf, segmentTo, segmentFrom, afterHold, afterRest, afterRun, afterShort, along, onward, standing, beginning, pieceBetween, twiceBetween, twiceTo, segmentsFrom, notedAt};
 ghost use Rattle.trajectory.specs.Arrival.{arrivalOf, resting, pause};
@@ -295,110 +296,91 @@ fn nearer(up: bool, v: u64, w: u64, n: u64) -> u64
     n
 }
 
-// With a ramp's break, which counts where the ramp is in use.
-fn ramp_break(up: bool, v: u64, msg: u64, b: u32, n: u64) -> u64
-    ensures { λ r. ⌜ r ≡ nearest (headed up) v n (breaksIn (ramping (headed up) msg) (b ∷ [])) ⌝ }
+// With a break.
+fn break_stop(up: bool, v: u64, b: u32, n: u64) -> u64
+    ensures { λ r. ⌜ r ≡ nearest (headed up) v n (map grains (b ∷ [])) ⌝ }
 {
     let w = grains_of(b);
-    if in_ramp(up, msg, w) {
-        return nearer(up, v, w, n);
-    }
-    n
-}
-
-fn ramp_breaks(up: bool, v: u64, msg: u64, bs: [u32; 4], n: u64) -> u64
-    ensures { λ r. ⌜ r ≡ nearest (headed up) v n (breaksIn (ramping (headed up) msg) bs) ⌝ }
-{
-    let d = ramp_break(up, v, msg, bs[3], n);
-    let c = ramp_break(up, v, msg, bs[2], d);
-    let b = ramp_break(up, v, msg, bs[1], c);
-    ramp_break(up, v, msg, bs[0], b)
-}
-
-// With a break of the column or of deload, which counts where no ramp is in use.
-fn lower_break(up: bool, v: u64, msg: u64, b: u32, n: u64) -> u64
-    ensures { λ r. ⌜ r ≡ nearest (headed up) v n (breaksIn (lower (headed up) msg) (b ∷ [])) ⌝ }
-{
-    let w = grains_of(b);
-    if in_ramp(up, msg, w) {
-        return n;
-    }
     nearer(up, v, w, n)
 }
 
-fn column_breaks(v: u64, msg: u64, bs: [u32; 2], n: u64) -> u64
-    ensures { λ r. ⌜ r ≡ nearest rising v n (breaksIn (lower rising msg) bs) ⌝ }
+fn ramp_breaks(up: bool, v: u64, bs: [u32; 4], n: u64) -> u64
+    ensures { λ r. ⌜ r ≡ nearest (headed up) v n (map grains bs) ⌝ }
 {
-    let b = lower_break(true, v, msg, bs[1], n);
-    lower_break(true, v, msg, bs[0], b)
+    let d = break_stop(up, v, bs[3], n);
+    let c = break_stop(up, v, bs[2], d);
+    let b = break_stop(up, v, bs[1], c);
+    break_stop(up, v, bs[0], b)
 }
 
-fn deload_break(v: u64, msg: u64, bs: [u32; 1], n: u64) -> u64
-    ensures { λ r. ⌜ r ≡ nearest falling v n (breaksIn (lower falling msg) bs) ⌝ }
+fn column_breaks(v: u64, bs: [u32; 2], n: u64) -> u64
+    ensures { λ r. ⌜ r ≡ nearest rising v n (map grains bs) ⌝ }
 {
-    lower_break(false, v, msg, bs[0], n)
+    let b = break_stop(true, v, bs[1], n);
+    break_stop(true, v, bs[0], b)
 }
 
-// With a dwell trigger, which counts at or above MSG.
-fn dwell_stop(up: bool, v: u64, msg: u64, g: records::Trigger, n: u64) -> u64
-    ensures { λ r. ⌜ r ≡ nearest (headed up) v n (levelsIn (leb msg) (g ∷ [])) ⌝ }
+fn deload_break(v: u64, bs: [u32; 1], n: u64) -> u64
+    ensures { λ r. ⌜ r ≡ nearest falling v n (map grains bs) ⌝ }
+{
+    break_stop(false, v, bs[0], n)
+}
+
+// The level of a trigger that has minutes; of any other v itself, which never counts. So a trigger needs no branch.
+fn trigger_level(v: u64, g: records::Trigger) -> u64
+    ensures { λ r. ⌜ r ≡ pick (ltb 0 (g .minutes)) (grains (g .level)) v ⌝ }
 {
     let w = grains_of(g.level);
     if g.minutes == 0 {
-        return n;
+        return v;
     }
-    if w < msg {
-        return n;
-    }
+    w
+}
+
+// With a trigger, which counts where it has minutes.
+fn trigger_stop(up: bool, v: u64, g: records::Trigger, n: u64) -> u64
+    ensures { λ r. ⌜ r ≡ nearest (headed up) v n (timedLevels (g ∷ [])) ⌝ }
+{
+    let w = trigger_level(v, g);
     nearer(up, v, w, n)
 }
 
-fn dwell_stops(up: bool, v: u64, msg: u64, gs: [records::Trigger; 3], n: u64) -> u64
-    ensures { λ r. ⌜ r ≡ nearest (headed up) v n (levelsIn (leb msg) gs) ⌝ }
+fn dwell_stops(up: bool, v: u64, gs: [records::Trigger; 3], n: u64) -> u64
+    ensures { λ r. ⌜ r ≡ nearest (headed up) v n (timedLevels gs) ⌝ }
 {
-    let c = dwell_stop(up, v, msg, gs[2], n);
-    let b = dwell_stop(up, v, msg, gs[1], c);
-    dwell_stop(up, v, msg, gs[0], b)
+    let c = trigger_stop(up, v, gs[2], n);
+    let b = trigger_stop(up, v, gs[1], c);
+    trigger_stop(up, v, gs[0], b)
 }
 
-// With a soak trigger, which counts below MSG when rising.
-fn soak_stop(v: u64, msg: u64, g: records::Trigger, n: u64) -> u64
-    ensures { λ r. ⌜ r ≡ nearest rising v n (levelsIn (lower rising msg) (g ∷ [])) ⌝ }
+fn soak_stops(v: u64, gs: [records::Trigger; 2], n: u64) -> u64
+    ensures { λ r. ⌜ r ≡ nearest rising v n (timedLevels gs) ⌝ }
 {
-    let w = grains_of(g.level);
-    if g.minutes == 0 {
-        return n;
-    }
-    if msg <= w {
-        return n;
-    }
-    nearer(true, v, w, n)
+    let b = trigger_stop(true, v, gs[1], n);
+    trigger_stop(true, v, gs[0], b)
 }
 
-fn soak_stops(v: u64, msg: u64, gs: [records::Trigger; 2], n: u64) -> u64
-    ensures { λ r. ⌜ r ≡ nearest rising v n (levelsIn (lower rising msg) gs) ⌝ }
-{
-    let b = soak_stop(v, msg, gs[1], n);
-    soak_stop(v, msg, gs[0], b)
-}
-
-// Every candidate in turn, the nearest so far going along; the target is the furthest.
+// The candidates of the level's own side of MSG in turn, the nearest so far going along; the target is the furthest. What
+// counts only on the other side lies behind the level, or MSG lies before it. For the same reason a break or a trigger
+// needs no look at its own side: on the wrong one it is never the nearest.
 fn stop_rising(l: OwnLists, c: course::Course, v: u64) -> u64
     ensures { λ r. ⌜ r ≡ nextStop rising (listsBy l c) (grains (c .target)) v ⌝ }
 {
     let t = grains_of(c.target);
     let msg = grains_of(l.msg);
-    let dwells = l.dwells;
-    let d = dwell_stops(true, v, msg, dwells, t);
+    if msg <= v {
+        let dwells = l.dwells;
+        let d = dwell_stops(true, v, dwells, t);
+        let ramp = l.ramp;
+        let bs = ramp.breaks;
+        return ramp_breaks(true, v, bs, d);
+    }
+    let m = nearer(true, v, msg, t);
     let column = l.column;
     let soaks = column.soaks;
-    let s = soak_stops(v, msg, soaks, d);
-    let ramp = l.ramp;
-    let bs = ramp.breaks;
-    let r = ramp_breaks(true, v, msg, bs, s);
+    let s = soak_stops(v, soaks, m);
     let cs = column.breaks;
-    let q = column_breaks(v, msg, cs, r);
-    nearer(true, v, msg, q)
+    column_breaks(v, cs, s)
 }
 
 fn stop_falling(l: OwnLists, c: course::Course, v: u64) -> u64
@@ -406,15 +388,17 @@ fn stop_falling(l: OwnLists, c: course::Course, v: u64) -> u64
 {
     let t = grains_of(c.target);
     let msg = grains_of(l.msg);
+    if v <= msg {
+        let deload = l.deload;
+        let cs = deload.breaks;
+        return deload_break(v, cs, t);
+    }
+    let m = nearer(false, v, msg, t);
     let dwells = l.dwells;
-    let d = dwell_stops(false, v, msg, dwells, t);
-    let deload = l.deload;
-    let cs = deload.breaks;
-    let q = deload_break(v, msg, cs, d);
+    let d = dwell_stops(false, v, dwells, m);
     let ramp = l.ramp;
     let bs = ramp.breaks;
-    let r = ramp_breaks(false, v, msg, bs, q);
-    nearer(false, v, msg, r)
+    ramp_breaks(false, v, bs, d)
 }
 
 // The next stop past the level v, and the target where nothing stops the course before.

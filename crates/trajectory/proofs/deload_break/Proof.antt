@@ -1,21 +1,20 @@
 use Rattle.trajectory.proofs.Nexts.{one-break}
-use Rattle.trajectory.specs.Ways.{lower}
 use Rattle.course.specs.Course.{falling}
 use borrow.Author.Needs.{needs}
 use Rattle.trajectory.proofs.deload_break.Statement.{statement}
 use Rattle.trajectory.proofs.deload_break.Tie as tie
 
-array-read-lower-break : tie.Need-array-read-lower-break
-array-read-lower-break c = search needs
+array-read-break-stop : tie.Need-array-read-break-stop
+array-read-break-stop c = search needs
 
-lower-break-requires : tie.Need-lower-break-requires
-lower-break-requires c κs = search needs
+break-stop-requires : tie.Need-break-stop-requires
+break-stop-requires c κs = search needs
 
 returns : tie.Need-returns
 returns c =
     let s = c .before in
-    rw (c .lower-break .ensures)
-    (one-break (lower falling (s .args .msg)) falling (s .args .v) (s .args .n) (s .args .t3) (s .good .1 .1 .0 .1 .0 .1))
+    rw (c .break-stop .ensures)
+    (one-break falling (s .args .v) (s .args .n) (s .args .t2) (s .good .1 .0 .1 .0 .1))
 
 pub deload-break-spec : {M : Type 1} → statement M
-deload-break-spec = tie.close (tie.spec array-read-lower-break lower-break-requires returns)
+deload-break-spec = tie.close (tie.spec array-read-break-stop break-stop-requires returns)
