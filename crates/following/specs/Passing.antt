@@ -74,5 +74,7 @@ pub record Passing (l : OwnLists) (c : Course) (up : Bool) (from : Place) (befor
   pub stands : r .place ≡ standing (headed up) (listsBy l c) (grains (c .target)) (r .place .second) from
   pub runs : r .place .second < n → r .ahead ≡ onward (headed up) (listsBy l c) (grains (c .target)) n (r .place)
   pub rests : n ≤ r .place .second → r .ahead ≡ r .place
+  pub there : r .ahead .second ≡ n
+  pub ahead-low : r .ahead .level < 274877906944
   pub watched : (u : UnitData) (b : ℕ) → l ≡ ownLists u c up → Watching u c b up from before →
       Watching u c b up (r .place) (r .off) × Watching u c b up (r .ahead) (r .later)

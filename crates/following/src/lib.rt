@@ -2,16 +2,20 @@
 // and twice the area of each half-hour.
 ghost use mathlib.Core.Path.{_≡_};
 ghost use Prim.Native.Nat.{ℕ, _+_, _*_, min, _<_, _≤_};
-ghost use lib.ListN.{length};
+ghost use lib.ListN.{length, take};
 ghost use Rattle.level.specs.Level.{grains};
+ghost use Rattle.level.specs.Lists.{All};
 ghost use Rattle.course.proofs.Near.{Short};
 ghost use Rattle.trajectory.specs.Ways.{headed, listsBy};
 ghost use Rattle.trajectory.proofs.Goes.{Goes};
 ghost use Rattle.lines.specs.Text.{laid};
-ghost use Rattle.printing.specs.Rest.{pieceLine};
-ghost use Rattle.following.specs.Passing.{AddsFlat, AddsOn, Summed, lastLine, Roomy, Passing};
+ghost use Rattle.printing.specs.Rest.{pieceLine, coursesLines};
+ghost use Rattle.following.specs.Passing.{AddsFlat, AddsOn, Summed, linesLeft, lastLine, Roomy, Passing};
+ghost use Rattle.following.specs.Following.{setOut, Ordered, LowStart, coursesFrom, Onward, FollowedBy, EndedBy};
 
-// The seconds of a half-hour.
+// The day's seconds, and those of a half-hour.
+const DAY: u32 = 86400;
+
 const HALF_HOUR: u32 = 1800;
 
 fn smaller(a: u32, b: u32) -> u32
@@ -206,4 +210,127 @@ fn end_course(
         return 0;
     }
     lay_piece(out, parts, l, c, up, p, q)
+}
+
+// ---- one instruction after another
+
+// A course under way, and how far it has been passed: its heading, its own lists, the place and the seconds off there.
+pub struct OnCourse {
+    pub now: profile::UnderWay,
+    pub up: bool,
+    pub lists: trajectory::OwnLists,
+    pub place: trajectory::Place,
+    pub off: u32,
+}
+
+// A course at its beginning.
+fn set_out(u: records::UnitData, now: profile::UnderWay) -> OnCourse
+    ensures { λ r. ⌜ r ≡ setOut u now ⌝ }
+{
+    let c = now.course;
+    let up = trajectory::is_rising(c);
+    let lists = trajectory::own_lists(u, c, up);
+    let place = trajectory::begin_at(c, c.begin);
+    let off = close::off_starting(c, now.off);
+    OnCourse {
+        now,
+        up,
+        lists,
+        place,
+        off,
+    }
+}
+
+// The last course that was begun, the fates of those that acted in acting order, and how many bytes were written.
+pub struct Followed {
+    pub last: OnCourse,
+    pub fates: [u8; 40],
+    pub count: usize,
+}
+
+// The first n of those that act, from the course `first` on; each read with the state just before. Fate 7: the course under
+// way goes on. Fate 0: it ends there, and a new one begins.
+fn follow_on(
+    out: &mut [u8],
+    parts: &mut [u64; 49],
+    u: records::UnitData,
+    first: profile::UnderWay,
+    acts: [validation::Numbered; 40],
+    n: usize,
+) -> Followed
+    requires { ⌜ (n ≤ 40) × Ordered (first .course .begin) (take n acts) ⌝ }
+    requires { ⌜ Summed (first .course .begin) (now parts) × All LowStart (coursesFrom u first (take n acts)) ⌝ }
+    requires { ⌜ length (coursesLines u (coursesFrom u first (take n acts))) ≤ length (now out) ⌝ }
+    ensures { λ r. ⌜ FollowedBy u first (take n acts) (now (out .entry)) (now (out .exit)) (now (parts .entry)) (now (parts .exit)) r ⌝ }
+{
+    let mut g = set_out(u, first);
+    let mut fates = [0u8; 40];
+    let mut count: usize = 0;
+    let mut i: usize = 0;
+    while i < n {
+        let o = acts[i];
+        let at = i;
+        i += 1;
+        let now = g.now;
+        let c = now.course;
+        let l = g.lists;
+        let t = close::acting_second(o);
+        let from = g.place;
+        let s = pass_to(&mut out[count..], parts, l, c, g.up, from, g.off, t);
+        count += s.count;
+        let p = s.place;
+        let q = s.ahead;
+        if close::stays_idle(o, q.level, now.maximised) {
+            fates[at] = 7;
+            g.place = p;
+            g.off = s.off;
+        } else {
+            let w = end_course(&mut out[count..], parts, l, c, g.up, p, q);
+            count += w;
+            let state = profile::State {
+                level: q.level,
+                off: s.later,
+            };
+            let next = close::begin_course(u, now, o, state);
+            g = set_out(u, next);
+        }
+    }
+    Followed {
+        last: g,
+        fates,
+        count,
+    }
+}
+
+// The last course to the day's end: the closing state, and how many bytes were written.
+pub struct Ended {
+    pub closing: profile::Closing,
+    pub count: usize,
+}
+
+fn end_day(out: &mut [u8], parts: &mut [u64; 49], g: OnCourse) -> Ended
+    requires { ⌜ Onward g × (g .place .second ≤ 86400) × Summed (g .place .second) (now parts) ⌝ }
+    requires { ⌜ length (linesLeft (g .lists) (g .now .course) (g .up) 86400 (g .place)) ≤ length (now out) ⌝ }
+    ensures { λ r. ⌜ EndedBy g (now (out .entry)) (now (out .exit)) (now (parts .entry)) (now (parts .exit)) r ⌝ }
+{
+    let now = g.now;
+    let c = now.course;
+    let l = g.lists;
+    let from = g.place;
+    let s = pass_to(out, parts, l, c, g.up, from, g.off, DAY);
+    let at = s.count;
+    let p = s.place;
+    let q = s.ahead;
+    let w = end_course(&mut out[at..], parts, l, c, g.up, p, q);
+    let level = level::Level { grains: q.level };
+    let closing = profile::Closing {
+        level,
+        target: c.target,
+        heat: c.heat,
+        off: s.later,
+    };
+    Ended {
+        closing,
+        count: at + w,
+    }
 }

@@ -1,0 +1,39 @@
+use borrow.Author.Needs.{needs}
+use Rattle.following.proofs.set_out.Statement.{statement}
+use Rattle.following.proofs.set_out.Tie as tie
+use Rattle.following.proofs.set_out.Reads as reads
+use Rattle.following.proofs.set_out.Lts as lts
+use Rattle.close.proofs.off_starting.Reads as off-starting-reads
+use Rattle.trajectory.proofs.begin_at.Reads as begin-at-reads
+use Rattle.trajectory.proofs.is_rising.Reads as is-rising-reads
+use Rattle.trajectory.proofs.own_lists.Reads as own-lists-reads
+
+-- src/lib.rt:231:9
+is-rising-requires : tie.Need-is-rising-requires
+is-rising-requires c κs = search needs
+
+-- src/lib.rt:232:9
+own-lists-requires : tie.Need-own-lists-requires
+own-lists-requires c κs = search needs
+
+-- src/lib.rt:233:9
+begin-at-requires : tie.Need-begin-at-requires
+begin-at-requires c κs = search needs
+
+-- src/lib.rt:234:9
+off-starting-requires : tie.Need-off-starting-requires
+off-starting-requires c κs = search needs
+
+-- src/lib.rt:227:1
+returns : tie.Need-returns
+returns c = ?
+
+pub set-out-spec : {M : Type 1} → statement M
+set-out-spec =
+    tie.close
+    (tie.spec
+    is-rising-requires
+    own-lists-requires
+    begin-at-requires
+    off-starting-requires
+    returns)
