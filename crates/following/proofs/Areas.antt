@@ -1,9 +1,11 @@
 -- Twice the area along a course, from one second to another, and along a level piece.
 -- Assumes nothing.
-use Prim.Native.Nat.{ℕ, zero, suc, _+_, _*_, _-_, _≤_, _<_}
+use Prim.Native.Nat.{ℕ, zero, suc, _+_, _*_, _-_, _/_, _≤_, _<_}
 use mathlib.Core.Path.{_≡_, refl, ap, sym, _∙_}
+use mathlib.Core.List.{List}
 use native.Mathlib.Nat.{mul-le-mul-right}
 use native.Mathlib.Omega.{arith}
+use lib.ListN.{getD, set}
 use borrow.Author.Tests.{lt-ltb}
 use Rattle.level.specs.Lists.{sum}
 use Rattle.segments.specs.Segments.{area}
@@ -16,7 +18,9 @@ use Rattle.trajectory.specs.declared.Place.{Place}
 use Rattle.trajectory.specs.Walk.{momentOf, standing, twiceBetween, twiceTo}
 use Rattle.trajectory.proofs.Seconds.{after-add}
 use Rattle.trajectory.proofs.Goes.{Goes}
-use Rattle.trajectory.proofs.Areas.{area-same, twice-on, twice-here}
+use Rattle.trajectory.proofs.Areas.{area-same, twice-on, twice-here, twice-low}
+use Rattle.following.specs.Passing.{AddsOn, Summed}
+use Rattle.following.proofs.Adding.{adds-none, adds-on, summed-on, part-fits}
 
 sum-from : (g : ℕ → ℕ) (x i n : ℕ) → sum g (x + i) n ≡ sum (λ j. g (x + j)) i n
 unfolding sum
@@ -110,3 +114,32 @@ module _ (h : Heading) (l : Lists) (t n : ℕ) (p q : Place) (g : Goes h l t n p
   level-area s le =
       let d : ℕ = s - p .second in
       sym (area-line (λ k. after h l t k (momentOf p) .level) 0 (p .level) 0 d (λ i k. path-at i (omega (arith, g .later))) ∙ omega arith)
+
+-- the straight piece from p to q, if it lies in one half-hour
+module _ (h : Heading) (l : Lists) (t : ℕ) (p q : Place) (xs : List ℕ) (g : Goes h l t (q .second) p q)
+    (day : q .second ≤ 86400) (low : p .level < 274877906944) (low-too : q .level < 274877906944)
+    (one : q .second ≤ (p .second / 1800 + 1) * 1800) (sums : Summed (p .second) xs) where
+  abbrev half : ℕ
+  half = p .second / 1800
+
+  abbrev more : ℕ
+  more = (q .second - p .second) * (p .level + q .level)
+
+  place : (half ≤ 47) × (1800 * half ≤ p .second) × (p .second ≤ q .second) × (q .second ≤ 1800 * half + 1800)
+  place = omega (arith, g .later)
+
+  more-low : more ≤ (q .second - p .second) * 549755813888
+  unfolding twiceBetween
+  more-low = twice-low p q low low-too
+
+  pub piece-fits : getD xs (half + 1) 0 + more < 18446744073709551616
+  piece-fits = part-fits half (p .second) (q .second) more xs (place .1) (place .2) (place .3) (place .0) day more-low sums
+
+  pub piece-adds : AddsOn h l t p (q .second) xs (set xs (half + 1) (getD xs (half + 1) 0 + more))
+      × Summed (q .second) (set xs (half + 1) (getD xs (half + 1) 0 + more))
+  unfolding twiceBetween
+  piece-adds = (
+    adds-on half (p .second) (q .second) more xs (place .1) (place .2) (place .3) (λ (i : ℕ). twiceTo h l t i p) xs (omega (arith, place .0, sums .0))
+        (twice-whole h l t p q g) (adds-none (λ (i : ℕ). twiceTo h l t i p) (p .second) xs (twice-none h l t p)),
+    summed-on half (p .second) (q .second) more xs (place .1) (place .2) (place .3) (place .0) more-low sums,
+  )
