@@ -1,6 +1,6 @@
 -- What goes on with time, added to the half-hour in which it lies.
 -- Assumes nothing.
-use Prim.Native.Nat.{ℕ, zero, suc, _+_, _*_, _-_, _/_, min, _≤_, _<_}
+use Prim.Native.Nat.{ℕ, zero, suc, _+_, _*_, _-_, min, _≤_, _<_}
 use mathlib.Core.Path.{_≡_, refl, ap, sym, _∙_}
 use mathlib.Core.List.{List, [], _∷_}
 use native.Mathlib.Decide.{decLe}
@@ -67,13 +67,12 @@ module _ (b x s to n : ℕ) (at : x ≡ 1800 * b) (day : to ≤ 86400) (begun : 
   pub step-next : (x + 1800 ≡ 1800 * (b + 1)) × (min (x + 1800) to ≤ n) × (n < x + 1800 + 1800)
   step-next = omega arith
 
--- a level from one second to another, and on to n
-module _ (level from s n : ℕ) where
-  pub flat-none : s ≤ from → (s - from) * (level + level) ≡ 0
-  flat-none h = ap (λ (k : ℕ). k * (level + level)) {x = s - from} {y = 0} (omega arith) ∙ zero-mul (level + level)
+-- a level from one second to another: nothing before, and on to n
+pub flat-none : (level from s : ℕ) → s ≤ from → (s - from) * (level + level) ≡ 0
+flat-none level from s h = ap (λ (k : ℕ). k * (level + level)) {x = s - from} {y = 0} (omega arith) ∙ zero-mul (level + level)
 
-  pub flat-on : from ≤ s → s ≤ n → (s - from) * (level + level) + (n - s) * (level + level) ≡ (n - from) * (level + level)
-  flat-on a b = sym (ap (λ (k : ℕ). k * (level + level)) {x = n - from} {y = s - from + (n - s)} (omega arith) ∙ omega arith)
+pub flat-on : (level from s n : ℕ) → from ≤ s → s ≤ n → (s - from) * (level + level) + (n - s) * (level + level) ≡ (n - from) * (level + level)
+flat-on level from s n a b = sym (ap (λ (k : ℕ). k * (level + level)) {x = n - from} {y = s - from + (n - s)} (omega arith) ∙ omega arith)
 
-  pub flat-low : level < 274877906944 → (n - s) * (level + level) ≤ (n - s) * 549755813888
-  flat-low h = mul-le-mul-left (n - s) (omega arith)
+pub flat-low : (level s n : ℕ) → level < 274877906944 → (n - s) * (level + level) ≤ (n - s) * 549755813888
+flat-low level s n h = mul-le-mul-left (n - s) (omega arith)

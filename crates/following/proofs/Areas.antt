@@ -53,13 +53,13 @@ module _ (h : Heading) (l : Lists) (t : ℕ) (p : Place) where
         let d : ℕ = k - p .second in
         let e : ℕ = n - k in
         sym (ap (area (path p) 0) {x = n - p .second} {y = d + e} (omega arith)
-            ∙ area-split (path p) 0 d e
-            ∙ ap (λ (i : ℕ). area (path p) 0 d + area (path p) i e) {x = 0 + d} {y = d} (omega arith)
-            ∙ ap (λ (i : ℕ). area (path p) 0 d + i) (area-from (path p) d e
-            ∙ area-same (λ j. path p (d + j)) (path (standing h l t k p)) (λ j. ap (λ (m : Moment). m .level) (after-add h l t d j (momentOf p))) 0 e))
+        ∙ area-split (path p) 0 d e
+        ∙ ap (λ (i : ℕ). area (path p) 0 d + area (path p) i e) {x = 0 + d} {y = d} (omega arith)
+        ∙ ap (λ (i : ℕ). area (path p) 0 d + i) (area-from (path p) d e
+        ∙ area-same (λ j. path p (d + j)) (path (standing h l t k p)) (λ j. ap (λ (m : Moment). m .level) (after-add h l t d j (momentOf p))) 0 e))
 
   -- where the course from p stands at the place a, and on from there to q, at the second n
-  module _ (a q : Place) (n v : ℕ) (there : a ≡ standing h l t (a .second) p) (from : p .second ≤ a .second) (on : a .second ≤ n)
+  module _ (a q : Place) (n : ℕ) (there : a ≡ standing h l t (a .second) p) (from : p .second ≤ a .second) (on : a .second ≤ n)
       (e : q ≡ standing h l t n a) where
     pub second-on : q .second ≡ n
     unfolding standing
@@ -69,8 +69,8 @@ module _ (h : Heading) (l : Lists) (t : ℕ) (p : Place) where
     stands-on =
         e ∙ ap (standing h l t n) there ∙ standing-twice (a .second) n from on ∙ ap (λ (i : ℕ). standing h l t i p) (sym second-on)
 
-    pub twice-more : v ≡ twiceTo h l t n a → twiceTo h l t (a .second) p + v ≡ twiceTo h l t n p
-    twice-more f = ap (λ (i : ℕ). twiceTo h l t (a .second) p + i) (f ∙ ap (twiceTo h l t n) there) ∙ twice-split (a .second) n from on
+    pub twice-more : (v : ℕ) → v ≡ twiceTo h l t n a → twiceTo h l t (a .second) p + v ≡ twiceTo h l t n p
+    twice-more v f = ap (λ (i : ℕ). twiceTo h l t (a .second) p + i) (f ∙ ap (twiceTo h l t n) there) ∙ twice-split (a .second) n from on
 
   -- nothing before p
   pub twice-none : (i : ℕ) → i ≤ p .second → twiceTo h l t i p ≡ 0

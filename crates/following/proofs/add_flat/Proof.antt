@@ -42,14 +42,14 @@ mul-x c = omega arith
 -- src/lib.rt:39:5
 loop-holds : tie.Need-loop-holds Inv-loop μ-loop
 loop-holds c = let s = c .args in (
-      omega arith,
-      omega arith,
-      omega arith,
-      omega arith,
-      omega arith,
-      adds-none (λ (i : ℕ). (i - s .from) * (s .level + s .level)) (s .from) (s .parts .now) (λ i h. flat-none (s .level) (s .from) i i h),
-      c .pre .1,
-    )
+  omega arith,
+  omega arith,
+  omega arith,
+  omega arith,
+  omega arith,
+  adds-none (λ (i : ℕ). (i - s .from) * (s .level + s .level)) (s .from) (s .parts .now) (flat-none (s .level) (s .from)),
+  c .pre .1,
+)
 
 -- src/lib.rt:40:9
 add-b : tie.Need-add-b Inv-loop μ-loop
@@ -83,7 +83,7 @@ cast-parts c = search needs
 mul-parts-2 : tie.Need-mul-parts-2 Inv-loop μ-loop
 mul-parts-2 c = let l = c .before .before .before .loop in
     let s = c .before .before .before .before in
-    omega (arith, ahead (c .before) .4, flat-low (s .args .level) (s .args .from) (l .at) (c .before .smaller .result) (s .pre .0 .2))
+    omega (arith, ahead (c .before) .4, flat-low (s .args .level) (l .at) (c .before .smaller .result) (s .pre .0 .2))
 
 -- src/lib.rt:44:20
 add-parts : tie.Need-add-parts Inv-loop μ-loop
@@ -91,7 +91,7 @@ add-parts c = let l = c .before .before .before .loop in
     let s = c .before .before .before .before in
     let n = c .before .smaller .result in
     let a = ahead (c .before) in
-    record { fits = part-fits (l .b) (l .at) n _ (l .parts) (a .1) (omega (arith, a .2)) (a .3) (a .0) (omega (arith, a .4, s .pre .0 .1)) (flat-low (s .args .level) (s .args .from) (l .at) n (s .pre .0 .2)) (l .inv .6) }
+    record { fits = part-fits (l .b) (l .at) n _ (l .parts) (a .1) (omega (arith, a .2)) (a .3) (a .0) (omega (arith, a .4, s .pre .0 .1)) (flat-low (s .args .level) (l .at) n (s .pre .0 .2)) (l .inv .6) }
 
 -- src/lib.rt:44:9
 mul-parts-3 : tie.Need-mul-parts-3 Inv-loop μ-loop
@@ -121,7 +121,7 @@ loop-again c = let l = c .before .before .before .loop in
       a .4,
       adds-on (l .b) (l .at) n v (l .parts) (a .1) on (a .3) (λ (i : ℕ). (i - s .args .from) * (s .args .level + s .args .level)) (s .args .parts .now)
           (omega (arith, a .0, l .inv .6 .0)) (flat-on (s .args .level) (s .args .from) (l .at) n (l .inv .3) on) (l .inv .5),
-      summed-on (l .b) (l .at) n v (l .parts) (a .1) on (a .3) (a .0) (flat-low (s .args .level) (s .args .from) (l .at) n (s .pre .0 .2)) (l .inv .6),
+      summed-on (l .b) (l .at) n v (l .parts) (a .1) on (a .3) (a .0) (flat-low (s .args .level) (l .at) n (s .pre .0 .2)) (l .inv .6),
     )
 
 -- src/lib.rt:29:1

@@ -112,7 +112,7 @@ reached : (c : tie.After-sum-to Inv-loop μ-loop) → c .sum-to .result .place .
 reached c =
     let l = c .before .before .before .before .loop in
     let s = c .before .before .before .before .before .before in
-    second-on (headed (s .args .up)) (listsBy (s .args .l) (s .args .c)) (grains (s .args .c .target)) (s .args .p) (l .at) (c .sum-to .result .place) (c .before .smaller .result) 0
+    second-on (headed (s .args .up)) (listsBy (s .args .l) (s .args .c)) (grains (s .args .c .target)) (s .args .p) (l .at) (c .sum-to .result .place) (c .before .smaller .result)
     (l .inv .7) (l .inv .3) (omega (arith, ahead (c .before) .2)) (c .sum-to .ensures .0)
 
 -- src/lib.rt:67:5
@@ -138,7 +138,7 @@ loop-again c = let l = c .before .before .before .before .before .before .before
     let ys = set (l .parts) (l .b + 1) (getD (l .parts) (l .b + 1) 0 + v) in
     let sums = subst (λ (i : ℕ). AddsOn h ls t p i (s .args .parts .now) ys × Summed i ys) (sym to) (
       adds-on (l .b) (l .at .second) n v (l .parts) (a .1) on (a .3) (λ (i : ℕ). twiceTo h ls t i p) (s .args .parts .now)
-          (omega (arith, a .0, l .inv .6 .0)) (twice-more h ls t p (l .at) q n v (l .inv .7) (l .inv .3) on (e .0) (e .1)) (l .inv .5),
+          (omega (arith, a .0, l .inv .6 .0)) (twice-more h ls t p (l .at) q n (l .inv .7) (l .inv .3) on (e .0) v (e .1)) (l .inv .5),
       summed-on (l .b) (l .at .second) n v (l .parts) (a .1) on (a .3) (a .0) (e .2) (l .inv .6),
     ) in (
       x .0,
@@ -148,7 +148,7 @@ loop-again c = let l = c .before .before .before .before .before .before .before
       omega (arith, a .4, to),
       sums .0,
       sums .1,
-      stands-on h ls t p (l .at) q n v (l .inv .7) (l .inv .3) on (e .0),
+      stands-on h ls t p (l .at) q n (l .inv .7) (l .inv .3) on (e .0),
       e .3,
       e .4,
     )
