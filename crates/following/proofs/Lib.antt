@@ -1,2 +1,4 @@
+pub mod Adding
+pub mod Areas
 pub mod After
 pub mod Watch
