@@ -65,13 +65,13 @@ area-from f x n =
 -- ---- the courses after
 
 module _ (u : UnitData) where
-  abbrev before : UnderWay → Numbered → State
+  abbrev pub before : UnderWay → Numbered → State
   before now o = stateAt byRule u now (acting o)
 
-  abbrev isIdle : UnderWay → Numbered → Bool
+  abbrev pub isIdle : UnderWay → Numbered → Bool
   isIdle now o = idle (o .instruction .meaning .effect) (o .instruction .level) (before now o .level) (now .maximised)
 
-  abbrev next : UnderWay → Numbered → UnderWay
+  abbrev pub next : UnderWay → Numbered → UnderWay
   next now o = begun u now o (before now o)
 
   module _ (now : UnderWay) (o : Numbered) (os : List Numbered) where

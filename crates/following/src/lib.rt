@@ -292,6 +292,7 @@ fn follow_on(
                 off: s.later,
             };
             let next = close::begin_course(u, now, o, state);
+            fates[at] = 0;
             g = set_out(u, next);
         }
     }
