@@ -33,7 +33,7 @@ use Rattle.lines.specs.Text.{laid}
 use Rattle.close.specs.Summing.{firstSum}
 use Rattle.close.specs.Walk.{fateIn, lastOf}
 use Rattle.printing.specs.Rest.{pieceLine, coursesLines}
-use Rattle.printing.proofs.Laws.{Laying, lay-none, lay-next, lay-more, pieces-more, pieces-none}
+use Rattle.printing.proofs.Laws.{Laying, lay-none, lay-room, lay-next, lay-more, pieces-more, pieces-none}
 use Rattle.following.specs.declared.Passed.{Passed}
 use Rattle.following.specs.declared.OnCourse.{OnCourse}
 use Rattle.following.specs.Passing.{AddsOn, Summed, linesLeft, lastLine, Watching, Roomy, Passing}
@@ -87,6 +87,13 @@ pub record Sofar (u : UnitData) (first : UnderWay) (all left : List Numbered) (o
   pub marked : marks ++ follow byRule u (g .now) left .marks ≡ follow byRule u first all .marks
   pub fates-are : fates ≡ filled 40 0 (map fateIn marks)
   pub last : lastOf (g .now) (follow byRule u (g .now) left .courses) ≡ lastOf first (follow byRule u first all .courses)
+
+-- what was written lies within what was lent
+pub has-room : (u : UnitData) (first : UnderWay) (all left : List Numbered) (o out xs ys : List ℕ) (g : OnCourse) (fates : List ℕ) (count i : ℕ) →
+    length (coursesLines u (coursesFrom u first all)) ≤ length o → Sofar u first all left o out xs ys g fates count i → (count ≤ length out) × (length out ≡ length o)
+has-room u first all left o out xs ys g fates count i enough w =
+    let r = lay-room (coursesLines u (coursesFrom u first all)) (linesAfter u g left) o out count enough (w .laying) in
+    (omega (arith, r .0, r .1), r .1)
 
 module _ (u : UnitData) (first : UnderWay) (all : List Numbered) (o xs : List ℕ) where
   pub sofar-start : (g : OnCourse) (fates : List ℕ) → g ≡ setOut u first → fates ≡ filled 40 0 [] → Ordered (first .course .begin) all → Summed (first .course .begin) xs →

@@ -1,3 +1,6 @@
+use mathlib.Core.Path.{_≡_, ap, _∙_}
+use Rattle.trajectory.specs.Ways.{ownLists}
+use Rattle.following.specs.Following.{setOut}
 use borrow.Author.Needs.{needs}
 use Rattle.following.proofs.set_out.Statement.{statement}
 use Rattle.following.proofs.set_out.Tie as tie
@@ -26,7 +29,17 @@ off-starting-requires c κs = search needs
 
 -- src/lib.rt:227:1
 returns : tie.Need-returns
-returns c = ?
+unfolding setOut
+returns c =
+    let s = c .before .before .before .before .before in
+    let up = c .before .before .before .is-rising .ensures in
+    λ k. record {
+      now = s .args .now;
+      up = up k;
+      lists = (c .before .before .own-lists .ensures ∙ ap (ownLists (s .args .u) (s .args .now .course)) up) k;
+      place = c .before .begin-at .ensures k;
+      off = c .off-starting .ensures k;
+    }
 
 pub set-out-spec : {M : Type 1} → statement M
 set-out-spec =
