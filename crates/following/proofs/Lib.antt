@@ -2,3 +2,4 @@ pub mod Adding
 pub mod Areas
 pub mod After
 pub mod Watch
+pub mod Pass
