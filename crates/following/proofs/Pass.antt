@@ -89,7 +89,7 @@ module _ (h : Heading) (n m : ℕ) (p : Place) (on : n ≤ m) where
 
 -- ---- a piece of it passed
 
--- it ends where it ends
+-- cut where it ends, it is the same
 pub goes-there : (h : Heading) (l : Lists) (t n : ℕ) (p q : Place) → Goes h l t n p q → Goes h l t (q .second) p q
 goes-there h l t n p q g = record {
   later = g .later;
@@ -175,7 +175,7 @@ module _ (l : OwnLists) (c : Course) (up : Bool) (from : Place) (before n : ℕ)
     }
 
     -- the next piece
-    module _ (q : Place) (more : ℕ) (target : c .target < 4294967296) (to-go : p .second < n) (e : q ≡ onward h ls t n p) (f : more ≡ offBetween p q off) where
+    module _ (q : Place) (target : c .target < 4294967296) (to-go : p .second < n) (e : q ≡ onward h ls t n p) where
       pub sofar-goes : Goes h ls t n p q
       sofar-goes = rw e (onward-goes h ls t n p to-go (s .short))
 
@@ -183,31 +183,7 @@ module _ (l : OwnLists) (c : Course) (up : Bool) (from : Place) (before n : ℕ)
       unfolding grains
       sofar-low = omega (arith, sofar-goes .low, s .low)
 
-      on-watch : (u : UnitData) (b : ℕ) → l ≡ ownLists u c up → Watching u c b up from before → Watching u c b up q more
-      on-watch u b k w = watching-on u c b up p off n (s .watched u b k w) to-go q more (e ∙ own-onward u c up l k t n p) f
-
-      -- n cuts it
-      pub sofar-cut : n ≤ q .second → Passing l c up from before n o out xs ys (record { place = p; ahead = q; off = off; later = more; count = count })
-      sofar-cut le = record {
-        lines = s .lines;
-        count = s .counted;
-        filled = s .filled;
-        rest = s .rest;
-        adds = s .adds;
-        sums = s .sums;
-        later = s .later;
-        within = s .within;
-        short = s .short;
-        low = s .low;
-        stands = s .stands;
-        runs = λ lt. e;
-        rests = λ k. absurd (omega arith);
-        there = omega (arith, sofar-goes .within);
-        ahead-low = sofar-low;
-        watched = λ u b k w. (s .watched u b k w, on-watch u b k w);
-      }
-
-      -- it ends before n
+      -- that ends before n
       module _ (ends : q .second < n) where
         line-next : (m : ℕ) → n ≤ m → linesLeft l c up m p ≡ pieceLine p q ++ linesLeft l c up m q
         line-next m k = pieces-more l c up m p q (omega arith) (s .short) (e ∙ sym (onward-stays h n m p k ls t (rw (sym e) ends)))
@@ -222,28 +198,53 @@ module _ (l : OwnLists) (c : Course) (up : Bool) (from : Place) (before n : ℕ)
         fits = omega (arith, ap length (rest-on (room .end) (room .within)), length-append lines-on (linesLeft l c up (room .end) q), room .room)
 
         -- its line has room
-        pub sofar-room : count + length (pieceLine p q) ≤ length out
-        sofar-room = omega (arith, fits, length-append (s .lines) (pieceLine p q), s .counted, sofar-length .1)
+        pub sofar-room : (count + length (pieceLine p q) ≤ length out) × (length out ≡ length o)
+        sofar-room = (omega (arith, fits, length-append (s .lines) (pieceLine p q), s .counted, sofar-length .1), sofar-length .1)
 
         stands-next : q ≡ standing h ls t (q .second) from
         stands-next =
             stands-on h ls t from p q (q .second) (s .stands) (s .later) (omega (arith, sofar-goes .later))
             (sym (standing-here h ls t (q .second) q refl) ∙ standing-on h ls t (q .second) p q (goes-there h ls t n p q sofar-goes))
 
-        -- and it is laid
-        pub sofar-more : (laid-on zs : List ℕ) (w : ℕ) → w ≡ length (pieceLine p q) → laid-on ≡ laid (pieceLine p q) (take (length out - count) (drop count out)) →
+      module _ (more : ℕ) (f : more ≡ offBetween p q off) where
+        on-watch : (u : UnitData) (b : ℕ) → l ≡ ownLists u c up → Watching u c b up from before → Watching u c b up q more
+        on-watch u b k w = watching-on u c b up p off n (s .watched u b k w) to-go q more (e ∙ own-onward u c up l k t n p) f
+
+        -- n cuts it
+        pub sofar-cut : n ≤ q .second → Passing l c up from before n o out xs ys (record { place = p; ahead = q; off = off; later = more; count = count })
+        sofar-cut le = record {
+          lines = s .lines;
+          count = s .counted;
+          filled = s .filled;
+          rest = s .rest;
+          adds = s .adds;
+          sums = s .sums;
+          later = s .later;
+          within = s .within;
+          short = s .short;
+          low = s .low;
+          stands = s .stands;
+          runs = λ lt. e;
+          rests = λ k. absurd (omega arith);
+          there = omega (arith, sofar-goes .within);
+          ahead-low = sofar-low;
+          watched = λ u b k w. (s .watched u b k w, on-watch u b k w);
+        }
+
+        -- it ends before n, and is laid
+        pub sofar-more : q .second < n → (laid-on zs : List ℕ) (w : ℕ) → w ≡ length (pieceLine p q) → laid-on ≡ laid (pieceLine p q) (take (length out - count) (drop count out)) →
             AddsOn h ls t p (q .second) ys zs → Summed (q .second) zs → Now (take count out ++ (laid-on ++ drop (length out - count) (drop count out))) zs q more (count + w)
-        sofar-more laid-on zs w ew el a sm = record {
-          lines = lines-on;
+        sofar-more ends laid-on zs w ew el a sm = record {
+          lines = lines-on ends;
           counted = omega (arith, s .counted, length-append (s .lines) (pieceLine p q));
-          filled = laid-part (s .lines) (pieceLine p q) o out laid-on count (s .counted) fits (s .filled) el;
-          rest = rest-on;
+          filled = laid-part (s .lines) (pieceLine p q) o out laid-on count (s .counted) (fits ends) (s .filled) el;
+          rest = rest-on ends;
           adds = λ j k. omega (arith, a j k, s .adds j k, twice-through h ls t from p (s .stands) (s .later) (q .second) (1800 * j) (omega (arith, sofar-goes .later)));
           sums = sm;
           later = omega (arith, s .later, sofar-goes .later);
           within = omega arith;
           short = sofar-goes .short;
           low = sofar-low;
-          stands = stands-next;
+          stands = stands-next ends;
           watched = on-watch;
         }
