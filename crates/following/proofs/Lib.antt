@@ -3,3 +3,4 @@ pub mod Areas
 pub mod After
 pub mod Watch
 pub mod Steps
+pub mod Pass
