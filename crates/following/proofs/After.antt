@@ -111,6 +111,10 @@ module _ (u : UnitData) where
   unfolding coursesFrom coursesAfter replaces
   after-new now o os e = rw (follow-new now o os e) refl
 
+  pub marks-none : (now : UnderWay) → follow byRule u now [] .marks ≡ []
+  unfolding follow
+  marks-none now = refl
+
   pub marks-idle : (now : UnderWay) (o : Numbered) (os : List Numbered) → isIdle now o ≡ true → follow byRule u now (o ∷ os) .marks ≡ mark 7 o ∷ follow byRule u now os .marks
   unfolding goesOn
   marks-idle now o os e = rw (follow-idle now o os e) refl

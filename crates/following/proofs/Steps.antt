@@ -37,8 +37,8 @@ use Rattle.printing.proofs.Laws.{Laying, lay-none, lay-room, lay-next, lay-more
 use Rattle.following.specs.declared.Passed.{Passed}
 use Rattle.following.specs.declared.OnCourse.{OnCourse}
 use Rattle.following.specs.Passing.{AddsOn, Summed, linesLeft, lastLine, Watching, Roomy, Passing}
-use Rattle.following.specs.Following.{setOut, Ordered, LowStart, coursesFrom, coursesAfter, endOf, OnIt, linesAfter, sumAfter}
-use Rattle.following.proofs.After.{before, isIdle, next, from-head, after-idle, after-new, marks-idle, marks-new, last-idle, last-new, last-any, next-begins, end-new, end-after, ordered-less, set-out-lines, set-out-sum, twice-through}
+use Rattle.following.specs.Following.{setOut, Ordered, LowStart, coursesFrom, coursesAfter, endOf, OnIt, linesAfter, sumAfter, FollowedBy}
+use Rattle.following.proofs.After.{before, isIdle, next, from-head, after-idle, after-new, marks-none, marks-idle, marks-new, last-none, last-idle, last-new, last-any, next-begins, end-new, end-after, ordered-less, set-out-lines, set-out-sum, twice-through}
 use Rattle.following.proofs.Watch.{out-on}
 
 -- the lines of a course that ends at the second n, from the last piece on
@@ -225,3 +225,19 @@ module _ (u : UnitData) (first : UnderWay) (all : List Numbered) (o xs : List �
         where
           later-starts : All LowStart (coursesFrom u then left)
           later-starts = (subst (All LowStart) (from-head u (g .now) (act ∷ left) ∙ ap (λ (cs : List Course). g .now .course ∷ cs) (after-new u (g .now) act left new)) (w .starts)) .1
+
+-- none is left
+pub sofar-all : (u : UnitData) (first : UnderWay) (all left : List Numbered) (o out xs ys : List ℕ) (g : OnCourse) (fates : List ℕ) (count i : ℕ) → left ≡ [] →
+    Sofar u first all left o out xs ys g fates count i → FollowedBy u first all o out xs ys (record { last = g; fates = fates; count = count })
+sofar-all u first all left o out xs ys g fates count i none w =
+    let v : Sofar u first all [] o out xs ys g fates count i = subst (λ (os : List Numbered). Sofar u first all os o out xs ys g fates count i) none w in
+    let marks : v .marks ≡ follow byRule u first all .marks = sym (append-nil (v .marks)) ∙ ap (λ (ms : List Mark). v .marks ++ ms) (sym (marks-none u (g .now))) ∙ v .marked in
+    record {
+      on = v .on;
+      within = v .ordered;
+      laying = v .laying;
+      sums = v .sums;
+      summed = v .summed;
+      fates = v .fates-are ∙ ap (λ (ms : List Mark). filled 40 0 (map fateIn ms)) marks;
+      last = sym (last-none u (g .now)) ∙ v .last;
+    }

@@ -3,7 +3,8 @@ use mathlib.Core.Path.{_≡_, refl, ap, sym, _∙_, subst}
 use mathlib.Core.List.{List, [], _∷_, _++_}
 use native.Mathlib.Omega.{arith}
 use borrow.Author.Needs.{needs}
-use lib.ListN.{length, take, drop, getD}
+use mathlib.Core.Bool.{true, false}
+use lib.ListN.{length, take, drop, getD, set}
 use Rattle.level.specs.Lists.{filled}
 use Rattle.validation.specs.declared.Numbered.{Numbered}
 use Rattle.validation.specs.Kept.{acting}
@@ -11,15 +12,15 @@ use Rattle.keeping.specs.Outcome.{noNumbered}
 use Rattle.keeping.proofs.Laws.{left-cons, left-none}
 use Rattle.profile.specs.declared.UnderWay.{UnderWay}
 use Rattle.profile.specs.declared.State.{State}
-use Rattle.profile.specs.Effects.{idle}
+use Rattle.profile.specs.Effects.{idle, begun}
 use Rattle.printing.specs.Rest.{coursesLines}
 use Rattle.following.specs.declared.OnCourse.{OnCourse}
 use Rattle.lines.proofs.Laws.{part-length}
 use Rattle.following.specs.Passing.{Roomy, Passing}
-use Rattle.following.specs.Following.{setOut, coursesFrom}
-use Rattle.following.proofs.After.{before, ordered-end}
+use Rattle.following.specs.Following.{setOut, coursesFrom, FollowedBy}
+use Rattle.following.proofs.After.{before, isIdle, next, ordered-end}
 use Rattle.following.proofs.Watch.{watching-at}
-use Rattle.following.proofs.Steps.{Sofar, has-room, sofar-start, ends-later, roomy, sofar-pass, sofar-idle, last-room, last-goes, sofar-new}
+use Rattle.following.proofs.Steps.{Sofar, has-room, sofar-start, ends-later, roomy, sofar-pass, sofar-idle, last-room, last-goes, sofar-new, sofar-all}
 use Rattle.following.proofs.follow_on.Statement.{statement}
 use Rattle.following.proofs.follow_on.Tie as tie
 use Rattle.following.proofs.follow_on.Reads as reads
@@ -57,6 +58,9 @@ act c = getD (c .before .before .before .before .args .t5) (c .before .loop .i) 
 
 abbrev left : tie.In-loop Inv-loop μ-loop → List Numbered
 left c = drop (c .before .loop .i + 1) (take (c .before .before .before .before .args .n) (c .before .before .before .before .args .t5))
+
+going : (c : tie.In-loop Inv-loop μ-loop) → c .before .loop .i < c .before .before .before .before .args .n
+going c = omega arith
 
 here : (c : tie.In-loop Inv-loop μ-loop) →
     let s = c .before .before .before .before in
@@ -186,8 +190,22 @@ state-is c =
     watching-at u (g .now) (g .up) (c .pass-to .result .ahead) (c .pass-to .result .later) (acting (act k)) (p .watched u (g .now .off) (here k .on .lists) (here k .on .watching) .1) (p .there)
 
 -- src/lib.rt:280:9
+-- with effect
+new-one : (c : tie.Else1 Inv-loop μ-loop) →
+    let k = c .before .before .before .before .before .before .before .before .before .before .before .before .before .before .before .before in
+    isIdle (k .before .before .before .before .args .u) (k .before .loop .g .now) (act k) ≡ false
+new-one c =
+    let a = c .before .before .before .before .before .before .before in
+    let k = a .before .before .before .before .before .before .before .before .before in
+    let o = act k in
+    sym (c .before .stays-idle .ensures ∙ ap (λ (x : State). idle (o .instruction .meaning .effect) (o .instruction .level) (x .level) (k .before .loop .g .now .maximised)) (state-is a)) ∙ c .if1 .left
+
+-- src/lib.rt:280:9
 add-count : tie.Need-add-count Inv-loop μ-loop
-add-count c = let r = past-room (c .before .before .before) in omega (arith, r .0, r .1)
+add-count c =
+    let a = c .before .before .before in
+    let r = past-room a in
+    omega (arith, r .0, r .1, a .before .before .before .before .before .before .before .before .before .before .before .before .before .good .0)
 
 -- src/lib.rt:283:12
 stays-idle-requires : tie.Need-stays-idle-requires Inv-loop μ-loop
@@ -217,11 +235,11 @@ loop-again c =
 
 -- src/lib.rt:288:32
 sub-end-course : tie.Need-sub-end-course Inv-loop μ-loop
-sub-end-course c = ?
+sub-end-course c = past-room (c .before .before .before .before .before .before .before) .0
 
 -- src/lib.rt:288:32
 part-end-course-start : tie.Need-part-end-course-start Inv-loop μ-loop
-part-end-course-start c = ?
+part-end-course-start c = omega (arith, past-room (c .before .before .before .before .before .before .before) .0)
 
 -- src/lib.rt:288:32
 part-end-course-end : tie.Need-part-end-course-end Inv-loop μ-loop
@@ -229,19 +247,68 @@ part-end-course-end c = search needs
 
 -- src/lib.rt:288:17
 end-course-requires : tie.Need-end-course-requires Inv-loop μ-loop
-end-course-requires c κs = ?
+end-course-requires c κs =
+    let a = c .before .before .before .before .before .before .before .before .before in
+    let k = a .before .before .before .before .before .before .before .before .before in
+    let s = k .before .before .before .before in
+    let l = k .before .loop in
+    let p = passing a in
+    let r = a .pass-to .result in
+    let g = l .g in
+    let there = p .there in
+    let n = l .count + r .count in
+    let out = take (l .count) (l .out) ++ (a .pass-to .last .0 ++ drop (length (l .out) - l .count) (drop (l .count) (l .out))) in (
+      (last-goes (g .lists) (g .now .course) (g .up) (acting (act k)) (r .place) (r .ahead) (p .short) there (p .runs), omega (arith, p .within, there)),
+      ((omega (arith, there, ordered-end (acting (act k)) (left k) (here k .ordered .1)), p .low, p .ahead-low), (p .short, (p .sums,
+          last-room (s .args .u) (k .before .before .set-out .result .now) (take (s .args .n) (s .args .t5)) (s .args .out .now) (s .args .parts .now) (act k) (left k) _ _ _ (l .fates) _ (l .i)
+          (enough (k .before .before)) (past a) (new-one (c .before .before)) (r .ahead) there (p .runs) (take (length out - n) (drop n out)) (part-length n out)))),
+    )
+
+-- the course ended, and the next one
+later : (c : tie.After-end-course Inv-loop μ-loop) (g : OnCourse) →
+    let a = c .before .before .before .before .before .before .before .before .before .before in
+    let k = a .before .before .before .before .before .before .before .before .before in
+    let s = k .before .before .before .before in
+    let l = k .before .loop in
+    g ≡ setOut (s .args .u) (next (s .args .u) (l .g .now) (act k)) →
+    let n = l .count + a .pass-to .result .count in
+    let out = take (l .count) (l .out) ++ (a .pass-to .last .0 ++ drop (length (l .out) - l .count) (drop (l .count) (l .out))) in
+    Sofar (s .args .u) (k .before .before .set-out .result .now) (take (s .args .n) (s .args .t5)) (left k) (s .args .out .now)
+    (take n out ++ (c .end-course .last .0 ++ drop (length out - n) (drop n out))) (s .args .parts .now) (c .end-course .last .1 .0)
+    g (set (l .fates) (l .i) 0) (n + c .end-course .result) (l .i + 1)
+later c g out-is =
+    let a = c .before .before .before .before .before .before .before .before .before .before in
+    let k = a .before .before .before .before .before .before .before .before .before in
+    let s = k .before .before .before .before in
+    let l = k .before .loop in
+    let p = passing a in
+    let r = a .pass-to .result in
+    let e = c .end-course .ensures in
+    sofar-new (s .args .u) (k .before .before .set-out .result .now) (take (s .args .n) (s .args .t5)) (s .args .out .now) (s .args .parts .now) (act k) (left k) _ _ _ (l .fates) _ (l .i)
+    (enough (k .before .before)) (past a) (new-one (c .before .before .before)) (r .ahead) (p .there) (p .runs) (omega (arith, going k, s .pre .0 .0)) _ _ _ g out-is (e .0) (e .1) (e .2) (e .3)
 
 -- src/lib.rt:289:13
 add-count-2 : tie.Need-add-count-2 Inv-loop μ-loop
-add-count-2 c = ?
+add-count-2 c =
+    let a = c .before .before .before .before .before .before .before .before .before .before .before .before in
+    let k = a .before .before .before .before .before .before .before .before .before in
+    let s = k .before .before .before .before in
+    let l = k .before .loop in
+    let w = later (c .before .before) (setOut (s .args .u) (next (s .args .u) (l .g .now) (act k))) refl in
+    let r = has-room (s .args .u) (k .before .before .set-out .result .now) (take (s .args .n) (s .args .t5)) (left k) (s .args .out .now) _ (s .args .parts .now) _ _ _ _ _ (enough (k .before .before)) w in
+    omega (arith, r .0, r .1, s .good .0)
 
 -- src/lib.rt:294:17
 begin-course-requires : tie.Need-begin-course-requires Inv-loop μ-loop
-begin-course-requires c κs = ?
+begin-course-requires c κs =
+    let k = c .before .before .before .before .before .before .before .before .before .before .before .before .before .before .before .before .before .before .before .before .before in
+    omega (arith, ordered-end (acting (act k)) (left k) (here k .ordered .1))
 
 -- src/lib.rt:295:13
 array-write-fates-2 : tie.Need-array-write-fates-2 Inv-loop μ-loop
-array-write-fates-2 c = omega arith
+array-write-fates-2 c =
+    let k = c .before .before .before .before .before .before .before .before .before .before .before .before .before .before .before .before .before .before .before .before .before .before in
+    omega (arith, going k, k .before .before .before .before .pre .0 .0)
 
 -- src/lib.rt:296:13
 set-out-requires-2 : tie.Need-set-out-requires-2 Inv-loop μ-loop
@@ -249,19 +316,39 @@ set-out-requires-2 c κs = search needs
 
 -- src/lib.rt:270:5
 loop-less-2 : tie.Need-loop-less-2 Inv-loop μ-loop
-loop-less-2 c = omega arith
+loop-less-2 c =
+    let k = c .before .before .before .before .before .before .before .before .before .before .before .before .before .before .before .before .before .before .before .before .before .before .before in
+    omega (arith, going k)
 
 -- src/lib.rt:270:5
 loop-again-2 : tie.Need-loop-again-2 Inv-loop μ-loop
-loop-again-2 c = ?
+loop-again-2 c =
+    let k = c .before .before .before .before .before .before .before .before .before .before .before .before .before .before .before .before .before .before .before .before .before .before .before in
+    let s = k .before .before .before .before in
+    let l = k .before .loop in
+    let a = c .before .before .before .before .before .before .before .before .before .before .before .before .before .before in
+    let e = c .before .before .before .before in
+    let u = s .args .u in
+    let is = c .set-out2 .ensures ∙ ap (setOut u) (c .before .begin-course .ensures ∙ ap (begun u (l .g .now) (act k)) (state-is a)) in
+    (omega (arith, going k), later e (c .set-out2 .result) is)
 
 -- src/lib.rt:253:1
 same-length : tie.Need-same-length Inv-loop μ-loop
-same-length c = ?
+same-length c =
+    let s = c .before .before .before .before in
+    let l = c .before .loop in
+    has-room (s .args .u) (c .before .before .set-out .result .now) (take (s .args .n) (s .args .t5)) (drop (l .i) (take (s .args .n) (s .args .t5))) (s .args .out .now) (l .out) (s .args .parts .now) (l .parts) (l .g) (l .fates) (l .count) (l .i)
+    (enough (c .before .before)) (l .inv .1) .1
 
 -- src/lib.rt:253:1
 returns : tie.Need-returns Inv-loop μ-loop
-returns c = ?
+returns c =
+    let s = c .before .before .before .before in
+    let l = c .before .loop in
+    subst (λ (f : UnderWay). FollowedBy (s .args .u) f (take (s .args .n) (s .args .t5)) (s .args .out .now) (l .out) (s .args .parts .now) (l .parts) (record { last = l .g; fates = l .fates; count = l .count }))
+    (sym (first-is (c .before .before)))
+    (sofar-all (s .args .u) (c .before .before .set-out .result .now) (take (s .args .n) (s .args .t5)) (drop (l .i) (take (s .args .n) (s .args .t5))) (s .args .out .now) (l .out) (s .args .parts .now) (l .parts) (l .g) (l .fates) (l .count) (l .i)
+    (left-none (s .args .t5) (s .args .n) (l .i) (omega arith)) (l .inv .1))
 
 pub follow-on-spec : {M : Type 1} → statement M
 follow-on-spec =
