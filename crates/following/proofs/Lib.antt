@@ -4,3 +4,4 @@ pub mod After
 pub mod Watch
 pub mod Steps
 pub mod Pass
+pub mod Ending
