@@ -18,7 +18,7 @@ use Rattle.profile.specs.declared.State.{State}
 use Rattle.profile.specs.declared.Closing.{Closing}
 use Rattle.profile.specs.State.{byRule}
 use Rattle.profile.specs.Effects.{follow, stateAt}
-use Rattle.profile.specs.Profile.{beginOf, spansOf, piecesTo, courseOf}
+use Rattle.profile.specs.Profile.{beginOf, spansOf, piecesTo, courseOf, closingBy}
 use Rattle.day.specs.Day.{daySeconds}
 use Rattle.trajectory.specs.Ways.{headed, ownLists, listsBy}
 use Rattle.trajectory.specs.Walk.{beginning, twiceTo}
@@ -32,6 +32,7 @@ use Rattle.following.specs.Passing.{AddsOn, Summed, linesLeft, Watching}
 use Rattle.following.specs.declared.OnCourse.{OnCourse}
 use Rattle.following.specs.declared.Followed.{Followed}
 use Rattle.following.specs.declared.Ended.{Ended}
+use Rattle.following.specs.declared.Settled.{Settled}
 
 -- a course at its beginning
 unfoldable pub setOut : UnitData → UnderWay → OnCourse
@@ -58,6 +59,13 @@ coursesAfter u now os = drop 1 (coursesFrom u now os)
 
 abbrev pub endOf : UnitData → UnderWay → List Numbered → ℕ
 endOf u now os = beginOf daySeconds (coursesAfter u now os)
+
+-- the fates in acting order, as an array; the last course
+abbrev pub fatesBy : UnitData → UnderWay → List Numbered → List ℕ
+fatesBy u first os = filled 40 0 (map fateIn (follow byRule u first os .marks))
+
+abbrev pub lastIn : UnitData → UnderWay → List Numbered → UnderWay
+lastIn u first os = lastOf first (follow byRule u first os .courses)
 
 -- a course that can be gone along, and one of the unit u that is where its own rule says
 pub record Onward (g : OnCourse) : Type 0 where
@@ -86,8 +94,8 @@ pub record FollowedBy (u : UnitData) (first : UnderWay) (os : List Numbered) (o 
   pub laying : Laying (coursesLines u (coursesFrom u first os)) (linesAfter u (r .last) []) o out (r .count)
   pub sums : (j : ℕ) → j ≤ 48 → firstSum (suc j) ys + sumAfter u (r .last) [] j ≡ firstSum (suc j) xs + piecesTo (spansOf u daySeconds (coursesFrom u first os)) (1800 * j)
   pub summed : Summed (r .last .place .second) ys
-  pub fates : r .fates ≡ filled 40 0 (map fateIn (follow byRule u first os .marks))
-  pub last : r .last .now ≡ lastOf first (follow byRule u first os .courses)
+  pub fates : r .fates ≡ fatesBy u first os
+  pub last : r .last .now ≡ lastIn u first os
 
 -- and of going on to the day's end
 pub record EndedBy (g : OnCourse) (o out xs ys : List ℕ) (r : Ended) : Type 0 where
@@ -97,3 +105,12 @@ pub record EndedBy (g : OnCourse) (o out xs ys : List ℕ) (r : Ended) : Type 0 
   pub summed : Summed 86400 ys
   pub target : (r .closing .target ≡ g .now .course .target) × (r .closing .heat ≡ g .now .course .heat)
   pub state : (u : UnitData) → OnIt u g → (record { level = r .closing .level .grains; off = r .closing .off }) ≡ stateAt byRule u (g .now) daySeconds
+
+-- and of the whole day
+pub record SettledBy (u : UnitData) (first : UnderWay) (os : List Numbered) (o out xs ys : List ℕ) (r : Settled) : Type 0 where
+  pub count : r .count ≡ length (coursesLines u (coursesFrom u first os))
+  pub filled : out ≡ laid (coursesLines u (coursesFrom u first os)) o
+  pub sums : (j : ℕ) → j ≤ 48 → firstSum (suc j) ys ≡ firstSum (suc j) xs + piecesTo (spansOf u daySeconds (coursesFrom u first os)) (1800 * j)
+  pub summed : Summed 86400 ys
+  pub fates : r .fates ≡ fatesBy u first os
+  pub closing : r .closing ≡ closingBy (lastIn u first os) (stateAt byRule u (lastIn u first os) daySeconds)

@@ -9,9 +9,11 @@ ghost use Rattle.course.proofs.Near.{Short};
 ghost use Rattle.trajectory.specs.Ways.{headed, listsBy};
 ghost use Rattle.trajectory.proofs.Goes.{Goes};
 ghost use Rattle.lines.specs.Text.{laid};
+ghost use Rattle.close.specs.Summing.{firstSum};
 ghost use Rattle.printing.specs.Rest.{pieceLine, coursesLines};
 ghost use Rattle.following.specs.Passing.{AddsFlat, AddsOn, Summed, linesLeft, lastLine, Roomy, Passing};
-ghost use Rattle.following.specs.Following.{setOut, Ordered, LowStart, coursesFrom, Onward, FollowedBy, EndedBy};
+ghost use Rattle.following.specs.Following.{setOut, Ordered, LowStart, coursesFrom, Onward, FollowedBy, EndedBy, SettledBy};
+ghost use Rattle.following.specs.Listing.{endLines, listingOf};
 
 // The day's seconds, and those of a half-hour.
 const DAY: u32 = 86400;
@@ -334,4 +336,96 @@ fn end_day(out: &mut [u8], parts: &mut [u64; 49], g: OnCourse) -> Ended
         closing,
         count: at + w,
     }
+}
+
+// ---- the day
+
+// The fates of those that acted in acting order, the closing state, and how many bytes of S lines were written.
+pub struct Settled {
+    pub fates: [u8; 40],
+    pub closing: profile::Closing,
+    pub count: usize,
+}
+
+// From 06:00 to the day's end.
+fn follow_day(
+    out: &mut [u8],
+    parts: &mut [u64; 49],
+    u: records::UnitData,
+    first: profile::UnderWay,
+    acts: [validation::Numbered; 40],
+    n: usize,
+) -> Settled
+    requires { ⌜ (n ≤ 40) × Ordered (first .course .begin) (take n acts) ⌝ }
+    requires { ⌜ Summed (first .course .begin) (now parts) × All LowStart (coursesFrom u first (take n acts)) ⌝ }
+    requires { ⌜ length (coursesLines u (coursesFrom u first (take n acts))) ≤ length (now out) ⌝ }
+    ensures { λ r. ⌜ SettledBy u first (take n acts) (now (out .entry)) (now (out .exit)) (now (parts .entry)) (now (parts .exit)) r ⌝ }
+{
+    let w = follow_on(out, parts, u, first, acts, n);
+    let at = w.count;
+    let last = w.last;
+    let e = end_day(&mut out[at..], parts, last);
+    let fates = w.fates;
+    let closing = e.closing;
+    Settled {
+        fates,
+        closing,
+        count: at + e.count,
+    }
+}
+
+// The bytes of so many F lines: a fate is one digit, and the first nine numbers are.
+fn fates_room(count: usize) -> usize
+    requires { ⌜ count ≤ 40 ⌝ }
+    ensures { λ r. ⌜ r + min count 9 ≡ 7 * count ⌝ }
+{
+    if count < 9 {
+        return count * 6;
+    }
+    count * 7 - 9
+}
+
+// The Q lines by the parts of a day, then its E line.
+fn put_end(out: &mut [u8], parts: &[u64; 49], closing: profile::Closing) -> usize
+    requires { ⌜ firstSum 49 (now parts) ≤ 18446744073709551615 ⌝ }
+    requires { ⌜ length (endLines (now parts) closing) ≤ length (now out) ⌝ }
+    ensures { λ r. ⌜ (r ≡ length (endLines (now (parts .entry)) closing)) × (now (out .exit) ≡ laid (endLines (now (parts .entry)) closing) (now (out .entry))) ⌝ }
+{
+    let sums = close::running_sums(parts);
+    let at = printing::put_quantities(out, sums);
+    let n = printing::put_closing(&mut out[at..], closing);
+    at + n
+}
+
+// The listing of a day that has taken a unit, an opening and the first `count` instructions, and is closed: the S lines while
+// it is followed, at their place after the F lines, then these, which are as long whatever the fates are.
+pub fn list_open(
+    out: &mut [u8],
+    u: records::UnitData,
+    o: records::Opening,
+    instructions: [records::Instruction; 40],
+    count: usize,
+) -> usize
+    requires { ⌜ (count ≤ 40) × (length (listingOf u o instructions count) ≤ length (now out)) ⌝ }
+    ensures { λ r. ⌜ (r ≡ length (listingOf u o instructions count)) × (now (out .exit) ≡ laid (listingOf u o instructions count) (now (out .entry))) ⌝ }
+{
+    let v = keeping::validate(instructions, count, DAY);
+    let acts = v.acts;
+    let first = close::open_course(u, o);
+    let from = fates_room(count);
+    let mut parts = [0u64; 49];
+    let s = follow_day(&mut out[from..], &mut parts, u, first, acts, v.acting);
+    let settled = v.fates;
+    let own = s.fates;
+    let given = close::Fates {
+        count,
+        fates: settled,
+    };
+    let f = close::lay_fates(given, acts, own, v.acting);
+    let fates = f.fates;
+    let n = printing::put_fates(out, fates, count);
+    let at = n + s.count;
+    let closing = s.closing;
+    let e = put_end(&mut out[at..], &parts, closing);
+    at + e
 }
