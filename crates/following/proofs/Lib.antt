@@ -5,3 +5,4 @@ pub mod Watch
 pub mod Steps
 pub mod Pass
 pub mod Ending
+pub mod Whole
