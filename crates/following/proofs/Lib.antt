@@ -6,3 +6,4 @@ pub mod Steps
 pub mod Pass
 pub mod Ending
 pub mod Whole
+pub mod Found
