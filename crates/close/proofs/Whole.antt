@@ -97,7 +97,7 @@ module _ (is : List Instruction) (count : ℕ) (forty : length is ≡ 40) where
   unfolding validationOf outcomeOf
   acting-few = few-acts
 
-  acts-are : take (v .acting) (v .acts) ≡ acts
+  pub acts-are : take (v .acting) (v .acts) ≡ acts
   unfolding validationOf outcomeOf
   acts-are = filled-listed noNumbered 40 acts few-acts
 
@@ -131,7 +131,7 @@ module _ (is : List Instruction) (count : ℕ) (forty : length is ≡ 40) where
     unfolding walkOf
     started-few = rw walk-is (omega (arith, few-courses, length-map (f .courses) courseOf))
 
-    courses-are : take (w .started) (w .courses) ≡ courses
+    pub courses-are : take (w .started) (w .courses) ≡ courses
     unfolding walkOf
     courses-are =
         ap (λ (x : Walk). take (x .started) (x .courses)) walk-is

@@ -41,7 +41,7 @@ fn is_idle(effect: records::Effect, x: u32, v: u64, maximised: bool) -> bool
 }
 
 // The same of an instruction that acts.
-fn stays_idle(o: validation::Numbered, v: u64, maximised: bool) -> bool
+pub fn stays_idle(o: validation::Numbered, v: u64, maximised: bool) -> bool
     ensures { λ r. ⌜ r ≡ idle (o .instruction .meaning .effect) (o .instruction .level) v maximised ⌝ }
 {
     let i = o.instruction;
@@ -299,7 +299,7 @@ fn under_way(u: records::UnitData, begin: u32, g: profile::Setting, off: u32) ->
 }
 
 // The opening's course, from 06:00 on.
-fn open_course(u: records::UnitData, o: records::Opening) -> profile::UnderWay
+pub fn open_course(u: records::UnitData, o: records::Opening) -> profile::UnderWay
     ensures { λ r. ⌜ r ≡ opened u o ⌝ }
 {
     let g = profile::Setting {
@@ -315,7 +315,7 @@ fn open_course(u: records::UnitData, o: records::Opening) -> profile::UnderWay
 }
 
 // The second at which an instruction acts, where it fits.
-fn acting_second(o: validation::Numbered) -> u32
+pub fn acting_second(o: validation::Numbered) -> u32
     requires { ⌜ acting o < 4294967296 ⌝ }
     ensures { λ r. ⌜ r ≡ acting o ⌝ }
 {
@@ -325,7 +325,7 @@ fn acting_second(o: validation::Numbered) -> u32
 }
 
 // The course that an instruction of fate 0 starts at its acting second.
-fn begin_course(
+pub fn begin_course(
     u: records::UnitData,
     now: profile::UnderWay,
     o: validation::Numbered,
@@ -357,7 +357,7 @@ fn held_off(off: u32, more: u32) -> u32
 }
 
 // The seconds off where a course begins.
-fn off_starting(c: course::Course, off: u32) -> u32
+pub fn off_starting(c: course::Course, off: u32) -> u32
     ensures { λ r. ⌜ r ≡ offStarting c off ⌝ }
 {
     let start = c.start;
@@ -368,7 +368,7 @@ fn off_starting(c: course::Course, off: u32) -> u32
 }
 
 // The seconds off at q, by those at p.
-fn off_between(p: trajectory::Place, q: trajectory::Place, off: u32) -> u32
+pub fn off_between(p: trajectory::Place, q: trajectory::Place, off: u32) -> u32
     requires { ⌜ p .second ≤ q .second ⌝ }
     ensures { λ r. ⌜ r ≡ offBetween p q off ⌝ }
 {
@@ -529,7 +529,7 @@ fn lay_fate(s: Fates, number: u32, fate: u8) -> Fates
 }
 
 // The fates of the first n that act laid over, the first of them last.
-fn lay_fates(s: Fates, acts: [validation::Numbered; 40], own: [u8; 40], n: usize) -> Fates
+pub fn lay_fates(s: Fates, acts: [validation::Numbered; 40], own: [u8; 40], n: usize) -> Fates
     requires { ⌜ (s .count ≤ 40) × (n ≤ 40) ⌝ }
     ensures { λ r. ⌜ r ≡ laidAll s (marksFrom acts own 0 n) ⌝ }
 {
@@ -613,7 +613,7 @@ fn add_course(parts: &mut [u64; 49], u: records::UnitData, c: course::Course, en
 }
 
 // The sum of the parts up to each boundary.
-fn running_sums(parts: &[u64; 49]) -> [u64; 49]
+pub fn running_sums(parts: &[u64; 49]) -> [u64; 49]
     requires { ⌜ firstSum 49 (now parts) ≤ 18446744073709551615 ⌝ }
     ensures { λ r. ⌜ r ≡ listFrom (λ b. firstSum (suc b) (now (parts .entry))) 0 49 ⌝ }
 {

@@ -42,7 +42,7 @@ fn fates_width(fates: [u8; 40], count: usize) -> usize
 }
 
 // The lines of the first `count` fates.
-fn put_fates(out: &mut [u8], fates: [u8; 40], count: usize) -> usize
+pub fn put_fates(out: &mut [u8], fates: [u8; 40], count: usize) -> usize
     requires { ⌜ length (fateLines count fates) ≤ length (now out) ⌝ }
     ensures { λ r. ⌜ (r ≡ length (fateLines count fates)) × (now (out .exit) ≡ laid (fateLines count fates) (now (out .entry))) ⌝ }
 {
@@ -71,7 +71,7 @@ fn piece_width(p: trajectory::Place, q: trajectory::Place) -> usize
 }
 
 // The line of the straight piece from p to q.
-fn put_piece(out: &mut [u8], p: trajectory::Place, q: trajectory::Place) -> usize
+pub fn put_piece(out: &mut [u8], p: trajectory::Place, q: trajectory::Place) -> usize
     requires { ⌜ length (pieceLine p q) ≤ length (now out) ⌝ }
     ensures { λ r. ⌜ (r ≡ length (pieceLine p q)) × (now (out .exit) ≡ laid (pieceLine p q) (now (out .entry))) ⌝ }
 {
@@ -222,7 +222,7 @@ fn quantities_width(sums: [u64; 49]) -> usize
 }
 
 // The lines of the day's quantities.
-fn put_quantities(out: &mut [u8], sums: [u64; 49]) -> usize
+pub fn put_quantities(out: &mut [u8], sums: [u64; 49]) -> usize
     requires { ⌜ length (quantityLines sums) ≤ length (now out) ⌝ }
     ensures { λ r. ⌜ (r ≡ length (quantityLines sums)) × (now (out .exit) ≡ laid (quantityLines sums) (now (out .entry))) ⌝ }
 {
@@ -250,7 +250,7 @@ fn closing_width(e: profile::Closing) -> usize
 }
 
 // The line of the closing state.
-fn put_closing(out: &mut [u8], e: profile::Closing) -> usize
+pub fn put_closing(out: &mut [u8], e: profile::Closing) -> usize
     requires { ⌜ length (closingLine e) ≤ length (now out) ⌝ }
     ensures { λ r. ⌜ (r ≡ length (closingLine e)) × (now (out .exit) ≡ laid (closingLine e) (now (out .entry))) ⌝ }
 {

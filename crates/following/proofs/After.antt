@@ -1,0 +1,247 @@
+-- What is to come of a day: the courses after the one under way, their lines and their areas.
+-- Assumes nothing.
+use Prim.Native.Nat.{ℕ, zero, suc, _+_, _*_, _-_, min, _≤_, _<_}
+use mathlib.Core.Path.{_≡_, refl, ap, sym, _∙_}
+use mathlib.Core.Bool.{Bool, true, false}
+use mathlib.Core.List.{List, [], _∷_, _++_, map, append-assoc, append-nil}
+use native.Mathlib.Decide.{decLe}
+use native.Mathlib.Omega.{arith}
+use lib.Dec.{ltb}
+use lib.ListN.{length, drop}
+use Rattle.level.specs.Level.{grains}
+use Rattle.level.specs.Lists.{All, sum}
+use Rattle.segments.specs.Segments.{area}
+use Rattle.segments.proofs.Sums.{area-split, sum-eq, sum-shift}
+use Rattle.records.specs.declared.UnitData.{UnitData}
+use Rattle.course.specs.declared.Course.{Course}
+use Rattle.course.specs.Lists.{Lists}
+use Rattle.course.specs.Course.{Heading, Moment, trajectoryOf, levelAt, after}
+use Rattle.course.specs.declared.Piece.{Piece}
+use Rattle.course.specs.Pieces.{piecesIn, twiceArea}
+use Rattle.course.proofs.Pieces.{pieces-area}
+use Rattle.validation.specs.declared.Numbered.{Numbered}
+use Rattle.validation.specs.Kept.{Mark, mark, acting}
+use Rattle.profile.specs.declared.UnderWay.{UnderWay}
+use Rattle.profile.specs.declared.State.{State}
+use Rattle.profile.specs.State.{byRule}
+use Rattle.profile.specs.Effects.{Followed, idle, begun, underWay, courseFrom, goesOn, replaces, stateAt, follow}
+use Rattle.profile.specs.Profile.{beginOf, spansOf, piecesTo, dayPieces, courseOf}
+use Rattle.day.specs.Day.{daySeconds}
+use Rattle.trajectory.specs.declared.Place.{Place}
+use Rattle.trajectory.specs.Ways.{headed, listsIn, ownLists, listsBy}
+use Rattle.trajectory.specs.Walk.{momentOf, beginning, standing, twiceTo}
+use Rattle.trajectory.proofs.Seconds.{after-add}
+use Rattle.trajectory.proofs.Goes.{standing-here}
+use Rattle.trajectory.proofs.Areas.{area-same, twice-here, twice-is}
+use Rattle.trajectory.proofs.Own.{own-twice}
+use Rattle.close.specs.Walk.{lastOf}
+use Rattle.printing.specs.Rest.{courseLines, coursesLines}
+use Rattle.printing.proofs.Laws.{pieces-all}
+use Rattle.lines.specs.Text.{sLine}
+use Rattle.listing.specs.Listing.{sLines}
+use Rattle.following.specs.Passing.{linesLeft}
+use Rattle.following.specs.declared.OnCourse.{OnCourse}
+use Rattle.following.specs.Following.{setOut, Ordered, coursesFrom, coursesAfter, endOf, linesAfter, sumAfter}
+
+-- lines and areas, in parts
+s-append : (ps qs : List Piece) → sLines (ps ++ qs) ≡ sLines ps ++ sLines qs
+unfolding sLines
+s-append [] qs = refl
+s-append (p ∷ ps) qs =
+    let x : List ℕ = sLine (p .from) (p .to) (p .enter) (p .leave) in
+    ap (λ (l : List ℕ). x ++ l) (s-append ps qs) ∙ sym (append-assoc x (sLines ps) (sLines qs))
+
+sum-from : (f : ℕ → ℕ) (a x n : ℕ) → sum f (x + a) n ≡ sum (λ j. f (x + j)) a n
+unfolding sum
+sum-from f a x zero = refl
+sum-from f a x (suc n) = ap (λ (k : ℕ). f (x + a) + k) (ap (λ (k : ℕ). sum f k n) {x = suc (x + a)} {y = x + suc a} (omega arith) ∙ sum-from f (suc a) x n)
+
+area-from : (f : ℕ → ℕ) (x n : ℕ) → area f x n ≡ area (λ j. f (x + j)) 0 n
+unfolding area
+area-from f x n =
+    ap (λ (k : ℕ). sum (λ j. f j + f (suc j)) k n) {x = x} {y = x + 0} (omega arith) ∙ sum-from (λ j. f j + f (suc j)) 0 x n
+    ∙ sum-eq (λ j. f (x + j) + f (suc (x + j))) (λ j. f (x + j) + f (x + suc j)) (λ j. ap (λ (k : ℕ). f (x + j) + f k) {x = suc (x + j)} {y = x + suc j} (omega arith)) 0 n
+
+-- ---- the courses after
+
+module _ (u : UnitData) where
+  abbrev pub before : UnderWay → Numbered → State
+  before now o = stateAt byRule u now (acting o)
+
+  abbrev pub isIdle : UnderWay → Numbered → Bool
+  isIdle now o = idle (o .instruction .meaning .effect) (o .instruction .level) (before now o .level) (now .maximised)
+
+  abbrev pub next : UnderWay → Numbered → UnderWay
+  next now o = begun u now o (before now o)
+
+  module _ (now : UnderWay) (o : Numbered) (os : List Numbered) where
+    follow-idle : isIdle now o ≡ true → follow byRule u now (o ∷ os) ≡ goesOn o (follow byRule u now os)
+    unfolding follow
+    follow-idle e = ap (λ (b : Bool). elim b [ true ↦ goesOn o (follow byRule u now os) | false ↦ replaces now o (follow byRule u (next now o) os) ]) e
+
+    follow-new : isIdle now o ≡ false → follow byRule u now (o ∷ os) ≡ replaces now o (follow byRule u (next now o) os)
+    unfolding follow
+    follow-new e = ap (λ (b : Bool). elim b [ true ↦ goesOn o (follow byRule u now os) | false ↦ replaces now o (follow byRule u (next now o) os) ]) e
+
+  follow-none : (now : UnderWay) → follow byRule u now [] ≡ record { marks = []; courses = now ∷ [] }
+  unfolding follow
+  follow-none now = refl
+
+  by-bool : {P : Type 0} (b : Bool) → (b ≡ true → P) → (b ≡ false → P) → P
+  by-bool true t f = t refl
+  by-bool false t f = f refl
+
+  -- the one under way comes first
+  pub from-head : (now : UnderWay) (os : List Numbered) → coursesFrom u now os ≡ now .course ∷ coursesAfter u now os
+  unfolding coursesFrom coursesAfter goesOn replaces
+  from-head now [] = rw (follow-none now) refl
+  from-head now (o ∷ os) = by-bool (isIdle now o)
+      (λ e. rw (follow-idle now o os e) (from-head now os))
+      (λ e. rw (follow-new now o os e) refl)
+
+  pub after-none : (now : UnderWay) → coursesAfter u now [] ≡ []
+  unfolding coursesFrom coursesAfter follow
+  after-none now = refl
+
+  pub after-idle : (now : UnderWay) (o : Numbered) (os : List Numbered) → isIdle now o ≡ true → coursesAfter u now (o ∷ os) ≡ coursesAfter u now os
+  unfolding coursesFrom coursesAfter goesOn
+  after-idle now o os e = rw (follow-idle now o os e) refl
+
+  pub after-new : (now : UnderWay) (o : Numbered) (os : List Numbered) → isIdle now o ≡ false → coursesAfter u now (o ∷ os) ≡ coursesFrom u (next now o) os
+  unfolding coursesFrom coursesAfter replaces
+  after-new now o os e = rw (follow-new now o os e) refl
+
+  pub marks-none : (now : UnderWay) → follow byRule u now [] .marks ≡ []
+  unfolding follow
+  marks-none now = refl
+
+  pub marks-idle : (now : UnderWay) (o : Numbered) (os : List Numbered) → isIdle now o ≡ true → follow byRule u now (o ∷ os) .marks ≡ mark 7 o ∷ follow byRule u now os .marks
+  unfolding goesOn
+  marks-idle now o os e = rw (follow-idle now o os e) refl
+
+  pub marks-new : (now : UnderWay) (o : Numbered) (os : List Numbered) → isIdle now o ≡ false → follow byRule u now (o ∷ os) .marks ≡ mark 0 o ∷ follow byRule u (next now o) os .marks
+  unfolding replaces
+  marks-new now o os e = rw (follow-new now o os e) refl
+
+  -- the last of them
+  pub head-is : (now : UnderWay) (os : List Numbered) → follow byRule u now os .courses ≡ now ∷ drop 1 (follow byRule u now os .courses)
+  unfolding goesOn replaces
+  head-is now [] = rw (follow-none now) refl
+  head-is now (o ∷ os) = by-bool (isIdle now o)
+      (λ e. rw (follow-idle now o os e) (head-is now os))
+      (λ e. rw (follow-new now o os e) refl)
+
+  pub last-any : (d now : UnderWay) (os : List Numbered) → lastOf d (follow byRule u now os .courses) ≡ lastOf now (follow byRule u now os .courses)
+  unfolding lastOf
+  last-any d now os = ap (lastOf d) (head-is now os) ∙ sym (ap (lastOf now) (head-is now os))
+
+  pub last-none : (now : UnderWay) → lastOf now (follow byRule u now [] .courses) ≡ now
+  unfolding lastOf follow
+  last-none now = refl
+
+  pub last-idle : (now : UnderWay) (o : Numbered) (os : List Numbered) → isIdle now o ≡ true → lastOf now (follow byRule u now (o ∷ os) .courses) ≡ lastOf now (follow byRule u now os .courses)
+  unfolding goesOn
+  last-idle now o os e = rw (follow-idle now o os e) refl
+
+  pub last-new : (now : UnderWay) (o : Numbered) (os : List Numbered) → isIdle now o ≡ false →
+      lastOf now (follow byRule u now (o ∷ os) .courses) ≡ lastOf (next now o) (follow byRule u (next now o) os .courses)
+  unfolding replaces lastOf
+  last-new now o os e = rw (follow-new now o os e) (last-any now (next now o) os)
+
+  -- it begins where it acts
+  pub next-begins : (now : UnderWay) (o : Numbered) (s : State) → begun u now o s .course .begin ≡ acting o
+  unfolding begun underWay courseFrom
+  next-begins now o s = refl
+
+  pub end-new : (now : UnderWay) (o : Numbered) (os : List Numbered) → isIdle now o ≡ false → endOf u now (o ∷ os) ≡ acting o
+  unfolding beginOf
+  end-new now o os e = ap (beginOf daySeconds) (after-new now o os e ∙ from-head (next now o) os) ∙ next-begins now o (before now o)
+
+  pub end-none : (now : UnderWay) → endOf u now [] ≡ 86400
+  unfolding beginOf
+  end-none now = ap (beginOf daySeconds) (after-none now)
+
+  -- and no earlier than the first of those that act
+  pub end-after : (now : UnderWay) (os : List Numbered) (a : ℕ) → Ordered a os → a ≤ endOf u now os
+  end-after now [] a h = rw (end-none now) h
+  end-after now (o ∷ os) a h = by-bool (isIdle now o)
+      (λ e. rw (after-idle now o os e) (omega (arith, h .0, end-after now os (acting o) (h .1))))
+      (λ e. rw (end-new now o os e) (h .0))
+
+pub ordered-less : (a b : ℕ) (os : List Numbered) → a ≤ b → Ordered b os → Ordered a os
+ordered-less a b [] le h = omega arith
+ordered-less a b (o ∷ os) le h = (omega (arith, h .0), h .1)
+
+pub ordered-end : (a : ℕ) (os : List Numbered) → Ordered a os → a ≤ 86400
+ordered-end a [] h = h
+ordered-end a (o ∷ os) h = omega (arith, h .0, ordered-end (acting o) os (h .1))
+
+-- ---- their lines
+
+module _ (u : UnitData) where
+  lines-cons : (c : Course) (cs : List Course) → coursesLines u (c ∷ cs) ≡ courseLines u c (beginOf daySeconds cs) ++ coursesLines u cs
+  unfolding coursesLines spansOf dayPieces
+  lines-cons c cs = s-append (piecesIn (trajectoryOf u c) (c .begin) (beginOf daySeconds cs)) (dayPieces (spansOf u daySeconds cs))
+
+  -- of the course under way from its beginning, and of those after it
+  pub set-out-lines : (now : UnderWay) (os : List Numbered) → coursesLines u (coursesFrom u now os) ≡ linesAfter u (setOut u now) os
+  unfolding linesAfter setOut
+  set-out-lines now os =
+      let c : Course = now .course in
+      let up : Bool = ltb (c .start .grains) (grains (c .target)) in
+      ap (coursesLines u) (from-head u now os) ∙ lines-cons c (coursesAfter u now os)
+      ∙ ap (λ (xs : List ℕ). xs ++ coursesLines u (coursesAfter u now os))
+      (sym (pieces-all (ownLists u c up) c up (endOf u now os) u refl refl (beginning c (c .begin)) refl))
+
+-- ---- their areas
+
+-- to the second n by way of a place between
+module _ (h : Heading) (l : Lists) (t : ℕ) (from p : Place) (there : p ≡ standing h l t (p .second) from) (later : from .second ≤ p .second) where
+  abbrev path : Place → ℕ → ℕ
+  path q k = after h l t k (momentOf q) .level
+
+  pub twice-by : (n : ℕ) → p .second ≤ n → twiceTo h l t n from ≡ twiceTo h l t (p .second) from + twiceTo h l t n p
+  unfolding twiceTo standing
+  twice-by n le =
+      let d : ℕ = p .second - from .second in
+      let e : ℕ = n - p .second in
+      ap (area (path from) 0) {x = n - from .second} {y = d + e} (omega arith)
+      ∙ area-split (path from) 0 d e
+      ∙ ap (λ (k : ℕ). area (path from) 0 d + area (path from) k e) {x = 0 + d} {y = d} (omega arith)
+      ∙ ap (λ (k : ℕ). area (path from) 0 d + k) (area-from (path from) d e
+      ∙ area-same (λ j. path from (d + j)) (path p) (λ j. ap (λ (m : Moment). m .level) (after-add h l t d j (momentOf from) ∙ ap (λ (q : Place). after h l t j (momentOf q)) (sym there))) 0 e)
+
+  -- up to a boundary x, or to the end e if that comes first
+  pub twice-through : (e x : ℕ) → p .second ≤ e → twiceTo h l t (min (p .second) x) from + twiceTo h l t (min e x) p ≡ twiceTo h l t (min e x) from
+  twice-through e x le = elim (decLe x (p .second)) [
+    | yes lo ↦
+        ap (λ (k : ℕ). twiceTo h l t (min (p .second) x) from + k) (twice-here h l t (min e x) p (omega arith))
+        ∙ ap (λ (k : ℕ). twiceTo h l t k from + 0) {x = min (p .second) x} {y = min e x} (omega arith) ∙ omega arith
+    | no hi ↦
+        ap (λ (k : ℕ). twiceTo h l t k from + twiceTo h l t (min e x) p) {x = min (p .second) x} {y = p .second} (omega arith)
+        ∙ sym (twice-by (min e x) (omega arith))
+  ]
+
+module _ (u : UnitData) (c : Course) where
+  abbrev up : Bool
+  up = ltb (c .start .grains) (grains (c .target))
+
+  -- of a course from its beginning to the second n
+  course-area : (n : ℕ) → twiceArea (piecesIn (trajectoryOf u c) 0 (n - c .begin)) ≡ twiceTo (headed up) (listsBy (ownLists u c up) c) (grains (c .target)) n (beginning c (c .begin))
+  unfolding beginning
+  course-area n =
+      let a : ℕ = c .begin in
+      pieces-area (trajectoryOf u c) (n - a)
+      ∙ ap (λ (k : ℕ). area (levelAt (trajectoryOf u c)) k (n - a)) {x = 0} {y = a - a} (omega arith)
+      ∙ sym (twice-is u c up refl a a n)
+      ∙ ap (twiceTo (headed up) (listsIn u c) (grains (c .target)) n) (standing-here (headed up) (listsIn u c) (grains (c .target)) a (beginning c a) (begins a))
+      ∙ sym (own-twice u c up (ownLists u c up) refl (grains (c .target)) n (beginning c a))
+    where
+      begins : (a : ℕ) → a ≡ beginning c a .second
+      begins a = refl
+
+pub set-out-sum : (u : UnitData) (now : UnderWay) (os : List Numbered) (j : ℕ) → piecesTo (spansOf u daySeconds (coursesFrom u now os)) (1800 * j) ≡ sumAfter u (setOut u now) os j
+unfolding sumAfter setOut spansOf piecesTo
+set-out-sum u now os j =
+    ap (λ (cs : List Course). piecesTo (spansOf u daySeconds cs) (1800 * j)) (from-head u now os)
+    ∙ ap (λ (k : ℕ). k + piecesTo (spansOf u daySeconds (coursesAfter u now os)) (1800 * j)) (course-area u (now .course) (min (endOf u now os) (1800 * j)))
