@@ -16,7 +16,7 @@ use Rattle.validation.specs.Kept.{acting, numbered, validated}
 use Rattle.validation.proofs.Acting.{Rises, acting-rise}
 use Rattle.keeping.specs.declared.Validation.{Validation}
 use Rattle.keeping.specs.Outcome.{validationOf}
-use Rattle.keeping.proofs.Laws.{filled-listed}
+use Rattle.choosing.proofs.Laws.{filled-listed}
 use Rattle.profile.specs.declared.UnderWay.{UnderWay}
 use Rattle.profile.specs.declared.Closing.{Closing}
 use Rattle.profile.specs.State.{byRule}

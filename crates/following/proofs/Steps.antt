@@ -17,7 +17,7 @@ use Rattle.course.specs.declared.Course.{Course}
 use Rattle.course.proofs.Near.{Short}
 use Rattle.validation.specs.declared.Numbered.{Numbered}
 use Rattle.validation.specs.Kept.{Mark, mark, acting}
-use Rattle.keeping.proofs.Laws.{filled-push}
+use Rattle.choosing.proofs.Laws.{filled-push}
 use Rattle.profile.specs.declared.UnderWay.{UnderWay}
 use Rattle.profile.specs.declared.State.{State}
 use Rattle.profile.specs.State.{byRule}

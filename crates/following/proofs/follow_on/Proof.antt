@@ -9,7 +9,7 @@ use Rattle.level.specs.Lists.{filled}
 use Rattle.validation.specs.declared.Numbered.{Numbered}
 use Rattle.validation.specs.Kept.{acting}
 use Rattle.keeping.specs.Outcome.{noNumbered}
-use Rattle.keeping.proofs.Laws.{left-cons, left-none}
+use Rattle.choosing.proofs.Laws.{left-cons, left-none}
 use Rattle.profile.specs.declared.UnderWay.{UnderWay}
 use Rattle.profile.specs.declared.State.{State}
 use Rattle.profile.specs.Effects.{idle, begun}
