@@ -1,13 +1,11 @@
 // The library for others: records in, the listing out.
 ghost use mathlib.Core.Path.{_≡_};
 ghost use Prim.Native.Nat.{ℕ, _+_, _*_, _<_, _≤_};
-ghost use lib.ListN.{length, take, drop};
 ghost use Rattle.profile.specs.Profile.{paper};
 ghost use Rattle.day.specs.Day.{foundIn};
 ghost use Rattle.contract.specs.Program.{ranBy};
 ghost use Rattle.records.specs.Answers.{refusalNumber};
-ghost use Rattle.listing.specs.Listing.{printedDay, lentAfter};
-ghost use mathlib.Core.Bool.{true};
+ghost use Rattle.listing.specs.Listing.{lentAfter};
 ghost use Rattle.gristpebble.specs.Listed.{listResult, listedResult, listedLent};
 use day::Ran;
 use records::Answer;
@@ -64,18 +62,10 @@ fn refusal_result(r: Refusal) -> u64
     (number as u64) * 4294967296
 }
 
-// So many bytes suffice for the listing of any day that records make.
-const SUFFICES: usize = 46080;
-
-// The listing of a closed day into the lent slice, and its result. A slice that suffices for any day needs no measuring.
+// The listing of a day into the lent slice, and its result.
 fn list_day(day: day::Day, out: &mut [u8]) -> u64
-    requires { ⌜ (day .closed ≡ true) × (length (printedDay day) ≤ 46080) ⌝ }
     ensures { λ r. ⌜ (r ≡ listResult day (now (out .entry))) × (now (out .exit) ≡ lentAfter day (now (out .entry))) ⌝ }
 {
-    if SUFFICES <= out.len() {
-        let count = printing::put_day(out, day);
-        return count as u64;
-    }
     let l = printing::list(day, out);
     let a = l.answer;
     match a {
@@ -84,10 +74,8 @@ fn list_day(day: day::Day, out: &mut [u8]) -> u64
     }
 }
 
-// The records of `input` up to close are taken, and the listing is written to the front of `out`. The result is the count
-// of bytes written, or, at a refusal, its number times 2^32; then `out` is as it was.
-#[no_mangle]
-pub extern "C" fn gristpebble_listing(input: &[u8], out: &mut [u8]) -> u64
+// Any records and a slice of any length: record by record, then the listing of the day.
+fn list_run(input: &[u8], out: &mut [u8]) -> u64
     ensures { λ r. ⌜ (r ≡ listedResult (now (input .entry)) (now (out .entry))) × (now (out .exit) ≡ listedLent (now (input .entry)) (now (out .entry))) ⌝ }
 {
     let ran = run(input);
@@ -97,4 +85,29 @@ pub extern "C" fn gristpebble_listing(input: &[u8], out: &mut [u8]) -> u64
         Answer::Accepted => list_day(day, out),
         Answer::Refused(r) => refusal_result(r),
     }
+}
+
+// So many bytes suffice for the listing of any day that records make.
+const SUFFICES: usize = 46080;
+
+// The records of `input` up to close are taken, and the listing is written to the front of `out`. The result is the count
+// of bytes written, or, at a refusal, its number times 2^32; then `out` is as it was. Where the slice suffices for any day
+// and nothing is refused, no day is stored: what close needs is taken from the bytes, and the listing is written while the
+// instructions are followed.
+#[no_mangle]
+pub extern "C" fn gristpebble_listing(input: &[u8], out: &mut [u8]) -> u64
+    ensures { λ r. ⌜ (r ≡ listedResult (now (input .entry)) (now (out .entry))) × (now (out .exit) ≡ listedLent (now (input .entry)) (now (out .entry))) ⌝ }
+{
+    if out.len() < SUFFICES {
+        return list_run(input, out);
+    }
+    let d = intake::open_day(input);
+    if !d.fits {
+        return list_run(input, out);
+    }
+    let unit = d.unit;
+    let opening = d.opening;
+    let instructions = d.instructions;
+    let count = following::list_open(out, unit, opening, instructions, d.count);
+    count as u64
 }
