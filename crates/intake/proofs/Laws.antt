@@ -18,9 +18,9 @@ use Rattle.records.specs.declared.Instruction.{Instruction}
 use Rattle.records.specs.declared.Answer.the-variants.{Accepted, Refused}
 use Rattle.records.specs.declared.Refusal.the-variants.{UnitField, UnitDisagrees}
 use Rattle.records.specs.Answers.{accepted, refusing, firstRefusal}
-use Rattle.records.specs.Records.{numbers, unitOf, openingOf, instructionOf}
+use Rattle.records.specs.Records.{unitOf, openingOf, instructionOf}
 use Rattle.records.specs.Fields.{unitRanges, fitFrom, falls, disagrees, unitAnswer}
-use Rattle.profile.specs.Profile.{recordedIn, rounded, found, paper}
+use Rattle.profile.specs.Profile.{recordedIn, rounded, paper}
 use Rattle.profile.proofs.Found.{spans, found-quantities, quantities-below}
 use Rattle.day.specs.declared.Day.{Day}
 use Rattle.day.specs.declared.Stepped.{Stepped}

@@ -21,12 +21,13 @@ pub struct Opened {
     pub count: usize,
 }
 
-// The unit at the front of the input; `fits` where an empty day takes it.
+// The unit at the front of the input; `fits` where the empty day takes it.
 struct First {
     fits: bool,
     unit: records::UnitData,
 }
 
+// An opening of zeros.
 fn no_opening() -> records::Opening
     ensures { λ r. ⌜ r ≡ openingOf [] ⌝ }
 {
@@ -38,6 +39,7 @@ fn no_opening() -> records::Opening
     }
 }
 
+// What an unused place holds.
 fn no_instruction() -> records::Instruction
     ensures { λ r. ⌜ r ≡ noInstruction ⌝ }
 {
@@ -57,6 +59,7 @@ fn no_instruction() -> records::Instruction
     }
 }
 
+// A unit read from the front of the input; zeros where there are too few bytes.
 fn read_unit(input: &[u8]) -> First
     ensures { λ r. ⌜ (r .fits ≡ true → UnitIn (now (input .entry)) (r .unit)) ⌝ }
 {
@@ -96,7 +99,8 @@ fn lets_opening_in(unit: records::UnitData, input: &[u8]) -> bool
     }
 }
 
-// Records up to close, from the empty day on.
+// Records up to close, from the empty day on: a unit, then an opening and instructions in any order, then close. At anything
+// else `fits` is false.
 pub fn open_day(input: &[u8]) -> Opened
     ensures { λ r. ⌜ (r .fits ≡ true → (ranBy (foundIn paper) (now (input .entry)) ≡ closedRun r) × (r .count ≤ 40)) ⌝ }
 {

@@ -1,5 +1,5 @@
 use native.Mathlib.Omega.{arith}
-use mathlib.Core.Path.{_≡_, sym, ap, _∙_}
+use mathlib.Core.Path.{sym, ap, _∙_}
 use Rattle.day.specs.Step.{tooHigh}
 use Rattle.day.proofs.Passed.{never}
 use Rattle.taking.proofs.Laws.{not-true}
@@ -12,63 +12,48 @@ use Rattle.records.proofs.opening_answer.Reads as opening-answer-reads
 use Rattle.records.proofs.opening_of.Reads as opening-of-reads
 use Rattle.taking.proofs.too_high.Reads as too-high-reads
 
--- src/lib.rt:84:9
 returns : tie.Need-returns
 returns c = λ e. never e
 
--- src/lib.rt:86:8
 shared-slice-read-if2 : tie.Need-shared-slice-read-if2
 shared-slice-read-if2 c = search needs
 
--- src/lib.rt:87:9
 returns-2 : tie.Need-returns-2
 returns-2 c = λ e. never e
 
--- src/lib.rt:89:42
 sub-opening-answer : tie.Need-sub-opening-answer
 sub-opening-answer c = search needs
 
--- src/lib.rt:89:42
 part-opening-answer-start : tie.Need-part-opening-answer-start
 part-opening-answer-start c = search needs
 
--- src/lib.rt:89:42
 part-opening-answer-end : tie.Need-part-opening-answer-end
 part-opening-answer-end c = search needs
 
--- src/lib.rt:89:9
 opening-answer-requires : tie.Need-opening-answer-requires
 opening-answer-requires c κs = search needs
 
--- src/lib.rt:92:41
 enum-told : tie.Need-enum-told
 enum-told c = search needs
 
--- src/lib.rt:92:41
 sub-opening-of : tie.Need-sub-opening-of
 sub-opening-of c = search needs
 
--- src/lib.rt:92:41
 part-opening-of-start : tie.Need-part-opening-of-start
 part-opening-of-start c = search needs
 
--- src/lib.rt:92:41
 part-opening-of-end : tie.Need-part-opening-of-end
 part-opening-of-end c = search needs
 
--- src/lib.rt:92:17
 opening-of-requires : tie.Need-opening-of-requires
 opening-of-requires c κs = search needs
 
--- src/lib.rt:93:14
 too-high-requires : tie.Need-too-high-requires
 too-high-requires c κs = search needs
 
--- src/lib.rt:95:25
 enum-known-answer : tie.Need-enum-known-answer
 enum-known-answer c = search needs
 
--- src/lib.rt:80:1
 returns-3 : tie.Need-returns-3
 returns-3 c = λ e.
     record {
@@ -78,7 +63,6 @@ returns-3 c = λ e.
       low = ap (tooHigh _) (sym (c .before .opening-of .ensures)) ∙ (sym (c .too-high .ensures) ∙ not-true _ e);
     }
 
--- src/lib.rt:80:1
 returns-4 : tie.Need-returns-4
 returns-4 c = λ e. never e
 

@@ -5,7 +5,6 @@ use Rattle.intake.proofs.no_opening.Tie as tie
 use Rattle.intake.proofs.no_opening.Reads as reads
 use Rattle.intake.proofs.no_opening.Lts as lts
 
--- src/lib.rt:30:1
 returns : tie.Need-returns
 unfolding openingOf
 returns c = refl

@@ -1,11 +1,11 @@
-use mathlib.Core.Path.{_≡_, sym, _∙_}
+use mathlib.Core.Path.{sym, _∙_}
 use mathlib.Core.Bool.{true, false}
 use borrow.Author.Tests.{eqb-true}
 use Rattle.day.proofs.Passed.{never}
 use Rattle.taking.specs.Kinds.{LetsIn}
 use Rattle.taking.proofs.Laws.{not-false}
 use Rattle.intake.specs.Fronts.{OpeningIn}
-use Prim.Native.Nat.{ℕ, _≤_, _+_, _-_}
+use Prim.Native.Nat.{_≤_, _+_, _-_}
 use native.Mathlib.Omega.{arith}
 use lib.ListN.{length, take, drop}
 use borrow.Author.Needs.{needs}
@@ -28,39 +28,30 @@ Inv-loop input unit e₀ at₀ opened₀ e at opened = So input unit e at opened
 abbrev μ-loop : tie.MeasureT-loop
 μ-loop input unit e₀ at₀ opened₀ e at opened = length input - at
 
--- src/lib.rt:103:9
 read-unit-requires : tie.Need-read-unit-requires Inv-loop μ-loop
 read-unit-requires c κs = search needs
 
--- src/lib.rt:105:9
 no-opening-requires : tie.Need-no-opening-requires Inv-loop μ-loop
 no-opening-requires c κs = search needs
 
--- src/lib.rt:106:9
 no-instruction-requires : tie.Need-no-instruction-requires Inv-loop μ-loop
 no-instruction-requires c κs = search needs
 
--- src/lib.rt:115:9
 returns : tie.Need-returns Inv-loop μ-loop
 returns c = λ e. never e
 
--- src/lib.rt:119:5
 loop-holds : tie.Need-loop-holds Inv-loop μ-loop
 loop-holds c = so-first _ _ _ _ (c .before .before .before .no-opening .ensures) (c .before .before .no-instruction .ensures) (c .before .before .before .before .before .read-unit .ensures (not-false _ (c .if1 .left)))
 
--- src/lib.rt:120:50
 sub-lets-in : tie.Need-sub-lets-in Inv-loop μ-loop
 sub-lets-in c = search needs
 
--- src/lib.rt:120:50
 part-lets-in-start : tie.Need-part-lets-in-start Inv-loop μ-loop
 part-lets-in-start c = search needs
 
--- src/lib.rt:120:50
 part-lets-in-end : tie.Need-part-lets-in-end Inv-loop μ-loop
 part-lets-in-end c = search needs
 
--- src/lib.rt:120:12
 lets-in-requires : tie.Need-lets-in-requires Inv-loop μ-loop
 lets-in-requires c κs = search needs
 
@@ -76,51 +67,39 @@ got c =
     let g = c .before .lets-in .ensures (c .if2 .taken) in
     (g, instruction-within s u (l .e) (l .at) (l .opened) (l .inv) (c .before .before .before .loop-test .taken) g)
 
--- src/lib.rt:121:52
 add-instruction-of : tie.Need-add-instruction-of Inv-loop μ-loop
 add-instruction-of c = search needs
 
--- src/lib.rt:121:60
 add-instruction-of-2 : tie.Need-add-instruction-of-2 Inv-loop μ-loop
 add-instruction-of-2 c = search needs
 
--- src/lib.rt:121:45
 sub-instruction-of : tie.Need-sub-instruction-of Inv-loop μ-loop
 sub-instruction-of c = search needs
 
--- src/lib.rt:121:45
 part-instruction-of-start : tie.Need-part-instruction-of-start Inv-loop μ-loop
 part-instruction-of-start c = search needs
 
--- src/lib.rt:121:45
 part-instruction-of-end : tie.Need-part-instruction-of-end Inv-loop μ-loop
 part-instruction-of-end c = omega (arith, got c .1)
 
--- src/lib.rt:121:17
 instruction-of-requires : tie.Need-instruction-of-requires Inv-loop μ-loop
 instruction-of-requires c κs = search needs
 
--- src/lib.rt:123:13
 mul-i : tie.Need-mul-i Inv-loop μ-loop
 mul-i c = search needs
 
--- src/lib.rt:123:13
 element-set-from-i : tie.Need-element-set-from-i Inv-loop μ-loop
 element-set-from-i c = omega (arith, got (c .before .before) .0 .room)
 
--- src/lib.rt:124:23
 add-e : tie.Need-add-e Inv-loop μ-loop
 add-e c = search needs
 
--- src/lib.rt:125:13
 add-at : tie.Need-add-at Inv-loop μ-loop
 add-at c = search needs
 
--- src/lib.rt:119:5
 loop-less : tie.Need-loop-less Inv-loop μ-loop
 loop-less c = search needs
 
--- src/lib.rt:119:5
 loop-again : tie.Need-loop-again Inv-loop μ-loop
 loop-again c =
     let l = c .before .before .before .before .before .before .loop in
@@ -128,33 +107,26 @@ loop-again c =
     let u = c .before .before .before .before .before .before .before .before .before .before .before .before .read-unit .result .unit in
     so-instruction s u (l .e) (l .at) (l .opened) (l .inv) (c .before .before .before .before .before .loop-test .taken) (got (c .before .before) .0) (c .instruction-of .result) (c .instruction-of .ensures)
 
--- src/lib.rt:129:22
 shared-slice-read-e : tie.Need-shared-slice-read-e Inv-loop μ-loop
 shared-slice-read-e c = search needs
 
--- src/lib.rt:130:13
 returns-2 : tie.Need-returns-2 Inv-loop μ-loop
 returns-2 c = λ e.
     let l = c .before .before .before .before .before .before .loop in
     so-close _ _ (l .e) (l .at) (l .opened) (l .inv) (c .before .before .before .before .before .loop-test .taken) _ (c .before .if3 .taken) (eqb-true _ 4 e)
 
--- src/lib.rt:132:35
 sub-lets-opening-in : tie.Need-sub-lets-opening-in Inv-loop μ-loop
 sub-lets-opening-in c = search needs
 
--- src/lib.rt:132:35
 part-lets-opening-in-start : tie.Need-part-lets-opening-in-start Inv-loop μ-loop
 part-lets-opening-in-start c = search needs
 
--- src/lib.rt:132:35
 part-lets-opening-in-end : tie.Need-part-lets-opening-in-end Inv-loop μ-loop
 part-lets-opening-in-end c = search needs
 
--- src/lib.rt:132:13
 lets-opening-in-requires : tie.Need-lets-opening-in-requires Inv-loop μ-loop
 lets-opening-in-requires c κs = search needs
 
--- src/lib.rt:133:13
 returns-3 : tie.Need-returns-3 Inv-loop μ-loop
 returns-3 c = λ e. never (sym (c .before .before .before .before .before .before .before .before .loop .inv .unfit) ∙ e)
 
@@ -170,39 +142,30 @@ opens c =
     let g = c .before .lets-opening-in .ensures (not-false _ (c .if4 .left)) in
     (g, opening-within s u (l .e) (l .at) (l .opened) (l .inv) (c .before .before .before .before .before .before .before .loop-test .taken) (c .before .before .before .if3 .left) g)
 
--- src/lib.rt:135:44
 add-opening-of : tie.Need-add-opening-of Inv-loop μ-loop
 add-opening-of c = search needs
 
--- src/lib.rt:135:52
 add-opening-of-2 : tie.Need-add-opening-of-2 Inv-loop μ-loop
 add-opening-of-2 c = search needs
 
--- src/lib.rt:135:37
 sub-opening-of : tie.Need-sub-opening-of Inv-loop μ-loop
 sub-opening-of c = search needs
 
--- src/lib.rt:135:37
 part-opening-of-start : tie.Need-part-opening-of-start Inv-loop μ-loop
 part-opening-of-start c = search needs
 
--- src/lib.rt:135:37
 part-opening-of-end : tie.Need-part-opening-of-end Inv-loop μ-loop
 part-opening-of-end c = omega (arith, opens c .1)
 
--- src/lib.rt:135:13
 opening-of-requires : tie.Need-opening-of-requires Inv-loop μ-loop
 opening-of-requires c κs = search needs
 
--- src/lib.rt:138:9
 add-at-2 : tie.Need-add-at-2 Inv-loop μ-loop
 add-at-2 c = search needs
 
--- src/lib.rt:119:5
 loop-less-2 : tie.Need-loop-less-2 Inv-loop μ-loop
 loop-less-2 c = search needs
 
--- src/lib.rt:119:5
 loop-again-2 : tie.Need-loop-again-2 Inv-loop μ-loop
 loop-again-2 c =
     let l = c .before .before .before .before .before .before .before .before .before .before .loop in
@@ -210,7 +173,6 @@ loop-again-2 c =
     let u = c .before .before .before .before .before .before .before .before .before .before .before .before .before .before .before .before .read-unit .result .unit in
     so-opening s u (l .e) (l .at) (l .opened) (l .inv) (c .before .before .before .before .before .before .before .before .before .loop-test .taken) (c .before .before .before .before .before .if3 .left) (opens (c .before .before) .0) (c .opening-of .result) (c .opening-of .ensures)
 
--- src/lib.rt:100:1
 returns-4 : tie.Need-returns-4 Inv-loop μ-loop
 returns-4 c = λ e. never (sym (c .before .loop .inv .unfit) ∙ e)
 

@@ -1,5 +1,5 @@
 use native.Mathlib.Omega.{arith}
-use mathlib.Core.Path.{_≡_, sym, ap, _∙_}
+use mathlib.Core.Path.{sym, ap, _∙_}
 use Rattle.records.specs.Records.{unitOf}
 use Rattle.records.specs.Fields.{unitAnswer}
 use Rattle.day.proofs.Passed.{never}
@@ -12,55 +12,42 @@ use Rattle.units.proofs.unit_answer.Reads as unit-answer-reads
 use Rattle.units.proofs.unit_numbers.Reads as unit-numbers-reads
 use Rattle.units.proofs.unit_of.Reads as unit-of-reads
 
--- src/lib.rt:64:13
 unit-of-requires : tie.Need-unit-of-requires
 unit-of-requires c κs = search needs
 
--- src/lib.rt:65:9
 returns : tie.Need-returns
 returns c = λ e. never e
 
--- src/lib.rt:67:36
 sub-unit-numbers : tie.Need-sub-unit-numbers
 sub-unit-numbers c = search needs
 
--- src/lib.rt:67:36
 part-unit-numbers-start : tie.Need-part-unit-numbers-start
 part-unit-numbers-start c = search needs
 
--- src/lib.rt:67:36
 part-unit-numbers-end : tie.Need-part-unit-numbers-end
 part-unit-numbers-end c = search needs
 
--- src/lib.rt:67:9
 unit-numbers-requires : tie.Need-unit-numbers-requires
 unit-numbers-requires c κs = search needs
 
--- src/lib.rt:68:9
 unit-of-requires-2 : tie.Need-unit-of-requires-2
 unit-of-requires-2 c κs = search needs
 
--- src/lib.rt:69:8
 shared-slice-read-if2 : tie.Need-shared-slice-read-if2
 shared-slice-read-if2 c = search needs
 
--- src/lib.rt:70:9
 returns-2 : tie.Need-returns-2
 returns-2 c = λ e. never e
 
--- src/lib.rt:72:9
 unit-answer-requires : tie.Need-unit-answer-requires
 unit-answer-requires c κs = search needs
 
--- src/lib.rt:74:29
 enum-told : tie.Need-enum-told
 enum-told c = search needs
 
--- src/lib.rt:75:25
 enum-known-answer : tie.Need-enum-known-answer
 enum-known-answer c = search needs
 
--- src/lib.rt:60:1
 returns-3 : tie.Need-returns-3
 returns-3 c = λ e.
     let ns = c .before .before .before .before .before .before .unit-numbers .ensures in
@@ -71,7 +58,6 @@ returns-3 c = λ e.
       unit = c .before .before .before .before .before .unit-of2 .ensures ∙ ap unitOf ns;
     }
 
--- src/lib.rt:60:1
 returns-4 : tie.Need-returns-4
 returns-4 c = λ e. never e
 
