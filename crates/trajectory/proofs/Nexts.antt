@@ -4,10 +4,10 @@ use Prim.Native.Nat.{ℕ, min, max, _≤_, _<_}
 use mathlib.Core.Path.{_≡_, refl, ap, sym, _∙_}
 use mathlib.Core.List.{List, [], _∷_, _++_, map, map-append}
 use mathlib.Core.Bool.{Bool, true, false}
+use native.Mathlib.Nat.{le-refl}
 use native.Mathlib.Omega.{arith}
 use lib.Dec.{ltb}
 use lib.ListN.{length, getD}
-use borrow.Author.Tests.{lt-ltb, le-ltb}
 use Rattle.level.specs.Choice.{pick}
 use Rattle.level.specs.Lists.{those}
 use Rattle.level.specs.Level.{grains}
@@ -42,15 +42,19 @@ module _ (v n w : ℕ) where
   pub down-far : w < v → w ≤ n → n ≡ nearest falling v n (w ∷ [])
   down-far p q = omega (arith, down-take v n w [] p, near-none falling v n)
 
--- a trigger (kW)
-module _ (h : Heading) (v n : ℕ) (g : Trigger) where
-  pub trigger-counts : (w : ℕ) → w ≡ grains (g .level) → (g .minutes ≡ 0 → ⊥) → nearest h v n (w ∷ []) ≡ nearest h v n (timedLevels (g ∷ []))
-  unfolding timedLevels those
-  trigger-counts w is some = simp (lt-ltb 0 (g .minutes) (omega arith), is)
+-- v itself never counts
+near-here : (h : Heading) (v n : ℕ) → nearest h v n (v ∷ []) ≡ n
+near-here rising v n = sym (up-behind v n v (le-refl v))
+near-here falling v n = sym (down-behind v n v (le-refl v))
 
-  pub trigger-idles : g .minutes ≡ 0 → n ≡ nearest h v n (timedLevels (g ∷ []))
-  unfolding timedLevels those
-  trigger-idles none = simp (le-ltb 0 (g .minutes) (omega arith)) (sym (near-none h v n))
+-- a trigger (kW): its level where it has minutes, else v
+pub near-trigger : (h : Heading) (v n : ℕ) (g : Trigger) → nearest h v n (pick (ltb 0 (g .minutes)) (grains (g .level)) v ∷ []) ≡ nearest h v n (timedLevels (g ∷ []))
+unfolding timedLevels those
+near-trigger h v n g = go (ltb 0 (g .minutes))
+  where
+    go : (b : Bool) → nearest h v n (pick b (grains (g .level)) v ∷ []) ≡ nearest h v n (map (λ (g : Trigger). grains (g .level)) (pick b (g ∷ []) []))
+    go true = refl
+    go false = near-here h v n ∙ sym (near-none h v n)
 
 -- ---- several, from the last to the first
 

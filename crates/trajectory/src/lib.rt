@@ -8,6 +8,7 @@ ghost use Prim.Native.Nat.{ℕ, _+_, _*_, _-_, _/_, min, max, _<_, _≤_};
 ghost use mathlib.Core.List.{[], _∷_, _++_, map};
 ghost use lib.ListN.{length, getD};
 ghost use lib.Dec.{leb, ltb};
+ghost use Rattle.level.specs.Choice.{pick};
 ghost use Rattle.level.specs.Lists.{listFrom};
 ghost use Rattle.level.specs.Level.{grains};
 ghost use Rattle.segments.specs.Segments.{seconds, area};
@@ -325,14 +326,22 @@ fn deload_break(v: u64, bs: [u32; 1], n: u64) -> u64
     break_stop(false, v, bs[0], n)
 }
 
+// The level of a trigger with minutes; without them v itself, which never counts: so no branch is needed.
+fn trigger_level(v: u64, g: records::Trigger) -> u64
+    ensures { λ r. ⌜ r ≡ pick (ltb 0 (g .minutes)) (grains (g .level)) v ⌝ }
+{
+    let w = grains_of(g.level);
+    if g.minutes == 0 {
+        return v;
+    }
+    w
+}
+
 // With a trigger, which counts where it has minutes.
 fn trigger_stop(up: bool, v: u64, g: records::Trigger, n: u64) -> u64
     ensures { λ r. ⌜ r ≡ nearest (headed up) v n (timedLevels (g ∷ [])) ⌝ }
 {
-    if g.minutes == 0 {
-        return n;
-    }
-    let w = grains_of(g.level);
+    let w = trigger_level(v, g);
     nearer(up, v, w, n)
 }
 
@@ -351,9 +360,8 @@ fn soak_stops(v: u64, gs: [records::Trigger; 2], n: u64) -> u64
     trigger_stop(true, v, gs[0], b)
 }
 
-// The candidates of the level's own side of MSG in turn, the nearest so far going along; the target is the furthest. What
-// counts only on the other side lies behind the level, or MSG lies before it. For the same reason a break or a trigger
-// needs no look at its own side: on the wrong one it is never the nearest.
+// The candidates in turn, the nearest so far going along; the target is the furthest. Only the lists of the level's own side
+// of MSG are looked at, and no break or trigger is asked for its side: across MSG it lies behind, or MSG comes first.
 fn stop_rising(l: OwnLists, c: course::Course, v: u64) -> u64
     ensures { λ r. ⌜ r ≡ nextStop rising (listsBy l c) (grains (c .target)) v ⌝ }
 {
