@@ -2,7 +2,7 @@
 -- Assumes nothing.
 use Prim.Native.Nat.{ℕ, _≤_}
 use mathlib.Core.Path.{_≡_, refl, ap, sym, _∙_, subst}
-use mathlib.Core.Bool.{true}
+use mathlib.Core.Bool.{Bool, true, false, not}
 use mathlib.Core.List.{List, _++_}
 use native.Mathlib.Omega.{arith}
 use lib.ListN.{length, take}
@@ -22,6 +22,10 @@ use Rattle.contract.specs.Program.{ranBy}
 use Rattle.gristpebble.specs.Listed.{listedResult, listedLent}
 use Rattle.gristpebble.proofs.Laws.{list-room, run-listed}
 use Rattle.gristpebble.proofs.Room.{run-fits}
+
+pub not-false : (b : Bool) → not b ≡ false → b ≡ true
+not-false true e = refl
+not-false false e = sym e
 
 abbrev pub listed : Opened → List ℕ
 listed r = listingOf (r .unit) (r .opening) (r .instructions) (r .count)

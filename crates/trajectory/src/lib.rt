@@ -326,7 +326,7 @@ fn deload_break(v: u64, bs: [u32; 1], n: u64) -> u64
     break_stop(false, v, bs[0], n)
 }
 
-// The level of a trigger that has minutes; of any other v itself, which never counts. So a trigger needs no branch.
+// The level of a trigger with minutes; without them v itself, which never counts: so no branch is needed.
 fn trigger_level(v: u64, g: records::Trigger) -> u64
     ensures { λ r. ⌜ r ≡ pick (ltb 0 (g .minutes)) (grains (g .level)) v ⌝ }
 {
@@ -360,9 +360,8 @@ fn soak_stops(v: u64, gs: [records::Trigger; 2], n: u64) -> u64
     trigger_stop(true, v, gs[0], b)
 }
 
-// The candidates of the level's own side of MSG in turn, the nearest so far going along; the target is the furthest. What
-// counts only on the other side lies behind the level, or MSG lies before it. For the same reason a break or a trigger
-// needs no look at its own side: on the wrong one it is never the nearest.
+// The candidates in turn, the nearest so far going along; the target is the furthest. Only the lists of the level's own side
+// of MSG are looked at, and no break or trigger is asked for its side: across MSG it lies behind, or MSG comes first.
 fn stop_rising(l: OwnLists, c: course::Course, v: u64) -> u64
     ensures { λ r. ⌜ r ≡ nextStop rising (listsBy l c) (grains (c .target)) v ⌝ }
 {
