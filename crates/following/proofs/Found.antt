@@ -144,8 +144,12 @@ module _ (is : List Instruction) (count : ℕ) (forty : length is ≡ 40) (few :
 
   front-fits : length (fateLines count (f .fates)) + length (coursesLines u coursesThen) ≤ length (listingOf u o is count)
   front-fits =
-      omega (arith, ap length listing-front, length-append (fateLines count (f .fates)) (coursesLines u coursesThen ++ (quantityLines (f .sums) ++ closingLine (f .closing))),
-      length-append (coursesLines u coursesThen) (quantityLines (f .sums) ++ closingLine (f .closing)))
+      omega (
+        arith,
+        ap length listing-front,
+        length-append (fateLines count (f .fates)) (coursesLines u coursesThen ++ (quantityLines (f .sums) ++ closingLine (f .closing))),
+        length-append (coursesLines u coursesThen) (quantityLines (f .sums) ++ closingLine (f .closing)),
+      )
 
 -- what following asks for and gives, of what validation found and the first course
 pub record Ready (is : List Instruction) (count : ℕ) (u : UnitData) (o : Opening) (v : Validation) (first : UnderWay) : Type 0 where

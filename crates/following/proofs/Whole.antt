@@ -79,7 +79,7 @@ module _ (u : UnitData) (first : UnderWay) (os : List Numbered) (o out xs ys : L
       r .count ≡ w .count + e .count → SettledBy u first os o (take (w .count) out ++ (part ++ drop (length out - w .count) (drop (w .count) out))) xs zs r
   settled part zs e d r fates closing count =
       let done = lay-all whole [] o (take (w .count) out ++ (part ++ drop (length out - w .count) (drop (w .count) out))) (w .count + e .count) refl
-          (lay-more whole left left [] o out part (w .count) (e .count) enough (sym (append-nil left)) laying (d .count) (d .filled)) in
+      (lay-more whole left left [] o out part (w .count) (e .count) enough (sym (append-nil left)) laying (d .count) (d .filled)) in
       let s : State = stateAt byRule u (g .now) daySeconds in
       let is : (record { level = e .closing .level .grains; off = e .closing .off }) ≡ s = d .state u (f .on) in
       record {

@@ -108,7 +108,7 @@ add-i c = omega arith
 
 -- src/lib.rt:277:13
 acting-second-requires : tie.Need-acting-second-requires Inv-loop μ-loop
-acting-second-requires c κs = 
+acting-second-requires c κs =
     let k = c .before .before .before .before in
     omega (arith, ordered-end (acting (act k)) (left k) (here k .ordered .1))
 
@@ -133,9 +133,15 @@ pass-to-requires c κs =
     let w = here k in
     let t = c .before .before .before .acting-second .ensures in (
       (omega (arith, w .ordered .0, t), omega (arith, ordered-end (acting (act k)) (left k) (w .ordered .1), t), w .on .low),
-      (w .on .watching .short, (w .summed, subst (λ (n : ℕ). Roomy (l .g .lists) (l .g .now .course) (l .g .up) (l .g .place) n (take (length (l .out) - l .count) (drop (l .count) (l .out)))) (sym t)
-          (roomy (s .args .u) (k .before .before .set-out .result .now) (take (s .args .n) (s .args .t5)) (s .args .out .now) (s .args .parts .now) (act k) (left k) (l .out) (l .parts) (l .g) (l .fates) (l .count) (l .i)
-          (enough (k .before .before)) w (take (length (l .out) - l .count) (drop (l .count) (l .out))) (part-length (l .count) (l .out))))),
+      (
+        w .on .watching .short,
+        (
+          w .summed,
+          subst (λ (n : ℕ). Roomy (l .g .lists) (l .g .now .course) (l .g .up) (l .g .place) n (take (length (l .out) - l .count) (drop (l .count) (l .out)))) (sym t)
+              (roomy (s .args .u) (k .before .before .set-out .result .now) (take (s .args .n) (s .args .t5)) (s .args .out .now) (s .args .parts .now) (act k) (left k) (l .out) (l .parts) (l .g) (l .fates) (l .count) (l .i)
+              (enough (k .before .before)) w (take (length (l .out) - l .count) (drop (l .count) (l .out))) (part-length (l .count) (l .out))),
+        ),
+      ),
     )
 
 -- the course passed up to where it acts
@@ -259,9 +265,17 @@ end-course-requires c κs =
     let n = l .count + r .count in
     let out = take (l .count) (l .out) ++ (a .pass-to .last .0 ++ drop (length (l .out) - l .count) (drop (l .count) (l .out))) in (
       (last-goes (g .lists) (g .now .course) (g .up) (acting (act k)) (r .place) (r .ahead) (p .short) there (p .runs), omega (arith, p .within, there)),
-      ((omega (arith, there, ordered-end (acting (act k)) (left k) (here k .ordered .1)), p .low, p .ahead-low), (p .short, (p .sums,
-          last-room (s .args .u) (k .before .before .set-out .result .now) (take (s .args .n) (s .args .t5)) (s .args .out .now) (s .args .parts .now) (act k) (left k) _ _ _ (l .fates) _ (l .i)
-          (enough (k .before .before)) (past a) (new-one (c .before .before)) (r .ahead) there (p .runs) (take (length out - n) (drop n out)) (part-length n out)))),
+      (
+        (omega (arith, there, ordered-end (acting (act k)) (left k) (here k .ordered .1)), p .low, p .ahead-low),
+        (
+          p .short,
+          (
+            p .sums,
+            last-room (s .args .u) (k .before .before .set-out .result .now) (take (s .args .n) (s .args .t5)) (s .args .out .now) (s .args .parts .now) (act k) (left k) _ _ _ (l .fates) _ (l .i)
+                (enough (k .before .before)) (past a) (new-one (c .before .before)) (r .ahead) there (p .runs) (take (length out - n) (drop n out)) (part-length n out),
+          ),
+        ),
+      ),
     )
 
 -- the course ended, and the next one

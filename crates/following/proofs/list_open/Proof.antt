@@ -101,8 +101,13 @@ put-fates-requires c κs =
     let l = c .before .before in
     let a = l .before .before .before .before .before .before .before .before in
     let o = a .before .before .before .before .before .args .out .now in
-    omega (arith, fates-wide l, front a, length-take (a .fates-room .result) o,
-    length-append (take (a .fates-room .result) o) (c .before .before .before .before .before .before .before .follow-day .last .0 ++ drop (length o - a .fates-room .result) (drop (a .fates-room .result) o)))
+    omega (
+      arith,
+      fates-wide l,
+      front a,
+      length-take (a .fates-room .result) o,
+      length-append (take (a .fates-room .result) o) (c .before .before .before .before .before .before .before .follow-day .last .0 ++ drop (length o - a .fates-room .result) (drop (a .fates-room .result) o)),
+    )
 
 -- F and S lines are laid
 two-laid : (c : tie.After-put-fates) →

@@ -42,8 +42,8 @@ returns-2 c = search needs
 list-open-requires : tie.Need-list-open-requires
 list-open-requires c κs =
     let a = c .before .before .before .before .before .before in
-    let e = a .open-day .ensures (not-false (a .open-day .result .fits) (c .before .before .before .before .before .if2 .left)) in
-    (e .1, omega (arith, listed-fits (a .before .before .before .before .args .input .now) (a .open-day .result) (e .0), c .before .before .before .before .before .before .before .before .if1 .left))
+    let e = a .open-day .ensures (not-false (a .open-day .result .fits) (c .before .before .before .before .if2 .left)) in
+    (e .1, omega (arith, listed-fits (a .before .before .before .before .args .input .now) (a .open-day .result) (e .0), c .before .before .before .before .before .before .before .if1 .left))
 
 -- src/lib.rt:97:1
 same-length-3 : tie.Need-same-length-3
@@ -55,8 +55,8 @@ returns-3 c =
     let a = c .before .before .before .before .before .before .before .before .before in
     let s = a .before .before .before .before in
     let o = c .before .before .list-open in
-    let e = a .open-day .ensures (not-false (a .open-day .result .fits) (c .before .before .before .before .before .before .before .before .if2 .left)) in
-    let r = opened-listed (s .args .input .now) (a .open-day .result) (e .0) (s .args .out .now) (omega (arith, c .before .before .before .before .before .before .before .before .before .before .before .if1 .left)) in
+    let e = a .open-day .ensures (not-false (a .open-day .result .fits) (c .before .before .before .before .before .before .before .if2 .left)) in
+    let r = opened-listed (s .args .input .now) (a .open-day .result) (e .0) (s .args .out .now) (omega (arith, c .before .before .before .before .before .before .before .before .before .before .if1 .left)) in
     (o .ensures .0 ∙ r .0, o .ensures .1 ∙ r .1)
 
 pub gristpebble-listing-spec : {M : Type 1} → statement M
