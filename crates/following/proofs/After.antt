@@ -1,66 +1,51 @@
 -- What is to come of a day: the courses after the one under way, their lines and their areas.
 -- Assumes nothing.
-use Prim.Native.Nat.{ℕ, zero, suc, _+_, _*_, _-_, min, _≤_, _<_}
+use Prim.Native.Nat.{ℕ, _+_, _*_, _-_, min, _≤_}
 use mathlib.Core.Path.{_≡_, refl, ap, sym, _∙_}
 use mathlib.Core.Bool.{Bool, true, false}
-use mathlib.Core.List.{List, [], _∷_, _++_, map, append-assoc, append-nil}
+use mathlib.Core.List.{List, [], _∷_, _++_, append-assoc}
 use native.Mathlib.Decide.{decLe}
 use native.Mathlib.Omega.{arith}
 use lib.Dec.{ltb}
-use lib.ListN.{length, drop}
+use lib.ListN.{drop}
 use Rattle.level.specs.Level.{grains}
-use Rattle.level.specs.Lists.{All, sum}
 use Rattle.segments.specs.Segments.{area}
-use Rattle.segments.proofs.Sums.{area-split, sum-eq, sum-shift}
 use Rattle.records.specs.declared.UnitData.{UnitData}
 use Rattle.course.specs.declared.Course.{Course}
 use Rattle.course.specs.Lists.{Lists}
-use Rattle.course.specs.Course.{Heading, Moment, trajectoryOf, levelAt, after}
+use Rattle.course.specs.Course.{Heading, trajectoryOf, levelAt, after}
 use Rattle.course.specs.declared.Piece.{Piece}
 use Rattle.course.specs.Pieces.{piecesIn, twiceArea}
 use Rattle.course.proofs.Pieces.{pieces-area}
 use Rattle.validation.specs.declared.Numbered.{Numbered}
-use Rattle.validation.specs.Kept.{Mark, mark, acting}
+use Rattle.validation.specs.Kept.{mark, acting}
 use Rattle.profile.specs.declared.UnderWay.{UnderWay}
 use Rattle.profile.specs.declared.State.{State}
 use Rattle.profile.specs.State.{byRule}
-use Rattle.profile.specs.Effects.{Followed, idle, begun, underWay, courseFrom, goesOn, replaces, stateAt, follow}
-use Rattle.profile.specs.Profile.{beginOf, spansOf, piecesTo, dayPieces, courseOf}
+use Rattle.profile.specs.Effects.{idle, begun, underWay, courseFrom, goesOn, replaces, stateAt, follow}
+use Rattle.profile.specs.Profile.{beginOf, spansOf, piecesTo, dayPieces}
 use Rattle.day.specs.Day.{daySeconds}
 use Rattle.trajectory.specs.declared.Place.{Place}
 use Rattle.trajectory.specs.Ways.{headed, listsIn, ownLists, listsBy}
-use Rattle.trajectory.specs.Walk.{momentOf, beginning, standing, twiceTo}
-use Rattle.trajectory.proofs.Seconds.{after-add}
+use Rattle.trajectory.specs.Walk.{beginning, standing, twiceTo}
 use Rattle.trajectory.proofs.Goes.{standing-here}
-use Rattle.trajectory.proofs.Areas.{area-same, twice-here, twice-is}
+use Rattle.trajectory.proofs.Areas.{twice-here, twice-is}
 use Rattle.trajectory.proofs.Own.{own-twice}
 use Rattle.close.specs.Walk.{lastOf}
 use Rattle.printing.specs.Rest.{courseLines, coursesLines}
 use Rattle.printing.proofs.Laws.{pieces-all}
 use Rattle.lines.specs.Text.{sLine}
 use Rattle.listing.specs.Listing.{sLines}
-use Rattle.following.specs.Passing.{linesLeft}
-use Rattle.following.specs.declared.OnCourse.{OnCourse}
+use Rattle.following.proofs.Areas.{twice-split}
 use Rattle.following.specs.Following.{setOut, Ordered, coursesFrom, coursesAfter, endOf, linesAfter, sumAfter}
 
--- lines and areas, in parts
+-- lines, in parts
 s-append : (ps qs : List Piece) → sLines (ps ++ qs) ≡ sLines ps ++ sLines qs
 unfolding sLines
 s-append [] qs = refl
 s-append (p ∷ ps) qs =
     let x : List ℕ = sLine (p .from) (p .to) (p .enter) (p .leave) in
     ap (λ (l : List ℕ). x ++ l) (s-append ps qs) ∙ sym (append-assoc x (sLines ps) (sLines qs))
-
-sum-from : (f : ℕ → ℕ) (a x n : ℕ) → sum f (x + a) n ≡ sum (λ j. f (x + j)) a n
-unfolding sum
-sum-from f a x zero = refl
-sum-from f a x (suc n) = ap (λ (k : ℕ). f (x + a) + k) (ap (λ (k : ℕ). sum f k n) {x = suc (x + a)} {y = x + suc a} (omega arith) ∙ sum-from f (suc a) x n)
-
-area-from : (f : ℕ → ℕ) (x n : ℕ) → area f x n ≡ area (λ j. f (x + j)) 0 n
-unfolding area
-area-from f x n =
-    ap (λ (k : ℕ). sum (λ j. f j + f (suc j)) k n) {x = x} {y = x + 0} (omega arith) ∙ sum-from (λ j. f j + f (suc j)) 0 x n
-    ∙ sum-eq (λ j. f (x + j) + f (suc (x + j))) (λ j. f (x + j) + f (x + suc j)) (λ j. ap (λ (k : ℕ). f (x + j) + f k) {x = suc (x + j)} {y = x + suc j} (omega arith)) 0 n
 
 -- ---- the courses after
 
@@ -197,19 +182,8 @@ module _ (u : UnitData) where
 
 -- to the second n by way of a place between
 module _ (h : Heading) (l : Lists) (t : ℕ) (from p : Place) (there : p ≡ standing h l t (p .second) from) (later : from .second ≤ p .second) where
-  abbrev path : Place → ℕ → ℕ
-  path q k = after h l t k (momentOf q) .level
-
-  pub twice-by : (n : ℕ) → p .second ≤ n → twiceTo h l t n from ≡ twiceTo h l t (p .second) from + twiceTo h l t n p
-  unfolding twiceTo standing
-  twice-by n le =
-      let d : ℕ = p .second - from .second in
-      let e : ℕ = n - p .second in
-      ap (area (path from) 0) {x = n - from .second} {y = d + e} (omega arith)
-      ∙ area-split (path from) 0 d e
-      ∙ ap (λ (k : ℕ). area (path from) 0 d + area (path from) k e) {x = 0 + d} {y = d} (omega arith)
-      ∙ ap (λ (k : ℕ). area (path from) 0 d + k) (area-from (path from) d e
-      ∙ area-same (λ j. path from (d + j)) (path p) (λ j. ap (λ (m : Moment). m .level) (after-add h l t d j (momentOf from) ∙ ap (λ (q : Place). after h l t j (momentOf q)) (sym there))) 0 e)
+  twice-by : (n : ℕ) → p .second ≤ n → twiceTo h l t (p .second) from + twiceTo h l t n p ≡ twiceTo h l t n from
+  twice-by n le = ap (λ (q : Place). twiceTo h l t (p .second) from + twiceTo h l t n q) there ∙ twice-split h l t from (p .second) n later le
 
   -- up to a boundary x, or to the end e if that comes first
   pub twice-through : (e x : ℕ) → p .second ≤ e → twiceTo h l t (min (p .second) x) from + twiceTo h l t (min e x) p ≡ twiceTo h l t (min e x) from
@@ -219,7 +193,7 @@ module _ (h : Heading) (l : Lists) (t : ℕ) (from p : Place) (there : p ≡ sta
         ∙ ap (λ (k : ℕ). twiceTo h l t k from + 0) {x = min (p .second) x} {y = min e x} (omega arith) ∙ omega arith
     | no hi ↦
         ap (λ (k : ℕ). twiceTo h l t k from + twiceTo h l t (min e x) p) {x = min (p .second) x} {y = p .second} (omega arith)
-        ∙ sym (twice-by (min e x) (omega arith))
+        ∙ twice-by (min e x) (omega arith)
   ]
 
 module _ (u : UnitData) (c : Course) where

@@ -1,17 +1,12 @@
 -- The last course to the day's end.
 -- Assumes nothing.
-use Prim.Native.Nat.{ℕ, suc, _+_, _*_, _-_, min, _≤_, _<_}
+use Prim.Native.Nat.{ℕ, suc, _+_, _*_, _-_, min, _≤_}
 use mathlib.Core.Path.{_≡_, refl, ap, sym, _∙_, subst}
-use mathlib.Core.List.{List, [], _∷_, _++_, append-nil}
+use mathlib.Core.List.{List, [], _++_, append-nil}
 use native.Mathlib.Omega.{arith}
 use lib.ListN.{length, take, drop}
 use Rattle.level.specs.Level.{grains}
-use Rattle.records.specs.declared.UnitData.{UnitData}
 use Rattle.course.specs.declared.Course.{Course}
-use Rattle.profile.specs.State.{byRule}
-use Rattle.profile.specs.Effects.{stateAt}
-use Rattle.day.specs.Day.{daySeconds}
-use Rattle.trajectory.specs.declared.Place.{Place}
 use Rattle.trajectory.specs.Ways.{headed, listsBy}
 use Rattle.trajectory.specs.Walk.{twiceTo}
 use Rattle.lines.specs.Text.{laid}
@@ -21,7 +16,7 @@ use Rattle.following.specs.declared.Passed.{Passed}
 use Rattle.following.specs.declared.OnCourse.{OnCourse}
 use Rattle.following.specs.declared.Ended.{Ended}
 use Rattle.following.specs.Passing.{AddsOn, Summed, linesLeft, lastLine, Passing}
-use Rattle.following.specs.Following.{OnIt, EndedBy}
+use Rattle.following.specs.Following.{EndedBy}
 use Rattle.following.proofs.After.{twice-through}
 use Rattle.following.proofs.Watch.{watching-at}
 use Rattle.following.proofs.Steps.{last-lines}

@@ -1,6 +1,6 @@
 -- What is followed and written is what close finds.
 -- Assumes nothing.
-use Prim.Native.Nat.{ℕ, zero, suc, _+_, _*_, _-_, min, _≤_, _<_}
+use Prim.Native.Nat.{ℕ, suc, _+_, _*_, _-_, min, _≤_, _<_}
 use mathlib.Core.Path.{_≡_, refl, ap, sym, _∙_, subst}
 use mathlib.Core.List.{List, [], _∷_, _++_, map}
 use native.Mathlib.Decide.{decLe}
@@ -24,7 +24,6 @@ use Rattle.profile.specs.Effects.{opened, underWay, courseFrom, stateAt, follow
 use Rattle.profile.specs.Profile.{paper, found, spansOf, piecesTo, twinTo, courseOf, closingBy}
 use Rattle.profile.proofs.Room.{fates-are-digits, fates-many}
 use Rattle.day.specs.Day.{halfHours, daySeconds}
-use Rattle.lines.specs.Text.{fLine}
 use Rattle.lines.proofs.Laws.{f-length, low-length, width-between}
 use Rattle.listing.specs.Listing.{fLines}
 use Rattle.close.specs.declared.Walk.{Walk}
@@ -32,7 +31,7 @@ use Rattle.close.specs.declared.Fates.{Fates}
 use Rattle.close.specs.declared.Finding.{Finding}
 use Rattle.close.specs.Summing.{firstSum}
 use Rattle.close.specs.Laying.{laidAll, marksFrom}
-use Rattle.close.specs.Walk.{fateIn, walkOf, walkAll}
+use Rattle.close.specs.Walk.{walkOf, walkAll}
 use Rattle.close.specs.Finding.{arraysOf, findingOf, findingBy}
 use Rattle.close.proofs.Summing.{boundaries-same}
 use Rattle.close.proofs.Whole.{acts-are, acting-few, courses-are, starts-fit, find-is}

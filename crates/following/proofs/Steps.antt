@@ -1,15 +1,13 @@
 -- From one instruction that acts to the next.
 -- Assumes nothing.
-use Prim.Native.Nat.{ℕ, zero, suc, _+_, _*_, _-_, min, _≤_, _<_}
+use Prim.Native.Nat.{ℕ, suc, _+_, _*_, _-_, min, _≤_, _<_}
 use mathlib.Core.Path.{_≡_, refl, ap, sym, _∙_, subst}
 use mathlib.Core.Bool.{Bool, true, false}
 use mathlib.Core.List.{List, [], _∷_, _++_, map, append-assoc, append-nil}
 use native.Mathlib.Decide.{decLe}
 use native.Mathlib.Omega.{arith}
-use lib.Dec.{ltb}
 use borrow.Author.Tests.{lt-ltb, le-ltb}
-use lib.ListN.{length, take, drop, set, replicate, length-append, length-map}
-use Rattle.level.specs.Choice.{pick}
+use lib.ListN.{length, take, drop, set, length-append, length-map}
 use Rattle.level.specs.Level.{grains}
 use Rattle.level.specs.Lists.{All, filled}
 use Rattle.records.specs.declared.UnitData.{UnitData}
@@ -19,14 +17,13 @@ use Rattle.validation.specs.declared.Numbered.{Numbered}
 use Rattle.validation.specs.Kept.{Mark, mark, acting}
 use Rattle.choosing.proofs.Laws.{filled-push}
 use Rattle.profile.specs.declared.UnderWay.{UnderWay}
-use Rattle.profile.specs.declared.State.{State}
 use Rattle.profile.specs.State.{byRule}
-use Rattle.profile.specs.Effects.{begun, follow}
+use Rattle.profile.specs.Effects.{follow}
 use Rattle.profile.specs.Profile.{beginOf, spansOf, piecesTo}
 use Rattle.day.specs.Day.{daySeconds}
 use Rattle.trajectory.specs.declared.OwnLists.{OwnLists}
 use Rattle.trajectory.specs.declared.Place.{Place}
-use Rattle.trajectory.specs.Ways.{headed, ownLists, listsBy}
+use Rattle.trajectory.specs.Ways.{headed, listsBy}
 use Rattle.trajectory.specs.Walk.{beginning, onward, twiceTo}
 use Rattle.trajectory.proofs.Goes.{Goes, onward-goes}
 use Rattle.lines.specs.Text.{laid}
@@ -36,9 +33,9 @@ use Rattle.printing.specs.Rest.{pieceLine, coursesLines}
 use Rattle.printing.proofs.Laws.{Laying, lay-none, lay-room, lay-next, lay-more, pieces-more, pieces-none}
 use Rattle.following.specs.declared.Passed.{Passed}
 use Rattle.following.specs.declared.OnCourse.{OnCourse}
-use Rattle.following.specs.Passing.{AddsOn, Summed, linesLeft, lastLine, Watching, Roomy, Passing}
+use Rattle.following.specs.Passing.{AddsOn, Summed, linesLeft, lastLine, Roomy, Passing}
 use Rattle.following.specs.Following.{setOut, Ordered, LowStart, coursesFrom, coursesAfter, endOf, OnIt, linesAfter, sumAfter, FollowedBy}
-use Rattle.following.proofs.After.{before, isIdle, next, from-head, after-idle, after-new, marks-none, marks-idle, marks-new, last-none, last-idle, last-new, last-any, next-begins, end-new, end-after, ordered-less, set-out-lines, set-out-sum, twice-through}
+use Rattle.following.proofs.After.{before, isIdle, next, from-head, after-idle, after-new, marks-none, marks-idle, marks-new, last-none, last-idle, last-new, next-begins, end-new, end-after, ordered-less, set-out-lines, set-out-sum, twice-through}
 use Rattle.following.proofs.Watch.{out-on}
 
 -- the lines of a course that ends at the second n, from the last piece on

@@ -1,9 +1,8 @@
 -- Where a course stands in the day's seconds, and the seconds off there.
 -- Assumes nothing.
-use Prim.Native.Nat.{ℕ, zero, suc, _+_, _*_, _-_, min, _≤_, _<_}
+use Prim.Native.Nat.{ℕ, _+_, _-_, _≤_, _<_}
 use mathlib.Core.Path.{_≡_, refl, ap, sym, _∙_}
-use mathlib.Core.Bool.{Bool, true, false, _&&_}
-use mathlib.Core.List.{List, [], _∷_}
+use mathlib.Core.Bool.{Bool, _&&_}
 use native.Mathlib.Omega.{arith}
 use lib.Dec.{ltb, eqb}
 use borrow.Author.Tests.{lt-ltb}
@@ -11,27 +10,21 @@ use Rattle.level.specs.Choice.{pick}
 use Rattle.level.specs.Level.{grains}
 use Rattle.records.specs.declared.UnitData.{UnitData}
 use Rattle.course.specs.declared.Course.{Course}
-use Rattle.course.specs.declared.Piece.{Piece}
 use Rattle.course.specs.Lists.{Lists}
-use Rattle.course.specs.Course.{Trajectory, Heading, Moment, heading, after, momentAt, trajectoryOf}
+use Rattle.course.specs.Course.{Heading, heading, after, momentAt, trajectoryOf}
 use Rattle.course.specs.Pieces.{piece}
-use Rattle.course.proofs.Near.{Short}
-use Rattle.course.proofs.Pieces.{Along, Line, Traces}
+use Rattle.course.proofs.Pieces.{Line}
 use Rattle.profile.specs.declared.UnderWay.{UnderWay}
-use Rattle.profile.specs.declared.State.{State}
 use Rattle.profile.specs.State.{held, watch, byRule}
 use Rattle.profile.specs.Effects.{stateAt}
-use Rattle.trajectory.specs.declared.OwnLists.{OwnLists}
 use Rattle.trajectory.specs.declared.Place.{Place}
-use Rattle.trajectory.specs.Ways.{headed, listsIn, ownLists, listsBy}
+use Rattle.trajectory.specs.Ways.{headed, listsIn}
 use Rattle.trajectory.specs.Walk.{momentOf, beginning, onward}
 use Rattle.trajectory.proofs.Goes.{Goes, onward-goes}
 use Rattle.trajectory.proofs.Courses.{heading-is, begins-short}
-use Rattle.trajectory.proofs.Own.{own-onward}
 use Rattle.close.specs.Watching.{offStarting, offBetween}
 use Rattle.close.proofs.Watching.{moment-on, off-on, state-there}
 use Rattle.following.specs.Passing.{Watching}
-use Rattle.following.specs.declared.OnCourse.{OnCourse}
 use Rattle.following.specs.Following.{setOut, LowStart, OnIt}
 
 -- a place, in the seconds of a course that began at the second a

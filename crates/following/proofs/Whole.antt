@@ -1,19 +1,16 @@
 -- The whole day: its last course, its lines in order, and what close finds.
 -- Assumes nothing.
-use Prim.Native.Nat.{ℕ, zero, suc, _+_, _*_, _-_, min, _≤_, _<_}
+use Prim.Native.Nat.{ℕ, zero, suc, _+_, _*_, _-_, min, _≤_}
 use mathlib.Core.Path.{_≡_, refl, ap, sym, _∙_, subst}
-use mathlib.Core.List.{List, [], _∷_, _++_, map, append-assoc, append-nil}
+use mathlib.Core.List.{List, [], _∷_, _++_, append-assoc, append-nil}
 use native.Mathlib.Omega.{arith}
 use lib.ListN.{length, take, drop, length-append, length-take, length-drop, drop-of-length-le}
 use lib.Seq.{take-all, drop-drop}
 use Rattle.level.specs.Level.{grains}
-use Rattle.level.specs.Lists.{All, listFrom}
 use Rattle.records.specs.declared.UnitData.{UnitData}
-use Rattle.course.specs.declared.Course.{Course}
 use Rattle.validation.specs.declared.Numbered.{Numbered}
 use Rattle.profile.specs.declared.UnderWay.{UnderWay}
 use Rattle.profile.specs.declared.State.{State}
-use Rattle.profile.specs.declared.Closing.{Closing}
 use Rattle.profile.specs.State.{byRule}
 use Rattle.profile.specs.Effects.{stateAt}
 use Rattle.profile.specs.Profile.{spansOf, piecesTo, dayPieces, closingBy}
@@ -22,15 +19,14 @@ use Rattle.trajectory.specs.Ways.{headed, listsBy}
 use Rattle.trajectory.specs.Walk.{twiceTo}
 use Rattle.lines.specs.Text.{laid}
 use Rattle.listing.specs.Listing.{sLines}
-use Rattle.close.specs.Summing.{firstSum}
 use Rattle.printing.specs.Rest.{coursesLines}
 use Rattle.printing.proofs.Laws.{Laying, lay-next, lay-more, lay-all}
 use Rattle.following.specs.declared.OnCourse.{OnCourse}
 use Rattle.following.specs.declared.Followed.{Followed}
 use Rattle.following.specs.declared.Ended.{Ended}
 use Rattle.following.specs.declared.Settled.{Settled}
-use Rattle.following.specs.Passing.{Summed, linesLeft}
-use Rattle.following.specs.Following.{coursesFrom, lastIn, linesAfter, sumAfter, FollowedBy, EndedBy, SettledBy}
+use Rattle.following.specs.Passing.{linesLeft}
+use Rattle.following.specs.Following.{coursesFrom, linesAfter, sumAfter, FollowedBy, EndedBy, SettledBy}
 use Rattle.following.proofs.After.{after-none, end-none}
 
 -- nothing comes after the last course

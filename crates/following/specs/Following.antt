@@ -14,8 +14,6 @@ use Rattle.course.proofs.Near.{Short}
 use Rattle.validation.specs.declared.Numbered.{Numbered}
 use Rattle.validation.specs.Kept.{acting}
 use Rattle.profile.specs.declared.UnderWay.{UnderWay}
-use Rattle.profile.specs.declared.State.{State}
-use Rattle.profile.specs.declared.Closing.{Closing}
 use Rattle.profile.specs.State.{byRule}
 use Rattle.profile.specs.Effects.{follow, stateAt}
 use Rattle.profile.specs.Profile.{beginOf, spansOf, piecesTo, courseOf, closingBy}

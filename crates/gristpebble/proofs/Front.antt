@@ -1,7 +1,7 @@
 -- What bytes come to does not change with the bytes after them, unless there were too few: the listing program may answer
 -- at close, or at a refusal, whatever follows.
 -- Assumes nothing.
-use Prim.Native.Nat.{ℕ, zero, suc, _-_, _≤_, _<_}
+use Prim.Native.Nat.{ℕ, zero, suc, _-_, _≤_}
 use mathlib.Core.Path.{_≡_, refl, ap, sym, _∙_}
 use mathlib.Core.List.{List, [], _∷_, _++_}
 use mathlib.Core.Bool.{Bool, true, false, _&&_, not}
@@ -13,7 +13,6 @@ use borrow.Author.Tests.{ltb-false, le-ltb, ne-eqb}
 use Rattle.level.specs.Choice.{pick}
 use Rattle.records.specs.declared.Answer.{Answer}
 use Rattle.records.specs.declared.Answer.the-variants.{Accepted, Refused}
-use Rattle.records.specs.declared.Refusal.{Refusal}
 use Rattle.records.specs.declared.Refusal.the-variants.{UnknownKind, TooFewBytes, SecondOne, BeforeUnit, OpeningTooHigh, TooManyInstructions, AfterClose, NotReady, QuantityTooHigh}
 use Rattle.records.specs.Answers.{accepted, refusing, firstRefusal}
 use Rattle.records.specs.Records.{sizeOf, openingOf}

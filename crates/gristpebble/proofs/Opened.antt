@@ -8,12 +8,11 @@ use native.Mathlib.Omega.{arith}
 use lib.ListN.{length, take}
 use Rattle.profile.specs.Profile.{paper}
 use Rattle.day.specs.declared.Day.{Day}
-use Rattle.day.specs.declared.Ran.{Ran}
 use Rattle.day.specs.Day.{closedWith, entered, foundIn}
 use Rattle.lines.specs.Text.{laid}
 use Rattle.listing.specs.Listing.{printedDay}
 use Rattle.close.specs.Finding.{arraysOf, findingOf}
-use Rattle.printing.specs.Rest.{fateLines, coursesLines, quantityLines, closingLine, fromQ, fromS}
+use Rattle.printing.specs.Rest.{fateLines, coursesLines, quantityLines, closingLine}
 use Rattle.printing.proofs.Whole.{from-q, from-s, from-f}
 use Rattle.following.specs.Listing.{listingBy, listingOf}
 use Rattle.intake.specs.declared.Opened.{Opened}

@@ -307,7 +307,7 @@ fn put_from_s(out: &mut [u8], day: Day) -> usize
 }
 
 // The F lines of a day, then its S, Q and E lines: the whole listing, where there is room for it.
-pub fn put_day(out: &mut [u8], day: Day) -> usize
+fn put_day(out: &mut [u8], day: Day) -> usize
     requires { ⌜ length (printedDay day) ≤ length (now out) ⌝ }
     ensures { λ r. ⌜ (r ≡ length (printedDay day)) × (now (out .exit) ≡ laid (printedDay day) (now (out .entry))) ⌝ }
 {

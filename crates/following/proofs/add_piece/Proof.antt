@@ -1,6 +1,5 @@
-use mathlib.Core.Path.{_≡_}
 use native.Mathlib.Omega.{arith}
-use Prim.Native.Nat.{ℕ, _+_, _*_, _-_, _/_, _≤_, _<_}
+use Prim.Native.Nat.{ℕ, _+_, _*_, _-_, _/_, _<_}
 use lib.ListN.{getD}
 use Rattle.level.specs.Level.{grains}
 use Rattle.trajectory.specs.Ways.{headed, listsBy}

@@ -1,9 +1,9 @@
 use Prim.Native.Nat.{ℕ, _+_, _-_, _≤_, _<_}
 use mathlib.Core.Path.{_≡_, refl, ap, sym, _∙_, subst}
-use mathlib.Core.List.{List, [], _∷_, _++_}
+use mathlib.Core.List.{List, _∷_, _++_}
 use native.Mathlib.Omega.{arith}
 use borrow.Author.Needs.{needs}
-use mathlib.Core.Bool.{true, false}
+use mathlib.Core.Bool.{false}
 use lib.ListN.{length, take, drop, getD, set}
 use Rattle.level.specs.Lists.{filled}
 use Rattle.validation.specs.declared.Numbered.{Numbered}
@@ -20,7 +20,7 @@ use Rattle.following.specs.Passing.{Roomy, Passing}
 use Rattle.following.specs.Following.{setOut, coursesFrom, FollowedBy}
 use Rattle.following.proofs.After.{before, isIdle, next, ordered-end}
 use Rattle.following.proofs.Watch.{watching-at}
-use Rattle.following.proofs.Steps.{Sofar, has-room, sofar-start, ends-later, roomy, sofar-pass, sofar-idle, last-room, last-goes, sofar-new, sofar-all}
+use Rattle.following.proofs.Steps.{Sofar, has-room, sofar-start, roomy, sofar-pass, sofar-idle, last-room, last-goes, sofar-new, sofar-all}
 use Rattle.following.proofs.follow_on.Statement.{statement}
 use Rattle.following.proofs.follow_on.Tie as tie
 use Rattle.following.proofs.follow_on.Reads as reads

@@ -1,10 +1,9 @@
-use Prim.Native.Nat.{ℕ, suc, _+_, _*_, _-_, min, _≤_}
+use Prim.Native.Nat.{ℕ, suc, _+_, _-_, _≤_}
 use mathlib.Core.Path.{_≡_, refl, ap, sym, _∙_}
 use mathlib.Core.List.{List, _++_, append-assoc}
 use native.Mathlib.Omega.{arith}
 use lib.ListN.{length, take, drop, length-append, length-take}
 use Rattle.course.specs.declared.Course.{Course}
-use Rattle.validation.specs.declared.Numbered.{Numbered}
 use Rattle.lines.specs.Text.{laid}
 use Rattle.lines.proofs.Laws.{part-length}
 use Rattle.close.proofs.Summing.{first-zeros}

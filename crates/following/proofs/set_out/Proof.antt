@@ -1,4 +1,4 @@
-use mathlib.Core.Path.{_≡_, ap, _∙_}
+use mathlib.Core.Path.{ap, _∙_}
 use Rattle.trajectory.specs.Ways.{ownLists}
 use Rattle.following.specs.Following.{setOut}
 use borrow.Author.Needs.{needs}

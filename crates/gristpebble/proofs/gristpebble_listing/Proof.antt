@@ -1,4 +1,4 @@
-use mathlib.Core.Path.{_≡_, _∙_}
+use mathlib.Core.Path.{_∙_}
 use native.Mathlib.Omega.{arith}
 use Rattle.gristpebble.proofs.Opened.{not-false, listed-fits, opened-listed}
 use borrow.Author.Needs.{needs}

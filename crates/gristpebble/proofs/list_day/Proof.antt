@@ -1,4 +1,4 @@
-use mathlib.Core.Path.{_≡_, _∙_}
+use mathlib.Core.Path.{_∙_}
 use Rattle.gristpebble.proofs.Laws.{list-accepted, list-refused}
 use borrow.Author.Needs.{needs}
 use Rattle.gristpebble.proofs.list_day.Statement.{statement}

@@ -1,4 +1,4 @@
-use mathlib.Core.Path.{_≡_, _∙_}
+use mathlib.Core.Path.{_∙_}
 use Rattle.gristpebble.proofs.Laws.{run-listed, run-refused}
 use borrow.Author.Needs.{needs}
 use Rattle.gristpebble.proofs.list_run.Statement.{statement}

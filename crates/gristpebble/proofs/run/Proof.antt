@@ -4,7 +4,6 @@ use native.Mathlib.Omega.{arith}
 use lib.ListN.{length, take, drop}
 use borrow.Author.Needs.{needs}
 use Rattle.profile.specs.Profile.{paper}
-use Rattle.day.specs.declared.Day.{Day}
 use Rattle.day.specs.Day.{foundIn, withInstruction}
 use Rattle.contract.specs.Program.{ranBy}
 use Rattle.gristpebble.proofs.Laws.{rest, used-within, run-first, run-on, run-stop, run-shut, run-none, let-in-within, run-let-in}
