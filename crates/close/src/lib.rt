@@ -613,7 +613,7 @@ fn add_course(parts: &mut [u64; 49], u: records::UnitData, c: course::Course, en
 }
 
 // The sum of the parts up to each boundary.
-pub fn running_sums(parts: &[u64; 49]) -> [u64; 49]
+fn running_sums(parts: &[u64; 49]) -> [u64; 49]
     requires { ⌜ firstSum 49 (now parts) ≤ 18446744073709551615 ⌝ }
     ensures { λ r. ⌜ r ≡ listFrom (λ b. firstSum (suc b) (now (parts .entry))) 0 49 ⌝ }
 {

@@ -7,3 +7,4 @@ pub mod Pass
 pub mod Ending
 pub mod Whole
 pub mod Found
+pub mod Parts

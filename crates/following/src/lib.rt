@@ -1,7 +1,7 @@
 // The instructions followed once, from 06:00 to the day's end: what each does at its acting second, the S lines on the way,
 // and twice the area of each half-hour.
 ghost use mathlib.Core.Path.{_≡_};
-ghost use Prim.Native.Nat.{ℕ, _+_, _*_, min, _<_, _≤_};
+ghost use Prim.Native.Nat.{ℕ, _+_, _*_, _-_, min, _<_, _≤_};
 ghost use lib.ListN.{length, take};
 ghost use Rattle.level.specs.Level.{grains};
 ghost use Rattle.level.specs.Lists.{All};
@@ -10,10 +10,11 @@ ghost use Rattle.trajectory.specs.Ways.{headed, listsBy};
 ghost use Rattle.trajectory.proofs.Goes.{Goes};
 ghost use Rattle.lines.specs.Text.{laid};
 ghost use Rattle.close.specs.Summing.{firstSum};
-ghost use Rattle.printing.specs.Rest.{pieceLine, coursesLines};
+ghost use Rattle.profile.specs.Profile.{rounded};
+ghost use Rattle.printing.specs.Rest.{pieceLine, coursesLines, runEnd};
 ghost use Rattle.following.specs.Passing.{AddsFlat, AddsOn, Summed, linesLeft, lastLine, Roomy, Passing};
 ghost use Rattle.following.specs.Following.{setOut, Ordered, LowStart, coursesFrom, Onward, FollowedBy, EndedBy, SettledBy};
-ghost use Rattle.following.specs.Listing.{endLines, listingOf};
+ghost use Rattle.following.specs.Listing.{partAt, partLines, endLines, listingOf};
 
 // The day's seconds, and those of a half-hour.
 const DAY: u32 = 86400;
@@ -385,14 +386,61 @@ fn fates_room(count: usize) -> usize
     count * 7 - 9
 }
 
+// A half-hour's quantity (kW) of twice its area.
+fn part_kw(twice: u64) -> u64
+    requires { ⌜ twice ≤ 9223372036854775807 ⌝ }
+    ensures { λ r. ⌜ r ≡ rounded twice ⌝ }
+{
+    (twice + 108000) / 216000
+}
+
+// The boundary at which a run of the quantity kw ends, from the boundary `from` on; `twice` is an area that gives kw, and
+// the same area needs no rounding.
+fn part_end(parts: &[u64; 49], twice: u64, kw: u64, from: usize) -> usize
+    requires { ⌜ (from ≤ 48) × (kw ≡ rounded twice) × (firstSum 49 (now parts) ≤ 9223372036854775807) ⌝ }
+    ensures { λ r. ⌜ (r ≡ runEnd (partAt (now (parts .entry))) kw from (48 - from)) × (from ≤ r) × (r ≤ 48) ⌝ }
+{
+    let mut i = from;
+    while i < 48 {
+        let at = i;
+        i += 1;
+        let x = parts[i];
+        if x == twice {
+            continue;
+        }
+        if part_kw(x) != kw {
+            return at;
+        }
+    }
+    i
+}
+
+// The Q lines by the parts of a day.
+fn put_parts(out: &mut [u8], parts: &[u64; 49]) -> usize
+    requires { ⌜ (firstSum 49 (now parts) ≤ 9223372036854775807) × (length (partLines (now parts)) ≤ length (now out)) ⌝ }
+    ensures { λ r. ⌜ (r ≡ length (partLines (now (parts .entry)))) × (now (out .exit) ≡ laid (partLines (now (parts .entry))) (now (out .entry))) ⌝ }
+{
+    let mut at: usize = 0;
+    let mut i: usize = 0;
+    while i < 48 {
+        let first = i + 1;
+        let twice = parts[first];
+        let quantity = part_kw(twice);
+        let last = part_end(parts, twice, quantity, first);
+        let w = lines::put_q(&mut out[at..], first as u64, last as u64, quantity);
+        at += w;
+        i = last;
+    }
+    at
+}
+
 // The Q lines by the parts of a day, then its E line.
 fn put_end(out: &mut [u8], parts: &[u64; 49], closing: profile::Closing) -> usize
-    requires { ⌜ firstSum 49 (now parts) ≤ 18446744073709551615 ⌝ }
+    requires { ⌜ firstSum 49 (now parts) ≤ 9223372036854775807 ⌝ }
     requires { ⌜ length (endLines (now parts) closing) ≤ length (now out) ⌝ }
     ensures { λ r. ⌜ (r ≡ length (endLines (now (parts .entry)) closing)) × (now (out .exit) ≡ laid (endLines (now (parts .entry)) closing) (now (out .entry))) ⌝ }
 {
-    let sums = close::running_sums(parts);
-    let at = printing::put_quantities(out, sums);
+    let at = put_parts(out, parts);
     let n = printing::put_closing(&mut out[at..], closing);
     at + n
 }

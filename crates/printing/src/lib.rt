@@ -222,7 +222,7 @@ fn quantities_width(sums: [u64; 49]) -> usize
 }
 
 // The lines of the day's quantities.
-pub fn put_quantities(out: &mut [u8], sums: [u64; 49]) -> usize
+fn put_quantities(out: &mut [u8], sums: [u64; 49]) -> usize
     requires { ⌜ length (quantityLines sums) ≤ length (now out) ⌝ }
     ensures { λ r. ⌜ (r ≡ length (quantityLines sums)) × (now (out .exit) ≡ laid (quantityLines sums) (now (out .entry))) ⌝ }
 {
