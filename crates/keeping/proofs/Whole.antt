@@ -17,7 +17,7 @@ use Rattle.records.specs.declared.Effect.the-variants.{Fail}
 use Rattle.records.specs.declared.Instruction.{Instruction}
 use Rattle.records.specs.Codes.{same}
 use Rattle.validation.specs.declared.Numbered.{Numbered}
-use Rattle.validation.specs.Kept.{effectiveOf, effectOf, numbered, Mark, mark, superseded, repeats, syncWithinHour, fromSync, beforeSync, Checked, failed, checkOne, check, used, acting, overtaken, lateFate, actors, lateMarks, turned, keptOf, validated, fateAmong, fatesOf}
+use Rattle.validation.specs.Kept.{effectiveOf, effectOf, numbered, Mark, mark, superseded, repeats, syncWithinHour, fromSync, beforeSync, Checked, failed, checkOne, check, usedFrom, used, acting, overtaken, lateFate, actors, lateMarks, turned, keptOf, validated, fateAmong, fatesOf}
 use Rattle.validation.proofs.Few.{numbered-length}
 use Rattle.keeping.specs.declared.Checking.{Checking}
 use Rattle.choosing.specs.declared.Sequence.{Sequence}
@@ -259,3 +259,8 @@ module _ (is : List Instruction) (count end n : ℕ) (all : length is ≡ 40) (m
       let k : n ≡ length (take n is) = omega (arith, length-take n is) in
       ap (result end times issues s) k
       ∙ (outcome-is end (take n is) (omega arith) times issues (rw (numbers q e) at timed) s (rw (numbers q e) at t) fits ∙ ap (λ (l : List Instruction). outcomeOf (numbered 1 l) end) entered)
+
+-- none entered
+pub none-entered : (is : List Instruction) (count end : ℕ) → count ≡ 0 → record { fates = replicate 40 0; acts = replicate 40 noNumbered; acting = 0 } ≡ validationOf is count end
+unfolding validationOf outcomeOf numbered validated keptOf used usedFrom check turned actors lateMarks fatesOf filled
+none-entered is count end e = rw e refl
