@@ -168,24 +168,18 @@ fn read_body(body: &[u8]) -> Read
 fn read_instruction(count: usize, input: &[u8]) -> Read
     ensures { λ r. ⌜ (r .fits ≡ true → LetsIn true false count (now (input .entry)) × (r .instruction ≡ instructionOf (take 21 (drop 1 (now (input .entry)))))) ⌝ }
 {
-    let none = no_instruction();
+    let none = Read {
+        fits: false,
+        instruction: no_instruction(),
+    };
     if input.len() < 22 {
-        return Read {
-            fits: false,
-            instruction: none,
-        };
+        return none;
     }
     if input[0] != 3 {
-        return Read {
-            fits: false,
-            instruction: none,
-        };
+        return none;
     }
     if 40 <= count {
-        return Read {
-            fits: false,
-            instruction: none,
-        };
+        return none;
     }
     read_body(&input[1..22])
 }
