@@ -175,10 +175,10 @@ module _ (s : List ℕ) (u : UnitData) (e : Opened) (at : ℕ) (opened : Bool) (
   front-long = ap length (tail-is at s) ∙ length-drop at s
 
   module _ (g : LetsIn true false (e .count) front) where
-    pub instruction-within : at + 22 ≤ length s
+    instruction-within : at + 22 ≤ length s
     instruction-within = omega (arith, g .long, front-long)
 
-    pub so-instruction : (i : Instruction) → i ≡ instructionOf (take (at + 22 - (at + 1)) (drop (at + 1) s)) →
+    pub so-instruction : (i : Instruction) → i ≡ instructionOf (take 21 (drop 1 front)) →
         So s u (record { fits = e .fits; unit = e .unit; opening = e .opening; instructions = set (e .instructions) (e .count) i; count = e .count + 1 }) (at + 22) opened
     unfolding dayWith withInstruction
     so-instruction i q = record {
@@ -192,7 +192,7 @@ module _ (s : List ℕ) (u : UnitData) (e : Opened) (at : ℕ) (opened : Bool) (
       enough = omega (arith, h .enough);
       same =
           same-on (withInstruction d i) 22
-          (ap (λ (x : Instruction). accept (withInstruction d x) 22) (q ∙ ap instructionOf (body-is 22)) ∙ let-in (foundIn paper) d front g)
+          (ap (λ (x : Instruction). accept (withInstruction d x) 22) q ∙ let-in (foundIn paper) d front g)
           refl;
     }
 

@@ -1,16 +1,23 @@
 // The records of a day up to close, taken straight into what close needs: for days whose unit comes first and that end in
 // close with no refusal. Any other input is left to the steps of `taking`.
 ghost use mathlib.Core.Path.{_≡_};
-ghost use mathlib.Core.Bool.{true};
+ghost use mathlib.Core.Bool.{true, false, _&&_};
 ghost use mathlib.Core.List.{[]};
 ghost use Prim.Native.Nat.{_≤_};
-ghost use Rattle.records.specs.Records.{openingOf};
+ghost use lib.Dec.{leb, eqb};
+ghost use lib.ListN.{length, take, drop};
+ghost use Rattle.level.specs.Choice.{pick};
+ghost use Rattle.records.specs.declared.Answer.the-variants.{Accepted};
+ghost use Rattle.records.specs.Fields.{instructionAnswer};
+ghost use Rattle.records.specs.Records.{openingOf, issueOf, instructionOf};
 ghost use Rattle.profile.specs.Profile.{paper};
-ghost use Rattle.day.specs.Day.{noInstruction, foundIn};
+ghost use Rattle.day.specs.Day.{daySeconds, noInstruction, foundIn};
+ghost use Rattle.taking.specs.Kinds.{LetsIn};
 ghost use Rattle.contract.specs.Program.{ranBy};
 ghost use Rattle.intake.specs.Fronts.{UnitIn, OpeningIn};
 ghost use Rattle.intake.specs.Opened.{closedRun};
 use records::Answer;
+use records::Coded;
 
 // What was taken before close; `fits` where the input is such a day.
 pub struct Opened {
@@ -25,6 +32,12 @@ pub struct Opened {
 struct First {
     fits: bool,
     unit: records::UnitData,
+}
+
+// An instruction; `fits` where it is taken.
+struct Read {
+    fits: bool,
+    instruction: records::Instruction,
 }
 
 // An opening of zeros.
@@ -99,6 +112,78 @@ fn lets_opening_in(unit: records::UnitData, input: &[u8]) -> bool
     }
 }
 
+// A signed issue time as seconds above -604,800.
+fn issue_of(n: u32) -> u32
+    ensures { λ r. ⌜ r ≡ issueOf n ⌝ }
+{
+    let sum = n as u64 + 604800;
+    let seconds = sum % 4294967296;
+    seconds as u32
+}
+
+// Level and rates are what a code that carries them, or one that does not, allows.
+fn figures_fit(carries: bool, level: u32, up: u32, down: u32) -> bool
+    ensures { λ r. ⌜ r ≡ pick carries (leb level 2000000 && (leb up 200000 && leb down 200000)) (eqb level 0 && (eqb up 0 && eqb down 0)) ⌝ }
+{
+    if carries {
+        return (level <= 2000000) & ((up <= 200000) & (down <= 200000));
+    }
+    (level == 0) & ((up == 0) & (down == 0))
+}
+
+// An instruction's body, its fields read once; `fits` where they are not refused.
+fn read_body(body: &[u8]) -> Read
+    requires { ⌜ 9 ≤ length (now body) ⌝ }
+    ensures { λ r. ⌜ (r .fits ≡ true → (instructionAnswer daySeconds (now (body .entry)) ≡ Accepted) × (r .instruction ≡ instructionOf (now (body .entry)))) ⌝ }
+{
+    let code = body[8];
+    let effective = records::number(body, 0);
+    let issue = issue_of(records::number(body, 4));
+    let level = records::number(body, 9);
+    let up = records::number(body, 13);
+    let down = records::number(body, 17);
+    let figures = figures_fit(code == 2, level, up, down);
+    let fits = (effective < 86400) & ((issue <= 1209600) & figures);
+    let coded = records::decode(code);
+    match coded {
+        Coded::Means(meaning) => {
+            let instruction = records::Instruction {
+                effective,
+                issue,
+                meaning,
+                level,
+                up,
+                down,
+            };
+            Read { fits, instruction }
+        }
+        Coded::Unknown => Read {
+            fits: false,
+            instruction: no_instruction(),
+        },
+    }
+}
+
+// An instruction at the front of the input; `fits` where a day with a unit and so many instructions takes it.
+fn read_instruction(count: usize, input: &[u8]) -> Read
+    ensures { λ r. ⌜ (r .fits ≡ true → LetsIn true false count (now (input .entry)) × (r .instruction ≡ instructionOf (take 21 (drop 1 (now (input .entry)))))) ⌝ }
+{
+    let none = Read {
+        fits: false,
+        instruction: no_instruction(),
+    };
+    if input.len() < 22 {
+        return none;
+    }
+    if input[0] != 3 {
+        return none;
+    }
+    if 40 <= count {
+        return none;
+    }
+    read_body(&input[1..22])
+}
+
 // Records up to close, from the empty day on: a unit, then an opening and instructions in any order, then close. At anything
 // else `fits` is false.
 pub fn open_day(input: &[u8]) -> Opened
@@ -119,8 +204,9 @@ pub fn open_day(input: &[u8]) -> Opened
     let mut at: usize = 249;
     let mut opened = false;
     while at < input.len() {
-        if taking::lets_in(true, false, e.count, &input[at..]) {
-            let i = records::instruction_of(&input[at + 1..at + 22]);
+        let read = read_instruction(e.count, &input[at..]);
+        if read.fits {
+            let i = read.instruction;
             e.instructions[e.count] = i;
             e.count += 1;
             at += 22;

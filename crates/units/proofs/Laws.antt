@@ -6,9 +6,10 @@ use native.Mathlib.Numerals.{add-one}
 use mathlib.Core.Path.{_≡_, refl, sym}
 use mathlib.Core.Bool.{Bool, true, false, _&&_, _||_, not}
 use mathlib.Core.List.{List, [], _∷_, map}
+use lib.Dec.{leb}
 use lib.ListN.{length, getD, drop, List·getD-map}
 use lib.Seq.{drop-cons, drop-length}
-use borrow.Author.Tests.{lt-ltb, le-ltb, le-leb, lt-leb, not-true, not-false}
+use borrow.Author.Tests.{lt-ltb, le-ltb, not-true, not-false}
 use Rattle.level.specs.Lists.{some}
 use Rattle.records.specs.declared.UnitData.{UnitData}
 use Rattle.records.specs.declared.Answer.the-variants.{Accepted, Refused}
@@ -22,18 +23,6 @@ lowsOf rs = map (λ (r : Range). r .low) rs
 
 unfoldable pub highsOf : List Range → List ℕ
 highsOf rs = map (λ (r : Range). r .high) rs
-
-range-below : (r : Range) (v : ℕ) → v < r .low → inRange r v ≡ false
-unfolding inRange
-range-below r v h = simp (lt-leb _ _ h)
-
-range-above : (r : Range) (v : ℕ) → r .low ≤ v → r .high < v → inRange r v ≡ false
-unfolding inRange
-range-above r v h k = simp (le-leb _ _ h, lt-leb _ _ k)
-
-range-in : (r : Range) (v : ℕ) → r .low ≤ v → v ≤ r .high → inRange r v ≡ true
-unfolding inRange
-range-in r v h k = simp (le-leb _ _ h, le-leb _ _ k)
 
 module _ (rs : List Range) (ns : List ℕ) (i : ℕ) (h : i < length rs) where
   at : Range
@@ -51,14 +40,18 @@ module _ (rs : List Range) (ns : List ℕ) (i : ℕ) (h : i < length rs) where
   unfolding fitFrom at
   fit-step b e = rw (drop-cons rs i (record { low = 0; high = 0 }) h, e, add-one)
 
-  pub fit-below : getD ns i 0 < getD (lowsOf rs) i 0 → fitFrom (drop i rs) ns i ≡ false
-  fit-below k = fit-step false (range-below at _ (omega (arith, low-at)))
+  range-at : inRange at (getD ns i 0) ≡ leb (getD (lowsOf rs) i 0) (getD ns i 0) && leb (getD ns i 0) (getD (highsOf rs) i 0)
+  unfolding inRange
+  range-at = rw (low-at, high-at) refl
 
-  pub fit-above : getD (lowsOf rs) i 0 ≤ getD ns i 0 → getD (highsOf rs) i 0 < getD ns i 0 → fitFrom (drop i rs) ns i ≡ false
-  fit-above k m = fit-step false (range-above at _ (omega (arith, low-at)) (omega (arith, high-at)))
+  -- one number more is looked at
+  pub fit-more : (b : Bool) → (b && (leb (getD (lowsOf rs) i 0) (getD ns i 0) && leb (getD ns i 0) (getD (highsOf rs) i 0))) && fitFrom (drop (i + 1) rs) ns (i + 1) ≡ b && fitFrom (drop i rs) ns i
+  fit-more true = sym (fit-step _ range-at)
+  fit-more false = refl
 
-  pub fit-next : getD (lowsOf rs) i 0 ≤ getD ns i 0 → getD ns i 0 ≤ getD (highsOf rs) i 0 → fitFrom (drop i rs) ns i ≡ fitFrom (drop (i + 1) rs) ns (i + 1)
-  fit-next k m = fit-step true (range-in at _ (omega (arith, low-at)) (omega (arith, high-at)))
+pub and-true : (b : Bool) → b && true ≡ b
+and-true true = refl
+and-true false = refl
 
 -- ---- breaks falling, from the place i on, after the break b
 module _ (xs : List ℕ) (b i : ℕ) where

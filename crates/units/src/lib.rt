@@ -230,26 +230,22 @@ const HIGHS: [u32; 62] = [
     2000000, // deload break
 ];
 
-// All 62 numbers lie in their ranges.
+// All 62 numbers lie in their ranges. Each is looked at, whatever the ones before it say: the compiler then compares four at once.
 fn all_fit(ns: [u32; 62]) -> bool
     ensures { λ r. ⌜ r ≡ fitFrom unitRanges ns 0 ⌝ }
 {
     let lows = LOWS;
     let highs = HIGHS;
+    let mut fit = true;
     let mut i: usize = 0;
     while i < 62 {
         let v = ns[i];
         let low = lows[i];
         let high = highs[i];
-        if v < low {
-            return false;
-        }
-        if high < v {
-            return false;
-        }
+        fit = fit & ((low <= v) & (v <= high));
         i += 1;
     }
-    true
+    fit
 }
 
 // A break lies below the one before it.

@@ -1,6 +1,7 @@
-use mathlib.Core.Path.{sym, _∙_}
+use mathlib.Core.Path.{_≡_, sym, _∙_}
 use mathlib.Core.Bool.{true, false}
 use borrow.Author.Tests.{eqb-true}
+use Rattle.records.specs.Records.{instructionOf}
 use Rattle.day.proofs.Passed.{never}
 use Rattle.taking.specs.Kinds.{LetsIn}
 use Rattle.taking.proofs.Laws.{not-false}
@@ -9,7 +10,7 @@ use Prim.Native.Nat.{_≤_, _+_, _-_}
 use native.Mathlib.Omega.{arith}
 use lib.ListN.{length, take, drop}
 use borrow.Author.Needs.{needs}
-use Rattle.intake.proofs.Laws.{So, so-first, so-instruction, so-opening, so-close, instruction-within, opening-within}
+use Rattle.intake.proofs.Laws.{So, so-first, so-instruction, so-opening, so-close, opening-within}
 use Rattle.intake.proofs.open_day.Statement.{statement}
 use Rattle.intake.proofs.open_day.Tie as tie
 use Rattle.intake.proofs.open_day.Reads as reads
@@ -17,10 +18,9 @@ use Rattle.intake.proofs.open_day.Lts as lts
 use Rattle.intake.proofs.lets_opening_in.Reads as lets-opening-in-reads
 use Rattle.intake.proofs.no_instruction.Reads as no-instruction-reads
 use Rattle.intake.proofs.no_opening.Reads as no-opening-reads
+use Rattle.intake.proofs.read_instruction.Reads as read-instruction-reads
 use Rattle.intake.proofs.read_unit.Reads as read-unit-reads
-use Rattle.records.proofs.instruction_of.Reads as instruction-of-reads
 use Rattle.records.proofs.opening_of.Reads as opening-of-reads
-use Rattle.taking.proofs.lets_in.Reads as lets-in-reads
 
 abbrev Inv-loop : tie.InvT-loop
 Inv-loop input unit e₀ at₀ opened₀ e at opened = So input unit e at opened
@@ -43,53 +43,30 @@ returns c = λ e. never e
 loop-holds : tie.Need-loop-holds Inv-loop μ-loop
 loop-holds c = so-first _ _ _ _ (c .before .before .before .no-opening .ensures) (c .before .before .no-instruction .ensures) (c .before .before .before .before .before .read-unit .ensures (not-false _ (c .if1 .left)))
 
-sub-lets-in : tie.Need-sub-lets-in Inv-loop μ-loop
-sub-lets-in c = search needs
+sub-read-instruction : tie.Need-sub-read-instruction Inv-loop μ-loop
+sub-read-instruction c = search needs
 
-part-lets-in-start : tie.Need-part-lets-in-start Inv-loop μ-loop
-part-lets-in-start c = search needs
+part-read-instruction-start : tie.Need-part-read-instruction-start Inv-loop μ-loop
+part-read-instruction-start c = search needs
 
-part-lets-in-end : tie.Need-part-lets-in-end Inv-loop μ-loop
-part-lets-in-end c = search needs
+part-read-instruction-end : tie.Need-part-read-instruction-end Inv-loop μ-loop
+part-read-instruction-end c = search needs
 
-lets-in-requires : tie.Need-lets-in-requires Inv-loop μ-loop
-lets-in-requires c κs = search needs
+read-instruction-requires : tie.Need-read-instruction-requires Inv-loop μ-loop
+read-instruction-requires c κs = search needs
 
 -- an instruction is let in
 got : (c : tie.Then2 Inv-loop μ-loop) →
     let l = c .before .before .before .before .loop in
     let s = c .before .before .before .before .before .before .before .before .before .before .before .before .args .input .now in
-    LetsIn true false (l .e .count) (take (length s - l .at) (drop (l .at) s)) × (l .at + 22 ≤ length s)
-got c =
-    let l = c .before .before .before .before .loop in
-    let s = c .before .before .before .before .before .before .before .before .before .before .before .before .args .input .now in
-    let u = c .before .before .before .before .before .before .before .before .before .before .read-unit .result .unit in
-    let g = c .before .lets-in .ensures (c .if2 .taken) in
-    (g, instruction-within s u (l .e) (l .at) (l .opened) (l .inv) (c .before .before .before .loop-test .taken) g)
-
-add-instruction-of : tie.Need-add-instruction-of Inv-loop μ-loop
-add-instruction-of c = search needs
-
-add-instruction-of-2 : tie.Need-add-instruction-of-2 Inv-loop μ-loop
-add-instruction-of-2 c = search needs
-
-sub-instruction-of : tie.Need-sub-instruction-of Inv-loop μ-loop
-sub-instruction-of c = search needs
-
-part-instruction-of-start : tie.Need-part-instruction-of-start Inv-loop μ-loop
-part-instruction-of-start c = search needs
-
-part-instruction-of-end : tie.Need-part-instruction-of-end Inv-loop μ-loop
-part-instruction-of-end c = omega (arith, got c .1)
-
-instruction-of-requires : tie.Need-instruction-of-requires Inv-loop μ-loop
-instruction-of-requires c κs = search needs
+    LetsIn true false (l .e .count) (take (length s - l .at) (drop (l .at) s)) × (c .before .read-instruction .result .instruction ≡ instructionOf (take 21 (drop 1 (take (length s - l .at) (drop (l .at) s)))))
+got c = c .before .read-instruction .ensures (c .if2 .taken)
 
 mul-i : tie.Need-mul-i Inv-loop μ-loop
 mul-i c = search needs
 
 element-set-from-i : tie.Need-element-set-from-i Inv-loop μ-loop
-element-set-from-i c = omega (arith, got (c .before .before) .0 .room)
+element-set-from-i c = omega (arith, got (c .before) .0 .room)
 
 add-e : tie.Need-add-e Inv-loop μ-loop
 add-e c = search needs
@@ -102,10 +79,11 @@ loop-less c = search needs
 
 loop-again : tie.Need-loop-again Inv-loop μ-loop
 loop-again c =
-    let l = c .before .before .before .before .before .before .loop in
-    let s = c .before .before .before .before .before .before .before .before .before .before .before .before .before .before .args .input .now in
-    let u = c .before .before .before .before .before .before .before .before .before .before .before .before .read-unit .result .unit in
-    so-instruction s u (l .e) (l .at) (l .opened) (l .inv) (c .before .before .before .before .before .loop-test .taken) (got (c .before .before) .0) (c .instruction-of .result) (c .instruction-of .ensures)
+    let t = c .before in
+    let l = t .before .before .before .before .loop in
+    let s = t .before .before .before .before .before .before .before .before .before .before .before .before .args .input .now in
+    let u = t .before .before .before .before .before .before .before .before .before .before .read-unit .result .unit in
+    so-instruction s u (l .e) (l .at) (l .opened) (l .inv) (t .before .before .before .loop-test .taken) (got t .0) (t .before .read-instruction .result .instruction) (got t .1)
 
 shared-slice-read-e : tie.Need-shared-slice-read-e Inv-loop μ-loop
 shared-slice-read-e c = search needs
@@ -161,7 +139,7 @@ opening-of-requires : tie.Need-opening-of-requires Inv-loop μ-loop
 opening-of-requires c κs = search needs
 
 add-at-2 : tie.Need-add-at-2 Inv-loop μ-loop
-add-at-2 c = search needs
+add-at-2 c = record { fits = add-opening-of-2 (c .before .before) .fits }
 
 loop-less-2 : tie.Need-loop-less-2 Inv-loop μ-loop
 loop-less-2 c = search needs
@@ -187,16 +165,10 @@ open-day-spec =
     no-instruction-requires
     returns
     loop-holds
-    sub-lets-in
-    part-lets-in-start
-    part-lets-in-end
-    lets-in-requires
-    add-instruction-of
-    add-instruction-of-2
-    sub-instruction-of
-    part-instruction-of-start
-    part-instruction-of-end
-    instruction-of-requires
+    sub-read-instruction
+    part-read-instruction-start
+    part-read-instruction-end
+    read-instruction-requires
     mul-i
     element-set-from-i
     add-e

@@ -1,21 +1,22 @@
 use Prim.Native.Nat.{_≤_, _-_}
 use mathlib.Core.Path.{_≡_, refl, sym, _∙_}
+use mathlib.Core.Bool.{_&&_}
 use native.Mathlib.Omega.{arith}
 use borrow.Author.Needs.{needs}
 use lib.ListN.{drop}
 use Rattle.records.specs.Fields.{aLevel, aMaximum, aRate, aHold, aBoundary, columnRanges, rampRanges, unitRanges, fitFrom}
-use Rattle.units.proofs.Laws.{lowsOf, highsOf, fit-below, fit-above, fit-next}
+use Rattle.units.proofs.Laws.{lowsOf, highsOf, fit-more, and-true}
 use Rattle.units.proofs.all_fit.Statement.{statement}
 use Rattle.units.proofs.all_fit.Tie as tie
 use Rattle.units.proofs.all_fit.Reads as reads
 use Rattle.units.proofs.all_fit.Lts as lts
 
--- what is left to look at says what the whole says
+-- what was looked at and what is left say what the whole says
 abbrev Inv-loop : tie.InvT-loop
-Inv-loop ns lows highs i₀ i = (i ≤ 62) × (fitFrom (drop i unitRanges) ns i ≡ fitFrom unitRanges ns 0)
+Inv-loop ns lows highs fit₀ i₀ fit i = (i ≤ 62) × (fit && fitFrom (drop i unitRanges) ns i ≡ fitFrom unitRanges ns 0)
 
 abbrev μ-loop : tie.MeasureT-loop
-μ-loop ns lows highs i₀ i = 62 - i
+μ-loop ns lows highs fit₀ i₀ fit i = 62 - i
 
 loop-holds : tie.Need-loop-holds Inv-loop μ-loop
 loop-holds c = (search needs, refl)
@@ -38,18 +39,6 @@ mul-high c = omega arith
 array-read-high : tie.Need-array-read-high Inv-loop μ-loop
 array-read-high c = omega arith
 
-returns : tie.Need-returns Inv-loop μ-loop
-unfolding lowsOf highsOf unitRanges columnRanges rampRanges aLevel aMaximum aRate aHold aBoundary
-returns c =
-    let l = c .before .before .loop in
-    sym (fit-below unitRanges (c .before .before .before .args .t1) (l .i) (omega arith) (c .if1 .taken)) ∙ l .inv .1
-
-returns-2 : tie.Need-returns-2 Inv-loop μ-loop
-unfolding lowsOf highsOf unitRanges columnRanges rampRanges aLevel aMaximum aRate aHold aBoundary
-returns-2 c =
-    let l = c .before .before .before .loop in
-    sym (fit-above unitRanges (c .before .before .before .before .args .t1) (l .i) (omega arith) (c .before .if1 .left) (c .if2 .taken)) ∙ l .inv .1
-
 add-i : tie.Need-add-i Inv-loop μ-loop
 add-i c = omega arith
 
@@ -59,15 +48,15 @@ loop-less c = omega arith
 loop-again : tie.Need-loop-again Inv-loop μ-loop
 unfolding lowsOf highsOf unitRanges columnRanges rampRanges aLevel aMaximum aRate aHold aBoundary
 loop-again c =
-    let l = c .before .before .before .loop in
-    (omega arith, sym (fit-next unitRanges (c .before .before .before .before .args .t1) (l .i) (omega arith) (c .before .if1 .left) (c .if2 .left)) ∙ l .inv .1)
+    let l = c .before .loop in
+    (omega arith, fit-more unitRanges (c .before .before .args .t1) (l .i) (omega arith) (l .fit) ∙ l .inv .1)
 
-returns-3 : tie.Need-returns-3 Inv-loop μ-loop
-unfolding lowsOf highsOf unitRanges columnRanges rampRanges aLevel aMaximum aRate aHold aBoundary fitFrom
-returns-3 c =
+returns : tie.Need-returns Inv-loop μ-loop
+unfolding unitRanges columnRanges rampRanges aLevel aMaximum aRate aHold aBoundary fitFrom
+returns c =
     let l = c .before .loop in
     let e : l .i ≡ 62 = omega arith in
-    rw e at (l .inv .1)
+    sym (and-true (l .fit)) ∙ (rw e at (l .inv .1))
 
 pub all-fit-spec : {M : Type 1} → statement M
 all-fit-spec =
@@ -82,9 +71,7 @@ all-fit-spec =
     array-read-low
     mul-high
     array-read-high
-    returns
-    returns-2
     add-i
     loop-less
     loop-again
-    returns-3)
+    returns)
