@@ -8,6 +8,7 @@ ghost use Rattle.level.specs.Lists.{All};
 ghost use Rattle.course.proofs.Near.{Short};
 ghost use Rattle.trajectory.specs.Ways.{headed, listsBy};
 ghost use Rattle.trajectory.proofs.Goes.{Goes};
+ghost use Rattle.keeping.specs.Outcome.{validationOf};
 ghost use Rattle.lines.specs.Text.{laid};
 ghost use Rattle.close.specs.Summing.{firstSum};
 ghost use Rattle.profile.specs.Profile.{rounded};
@@ -445,6 +446,23 @@ fn put_end(out: &mut [u8], parts: &[u64; 49], closing: profile::Closing) -> usiz
     at + n
 }
 
+// Which of the first `count` instructions act, and the fates of the others; where there is none, nothing is looked at.
+fn validated(instructions: [records::Instruction; 40], count: usize) -> keeping::Validation
+    ensures { λ r. ⌜ r ≡ validationOf instructions count 86400 ⌝ }
+{
+    if count == 0 {
+        let none = choosing::no_one();
+        let acts = [none; 40];
+        let fates = [0u8; 40];
+        return keeping::Validation {
+            fates,
+            acts,
+            acting: 0,
+        };
+    }
+    keeping::validate(instructions, count, DAY)
+}
+
 // The listing of a day that has taken a unit, an opening and the first `count` instructions, and is closed: the S lines while
 // it is followed, at their place after the F lines, then these, which are as long whatever the fates are.
 pub fn list_open(
@@ -457,7 +475,7 @@ pub fn list_open(
     requires { ⌜ (count ≤ 40) × (length (listingOf u o instructions count) ≤ length (now out)) ⌝ }
     ensures { λ r. ⌜ (r ≡ length (listingOf u o instructions count)) × (now (out .exit) ≡ laid (listingOf u o instructions count) (now (out .entry))) ⌝ }
 {
-    let v = keeping::validate(instructions, count, DAY);
+    let v = validated(instructions, count);
     let acts = v.acts;
     let first = close::open_course(u, o);
     let from = fates_room(count);

@@ -448,16 +448,6 @@ pub fn validate(instructions: [records::Instruction; 40], count: usize, end: u32
     ensures { λ r. ⌜ r ≡ validationOf instructions count end ⌝ }
 {
     let n = at_most_forty(count);
-    if n == 0 {
-        let none = choosing::no_one();
-        let acts = [none; 40];
-        let fates = [0u8; 40];
-        return Validation {
-            fates,
-            acts,
-            acting: 0,
-        };
-    }
     let numbered = number_all(instructions, n);
     let os = numbered.items;
     let times = times_of(os, n);

@@ -24,21 +24,21 @@ use Rattle.close.proofs.open_course.Reads as open-course-reads
 use Rattle.following.proofs.fates_room.Reads as fates-room-reads
 use Rattle.following.proofs.follow_day.Reads as follow-day-reads
 use Rattle.following.proofs.put_end.Reads as put-end-reads
-use Rattle.keeping.proofs.validate.Reads as validate-reads
+use Rattle.following.proofs.validated.Reads as validated-reads
 use Rattle.printing.proofs.put_fates.Reads as put-fates-reads
 
 -- what validation found, and the first course
 prepared : (c : tie.After-fates-room) →
     let s = c .before .before .before .before .before in
-    Ready (s .args .instructions) (s .args .count) (s .args .u) (s .args .o) (c .before .before .before .validate .result) (c .before .open-course .result)
+    Ready (s .args .instructions) (s .args .count) (s .args .u) (s .args .o) (c .before .before .before .validated .result) (c .before .open-course .result)
 prepared c =
     let s = c .before .before .before .before .before in
-    ready (s .args .instructions) (s .args .count) (s .args .u) (s .args .o) (c .before .before .before .validate .result) (c .before .open-course .result) (s .good .1 .1 .1 .0 .1 .0 .1) (s .pre .0)
-    (omega (arith, s .good .1 .0)) (omega (arith, s .good .1 .0)) (omega (arith, s .good .1 .1 .0)) (omega (arith, s .good .1 .1 .0)) (c .before .before .before .validate .ensures) (c .before .open-course .ensures)
+    ready (s .args .instructions) (s .args .count) (s .args .u) (s .args .o) (c .before .before .before .validated .result) (c .before .open-course .result) (s .good .1 .1 .1 .0 .1 .0 .1) (s .pre .0)
+    (omega (arith, s .good .1 .0)) (omega (arith, s .good .1 .0)) (omega (arith, s .good .1 .1 .0)) (omega (arith, s .good .1 .1 .0)) (c .before .before .before .validated .ensures) (c .before .open-course .ensures)
 
 -- the S lines, and room for them after the F lines
 abbrev courses : tie.After-fates-room → List Course
-courses c = coursesFrom (c .before .before .before .before .before .args .u) (c .before .open-course .result) (take (c .before .before .before .validate .result .acting) (c .before .before .before .validate .result .acts))
+courses c = coursesFrom (c .before .before .before .before .before .args .u) (c .before .open-course .result) (take (c .before .before .before .validated .result .acting) (c .before .before .before .validated .result .acts))
 
 abbrev middle : tie.After-fates-room → List ℕ
 middle c = coursesLines (c .before .before .before .before .before .args .u) (courses c)
@@ -47,8 +47,8 @@ front : (c : tie.After-fates-room) → c .fates-room .result + length (middle c)
 front c = omega (arith, prepared c .front (c .fates-room .result) (c .fates-room .ensures), c .before .before .before .before .before .pre .1)
 
 -- src/lib.rt:412:9
-validate-requires : tie.Need-validate-requires
-validate-requires c κs = search needs
+validated-requires : tie.Need-validated-requires
+validated-requires c κs = search needs
 
 -- src/lib.rt:414:9
 open-course-requires : tie.Need-open-course-requires
@@ -213,7 +213,7 @@ pub list-open-spec : {M : Type 1} → statement M
 list-open-spec =
     tie.close
     (tie.spec
-    validate-requires
+    validated-requires
     open-course-requires
     fates-room-requires
     sub-follow-day

@@ -7,22 +7,13 @@ use Rattle.level.specs.Lists.{filled}
 use Rattle.choosing.specs.Working.{Timed}
 use Rattle.keeping.specs.Working.{fatesTo}
 use Rattle.choosing.proofs.Laws.{map-length}
-use Rattle.keeping.proofs.Whole.{result, validation-is, none-entered}
+use Rattle.keeping.proofs.Whole.{result, validation-is}
 use borrow.Author.Needs.{needs}
 use Rattle.keeping.proofs.validate.Statement.{statement}
 use Rattle.keeping.proofs.validate.Tie as tie
 
 at-most-forty-requires : tie.Need-at-most-forty-requires
 at-most-forty-requires c κs = search needs
-
-no-one-requires : tie.Need-no-one-requires
-no-one-requires c κs = search needs
-
-returns : tie.Need-returns
-returns c =
-    let a = c .before .before .before .args in
-    let e : a .count ≡ 0 = omega (arith, c .before .before .at-most-forty .ensures) in
-    rw (c .no-one .ensures) (none-entered (a .instructions) (a .count) (a .end) e)
 
 number-all-requires : tie.Need-number-all-requires
 number-all-requires c κs = search needs
@@ -48,11 +39,11 @@ fates-of-requires c κs = search needs
 acts-of-requires : tie.Need-acts-of-requires
 acts-of-requires c κs = search needs
 
-returns-2 : tie.Need-returns-2
-returns-2 c =
-    let a = c .before .before .before .before .before .before .before .before .before .before .before .before .before .before .before .before .before .before in
+returns : tie.Need-returns
+returns c =
+    let a = c .before .before .before .before .before .before .before .before .before .before .before .before .before .before .before .before .before in
     let end = a .args .end in
-    let n = c .before .before .before .before .before .before .before .before .before .before .before .before .before .before .before .before .before .at-most-forty .result in
+    let n = c .before .before .before .before .before .before .before .before .before .before .before .before .before .before .before .before .at-most-forty .result in
     let q = c .before .before .before .before .before .before .before .before .before .before .before .before .before .before .before .number-all in
     let times = take n (c .before .before .before .before .before .before .before .before .before .before .before .before .before .times-of .result) in
     let issues = take n (c .before .before .before .before .before .before .before .before .before .before .before .before .issues-of .result) in
@@ -64,15 +55,13 @@ returns-2 c =
     let t = c .before .acts-of .ensures end late in
     let e : record { fates = c .before .before .fates-of .result; acts = c .before .acts-of .result .items; acting = c .before .acts-of .result .count } ≡ result end times issues (s .result) n =
     λ j. record { fates = f j; acts = t j .items; acting = t j .count } in
-    e ∙ validation-is (a .args .instructions) (a .args .count) end n (a .good .0 .1 .0 .1) (c .before .before .before .before .before .before .before .before .before .before .before .before .before .before .before .before .before .at-most-forty .ensures) (q .result) (q .ensures) times issues timed (s .result) (s .ensures .1) (omega (arith, s .ensures .0))
+    e ∙ validation-is (a .args .instructions) (a .args .count) end n (a .good .0 .1 .0 .1) (c .before .before .before .before .before .before .before .before .before .before .before .before .before .before .before .before .at-most-forty .ensures) (q .result) (q .ensures) times issues timed (s .result) (s .ensures .1) (omega (arith, s .ensures .0))
 
 pub validate-spec : {M : Type 1} → statement M
 validate-spec =
     tie.close
     (tie.spec
     at-most-forty-requires
-    no-one-requires
-    returns
     number-all-requires
     times-of-requires
     issues-of-requires
@@ -81,4 +70,4 @@ validate-spec =
     settle-late-requires
     fates-of-requires
     acts-of-requires
-    returns-2)
+    returns)
