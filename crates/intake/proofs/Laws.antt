@@ -155,11 +155,6 @@ module _ (s : List ℕ) (u : UnitData) (e : Opened) (at : ℕ) (opened : Bool) (
   abbrev front : List ℕ
   front = take (length s - at) (drop at s)
 
-  body-is : (n : ℕ) → take (at + n - (at + 1)) (drop (at + 1) s) ≡ take (n - 1) (drop 1 front)
-  body-is n =
-      ap (λ (k : ℕ). take k (drop (at + 1) s)) {x = at + n - (at + 1)} {y = n - 1} (omega arith)
-      ∙ ap (take (n - 1)) (sym (drop-drop 1 at s) ∙ ap (drop 1) (sym (tail-is at s)))
-
   some-left : 0 < h .left
   some-left = omega (arith, h .enough)
 
@@ -200,11 +195,10 @@ module _ (s : List ℕ) (u : UnitData) (e : Opened) (at : ℕ) (opened : Bool) (
     pub opening-within : at + 17 ≤ length s
     opening-within = omega (arith, g .long, front-long)
 
-    pub so-opening : (o : Opening) → o ≡ openingOf (take (at + 17 - (at + 1)) (drop (at + 1) s)) →
+    pub so-opening : (o : Opening) → o ≡ openingOf (take 16 (drop 1 front)) →
         So s u (record { fits = e .fits; unit = e .unit; opening = o; instructions = e .instructions; count = e .count }) (at + 17) true
     unfolding dayWith withOpening
-    so-opening o q =
-        let b : o ≡ openingOf (take 16 (drop 1 front)) = q ∙ ap openingOf (body-is 17) in
+    so-opening o b =
         record {
           within = opening-within;
           unfit = h .unfit;

@@ -1,4 +1,4 @@
--- Laws of an instruction's fields, read once.
+-- Laws of the fields of an opening and of an instruction, read once.
 -- Assumes nothing.
 use Prim.Native.Nat.{ℕ}
 use mathlib.Core.Path.{_≡_, refl, sym, ap, _∙_, subst}
@@ -12,18 +12,32 @@ use Rattle.records.specs.declared.Effect.the-variants.{Mwof, Mxon, Sync, Mxof, 
 use Rattle.records.specs.declared.Meaning.{Meaning}
 use Rattle.records.specs.declared.Coded.{Coded}
 use Rattle.records.specs.declared.Coded.the-variants.{Means, Unknown}
+use Rattle.records.specs.declared.Opening.{Opening}
 use Rattle.records.specs.declared.Instruction.{Instruction}
 use Rattle.records.specs.declared.Answer.the-variants.{Accepted}
 use Rattle.records.specs.Codes.{meaningOf, meaningIn, isUnknown, same}
-use Rattle.records.specs.Records.{numberAt, issueOf, instructionOf}
-use Rattle.records.specs.Fields.{figuresFit, instructionAnswer}
-use Rattle.records.proofs.Laws.{instruction-taken}
+use Rattle.records.specs.Records.{numberAt, openingOf, issueOf, instructionOf}
+use Rattle.records.specs.Fields.{openingFits, openingAnswer, figuresFit, instructionAnswer}
+use Rattle.records.proofs.Laws.{opening-taken, instruction-taken}
 use Rattle.day.specs.Day.{daySeconds}
 use Rattle.day.proofs.Passed.{never}
 
-both : (a b : Bool) → (a && b) ≡ true → (a ≡ true) × (b ≡ true)
+pub both : (a b : Bool) → (a && b) ≡ true → (a ≡ true) × (b ≡ true)
 both true b e = (refl, e)
 both false b e = never e
+
+-- ---- an opening's fields, of the body b
+module _ (b : List ℕ) (level target heat off : ℕ) where
+  abbrev begun : Opening
+  begun = record { level = level; target = target; heat = heat; off = off }
+
+  pub begun-is : level ≡ numberAt b 0 → target ≡ numberAt b 4 → heat ≡ numberAt b 8 → off ≡ numberAt b 12 → begun ≡ openingOf b
+  unfolding openingOf
+  begun-is p q r s = λ i. record { level = p i; target = q i; heat = r i; off = s i }
+
+  pub opening-fit : begun ≡ openingOf b → (leb level 120000000 && (leb target 2000000 && ((leb 1 heat && leb heat 3) && leb off 10000000))) ≡ true → openingAnswer b ≡ Accepted
+  unfolding openingFits
+  opening-fit e h = sym (opening-taken b begun e _ refl h)
 
 -- ---- only MWOF carries a level and rates
 

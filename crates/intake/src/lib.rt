@@ -34,6 +34,12 @@ struct First {
     unit: records::UnitData,
 }
 
+// An opening; `fits` where it is taken.
+struct Begun {
+    fits: bool,
+    opening: records::Opening,
+}
+
 // An instruction; `fits` where it is taken.
 struct Read {
     fits: bool,
@@ -92,23 +98,36 @@ fn read_unit(input: &[u8]) -> First
     }
 }
 
-// An opening at the front of the input that a day with this unit and no opening takes.
-fn lets_opening_in(unit: records::UnitData, input: &[u8]) -> bool
-    ensures { λ r. ⌜ (r ≡ true → OpeningIn unit (now (input .entry))) ⌝ }
+// An opening at the front of the input; `fits` where a day with this unit and no opening takes it.
+fn read_opening(unit: records::UnitData, input: &[u8]) -> Begun
+    ensures { λ r. ⌜ (r .fits ≡ true → OpeningIn unit (now (input .entry)) × (r .opening ≡ openingOf (take 16 (drop 1 (now (input .entry)))))) ⌝ }
 {
+    let none = Begun {
+        fits: false,
+        opening: no_opening(),
+    };
     if input.len() < 17 {
-        return false;
+        return none;
     }
     if input[0] != 2 {
-        return false;
+        return none;
     }
-    let answer = records::opening_answer(&input[1..17]);
-    match answer {
-        Answer::Accepted => {
-            let o = records::opening_of(&input[1..17]);
-            !taking::too_high(unit, o)
-        }
-        Answer::Refused(r) => false,
+    let level = records::number(&input[1..17], 0);
+    let target = records::number(&input[1..17], 4);
+    let heat = records::number(&input[1..17], 8);
+    let off = records::number(&input[1..17], 12);
+    let ranges = (level <= 120000000)
+        & ((target <= 2000000) & (((1 <= heat) & (heat <= 3)) & (off <= 10000000)));
+    let opening = records::Opening {
+        level,
+        target,
+        heat,
+        off,
+    };
+    let high = taking::too_high(unit, opening);
+    Begun {
+        fits: ranges & !high,
+        opening,
     }
 }
 
@@ -216,10 +235,11 @@ pub fn open_day(input: &[u8]) -> Opened
             e.fits = input[at] == 4;
             return e;
         }
-        if !lets_opening_in(unit, &input[at..]) {
+        let begun = read_opening(unit, &input[at..]);
+        if !begun.fits {
             return e;
         }
-        let o = records::opening_of(&input[at + 1..at + 17]);
+        let o = begun.opening;
         e.opening = o;
         opened = true;
         at += 17;

@@ -1,12 +1,12 @@
 use mathlib.Core.Path.{_≡_, sym, _∙_}
 use mathlib.Core.Bool.{true, false}
 use borrow.Author.Tests.{eqb-true}
-use Rattle.records.specs.Records.{instructionOf}
+use Rattle.records.specs.Records.{openingOf, instructionOf}
 use Rattle.day.proofs.Passed.{never}
 use Rattle.taking.specs.Kinds.{LetsIn}
 use Rattle.taking.proofs.Laws.{not-false}
 use Rattle.intake.specs.Fronts.{OpeningIn}
-use Prim.Native.Nat.{_≤_, _+_, _-_}
+use Prim.Native.Nat.{_≤_, _<_, _+_, _-_, _^_}
 use native.Mathlib.Omega.{arith}
 use lib.ListN.{length, take, drop}
 use borrow.Author.Needs.{needs}
@@ -15,12 +15,11 @@ use Rattle.intake.proofs.open_day.Statement.{statement}
 use Rattle.intake.proofs.open_day.Tie as tie
 use Rattle.intake.proofs.open_day.Reads as reads
 use Rattle.intake.proofs.open_day.Lts as lts
-use Rattle.intake.proofs.lets_opening_in.Reads as lets-opening-in-reads
 use Rattle.intake.proofs.no_instruction.Reads as no-instruction-reads
 use Rattle.intake.proofs.no_opening.Reads as no-opening-reads
 use Rattle.intake.proofs.read_instruction.Reads as read-instruction-reads
+use Rattle.intake.proofs.read_opening.Reads as read-opening-reads
 use Rattle.intake.proofs.read_unit.Reads as read-unit-reads
-use Rattle.records.proofs.opening_of.Reads as opening-of-reads
 
 abbrev Inv-loop : tie.InvT-loop
 Inv-loop input unit e₀ at₀ opened₀ e at opened = So input unit e at opened
@@ -93,63 +92,53 @@ returns-2 c = λ e.
     let l = c .before .before .before .before .before .before .loop in
     so-close _ _ (l .e) (l .at) (l .opened) (l .inv) (c .before .before .before .before .before .loop-test .taken) _ (c .before .if3 .taken) (eqb-true _ 4 e)
 
-sub-lets-opening-in : tie.Need-sub-lets-opening-in Inv-loop μ-loop
-sub-lets-opening-in c = search needs
+sub-read-opening : tie.Need-sub-read-opening Inv-loop μ-loop
+sub-read-opening c = search needs
 
-part-lets-opening-in-start : tie.Need-part-lets-opening-in-start Inv-loop μ-loop
-part-lets-opening-in-start c = search needs
+part-read-opening-start : tie.Need-part-read-opening-start Inv-loop μ-loop
+part-read-opening-start c = search needs
 
-part-lets-opening-in-end : tie.Need-part-lets-opening-in-end Inv-loop μ-loop
-part-lets-opening-in-end c = search needs
+part-read-opening-end : tie.Need-part-read-opening-end Inv-loop μ-loop
+part-read-opening-end c = search needs
 
-lets-opening-in-requires : tie.Need-lets-opening-in-requires Inv-loop μ-loop
-lets-opening-in-requires c κs = search needs
+read-opening-requires : tie.Need-read-opening-requires Inv-loop μ-loop
+read-opening-requires c κs = search needs
 
 returns-3 : tie.Need-returns-3 Inv-loop μ-loop
-returns-3 c = λ e. never (sym (c .before .before .before .before .before .before .before .before .loop .inv .unfit) ∙ e)
+returns-3 c = λ e. never (sym (c .before .before .before .before .before .before .before .before .before .loop .inv .unfit) ∙ e)
 
 -- an opening is let in
 opens : (c : tie.Else4 Inv-loop μ-loop) →
-    let l = c .before .before .before .before .before .before .before .before .loop in
-    let s = c .before .before .before .before .before .before .before .before .before .before .before .before .before .before .before .before .args .input .now in
-    OpeningIn (c .before .before .before .before .before .before .before .before .before .before .before .before .before .before .read-unit .result .unit) (take (length s - l .at) (drop (l .at) s)) × (l .at + 17 ≤ length s)
-opens c =
-    let l = c .before .before .before .before .before .before .before .before .loop in
-    let s = c .before .before .before .before .before .before .before .before .before .before .before .before .before .before .before .before .args .input .now in
-    let u = c .before .before .before .before .before .before .before .before .before .before .before .before .before .before .read-unit .result .unit in
-    let g = c .before .lets-opening-in .ensures (not-false _ (c .if4 .left)) in
-    (g, opening-within s u (l .e) (l .at) (l .opened) (l .inv) (c .before .before .before .before .before .before .before .loop-test .taken) (c .before .before .before .if3 .left) g)
+    let l = c .before .before .before .before .before .before .before .before .before .loop in
+    let s = c .before .before .before .before .before .before .before .before .before .before .before .before .before .before .before .before .before .args .input .now in
+    let u = c .before .before .before .before .before .before .before .before .before .before .before .before .before .before .before .read-unit .result .unit in
+    let front = take (length s - l .at) (drop (l .at) s) in
+    OpeningIn u front × (c .before .before .read-opening .result .opening ≡ openingOf (take 16 (drop 1 front)))
+opens c = c .before .before .read-opening .ensures (not-false _ (c .if4 .left))
 
-add-opening-of : tie.Need-add-opening-of Inv-loop μ-loop
-add-opening-of c = search needs
+within : (c : tie.Else4 Inv-loop μ-loop) →
+    c .before .before .before .before .before .before .before .before .before .loop .at + 17 ≤ length (c .before .before .before .before .before .before .before .before .before .before .before .before .before .before .before .before .before .args .input .now)
+within c =
+    let l = c .before .before .before .before .before .before .before .before .before .loop in
+    opening-within _ _ (l .e) (l .at) (l .opened) (l .inv) (c .before .before .before .before .before .before .before .before .loop-test .taken) (c .before .before .before .before .if3 .left) (opens c .0)
 
-add-opening-of-2 : tie.Need-add-opening-of-2 Inv-loop μ-loop
-add-opening-of-2 c = search needs
-
-sub-opening-of : tie.Need-sub-opening-of Inv-loop μ-loop
-sub-opening-of c = search needs
-
-part-opening-of-start : tie.Need-part-opening-of-start Inv-loop μ-loop
-part-opening-of-start c = search needs
-
-part-opening-of-end : tie.Need-part-opening-of-end Inv-loop μ-loop
-part-opening-of-end c = omega (arith, opens c .1)
-
-opening-of-requires : tie.Need-opening-of-requires Inv-loop μ-loop
-opening-of-requires c κs = search needs
+-- the input is shorter than a number goes
+short : (c : tie.Start Inv-loop μ-loop) → length (c .args .input .now) < 2 ^ 64
+short c = search needs
 
 add-at-2 : tie.Need-add-at-2 Inv-loop μ-loop
-add-at-2 c = record { fits = add-opening-of-2 (c .before .before) .fits }
+add-at-2 c = search (needs, within (c .before), short (c .before .before .before .before .before .before .before .before .before .before .before .before .before .before .before .before .before .before))
 
 loop-less-2 : tie.Need-loop-less-2 Inv-loop μ-loop
 loop-less-2 c = search needs
 
 loop-again-2 : tie.Need-loop-again-2 Inv-loop μ-loop
 loop-again-2 c =
-    let l = c .before .before .before .before .before .before .before .before .before .before .loop in
-    let s = c .before .before .before .before .before .before .before .before .before .before .before .before .before .before .before .before .before .before .args .input .now in
-    let u = c .before .before .before .before .before .before .before .before .before .before .before .before .before .before .before .before .read-unit .result .unit in
-    so-opening s u (l .e) (l .at) (l .opened) (l .inv) (c .before .before .before .before .before .before .before .before .before .loop-test .taken) (c .before .before .before .before .before .if3 .left) (opens (c .before .before) .0) (c .opening-of .result) (c .opening-of .ensures)
+    let t = c .before in
+    let l = t .before .before .before .before .before .before .before .before .before .loop in
+    let s = t .before .before .before .before .before .before .before .before .before .before .before .before .before .before .before .before .before .args .input .now in
+    let u = t .before .before .before .before .before .before .before .before .before .before .before .before .before .before .before .read-unit .result .unit in
+    so-opening s u (l .e) (l .at) (l .opened) (l .inv) (t .before .before .before .before .before .before .before .before .loop-test .taken) (t .before .before .before .before .if3 .left) (opens t .0) (t .before .before .read-opening .result .opening) (opens t .1)
 
 returns-4 : tie.Need-returns-4 Inv-loop μ-loop
 returns-4 c = λ e. never (sym (c .before .loop .inv .unfit) ∙ e)
@@ -177,17 +166,11 @@ open-day-spec =
     loop-again
     shared-slice-read-e
     returns-2
-    sub-lets-opening-in
-    part-lets-opening-in-start
-    part-lets-opening-in-end
-    lets-opening-in-requires
+    sub-read-opening
+    part-read-opening-start
+    part-read-opening-end
+    read-opening-requires
     returns-3
-    add-opening-of
-    add-opening-of-2
-    sub-opening-of
-    part-opening-of-start
-    part-opening-of-end
-    opening-of-requires
     add-at-2
     loop-less-2
     loop-again-2
