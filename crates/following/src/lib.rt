@@ -292,7 +292,8 @@ pub struct Followed {
 }
 
 // The first n of those that act, from the course `first` on; each read with the state just before. Fate 7: the course under
-// way goes on. Fate 0: it ends there, and a new one begins.
+// way goes on. Fate 0: it ends there, and a new one begins. The lists l are kept apart from g: of them a new course picks
+// only its column and its ramp.
 fn follow_on(
     out: &mut [u8],
     parts: &mut [u64; 49],
@@ -326,8 +327,7 @@ fn follow_on(
             g.place = p;
             g.off = s.off;
         } else {
-            let w = end_course(&mut out[count..], parts, l, now.course, g.up, p, q);
-            count += w;
+            count += end_course(&mut out[count..], parts, l, now.course, g.up, p, q);
             let next = begin_next(u, now, o, q, s.later);
             fates[at] = 0;
             let d = next.course;
