@@ -317,8 +317,9 @@ fn follow_on(
         let at = i;
         i += 1;
         let now = g.now;
+        let c = now.course;
         let t = close::acting_second(o);
-        let s = pass_to(&mut out[count..], parts, l, now.course, g.up, g.place, g.off, t);
+        let s = pass_to(&mut out[count..], parts, l, c, g.up, g.place, g.off, t);
         count += s.count;
         let p = s.place;
         let q = s.ahead;
@@ -327,7 +328,7 @@ fn follow_on(
             g.place = p;
             g.off = s.off;
         } else {
-            count += end_course(&mut out[count..], parts, l, now.course, g.up, p, q);
+            count += end_course(&mut out[count..], parts, l, c, g.up, p, q);
             let next = begin_next(u, now, o, q, s.later);
             fates[at] = 0;
             let d = next.course;

@@ -121,16 +121,16 @@ add-i c = omega arith
 -- src/lib.rt:277:13
 acting-second-requires : tie.Need-acting-second-requires Inv-loop μ-loop
 acting-second-requires c κs =
-    let k = c .before .before in
+    let k = c .before .before .before in
     omega (arith, ordered-end (acting (act k)) (left k) (here k .ordered .1))
 
 -- src/lib.rt:279:25
 sub-pass-to : tie.Need-sub-pass-to Inv-loop μ-loop
-sub-pass-to c = room (c .before .before .before) .0
+sub-pass-to c = room (c .before .before .before .before) .0
 
 -- src/lib.rt:279:25
 part-pass-to-start : tie.Need-part-pass-to-start Inv-loop μ-loop
-part-pass-to-start c = omega (arith, room (c .before .before .before) .0)
+part-pass-to-start c = omega (arith, room (c .before .before .before .before) .0)
 
 -- src/lib.rt:279:25
 part-pass-to-end : tie.Need-part-pass-to-end Inv-loop μ-loop
@@ -139,7 +139,7 @@ part-pass-to-end c = search needs
 -- src/lib.rt:279:13
 pass-to-requires : tie.Need-pass-to-requires Inv-loop μ-loop
 pass-to-requires c κs =
-    let k = c .before .before .before .before .before in
+    let k = c .before .before .before .before .before .before in
     let s = k .before .before .before .before .before in
     let l = k .before .loop in
     let w = here k in
@@ -158,17 +158,17 @@ pass-to-requires c κs =
 
 -- the course passed up to where it acts
 passing : (c : tie.After-pass-to Inv-loop μ-loop) →
-    let k = c .before .before .before .before .before .before in
+    let k = c .before .before .before .before .before .before .before in
     let l = k .before .loop in
     Passing (l .l) (l .g .now .course) (l .g .up) (l .g .place) (l .g .off) (acting (act k)) (take (length (l .out) - l .count) (drop (l .count) (l .out))) (c .pass-to .last .0) (l .parts) (c .pass-to .last .1 .0) (c .pass-to .result)
 passing c =
-    let k = c .before .before .before .before .before .before in
+    let k = c .before .before .before .before .before .before .before in
     let l = k .before .loop in
     subst (λ (n : ℕ). Passing (l .l) (l .g .now .course) (l .g .up) (l .g .place) (l .g .off) n (take (length (l .out) - l .count) (drop (l .count) (l .out))) (c .pass-to .last .0) (l .parts) (c .pass-to .last .1 .0) (c .pass-to .result))
     (c .before .before .before .acting-second .ensures) (c .pass-to .ensures)
 
 past : (c : tie.After-pass-to Inv-loop μ-loop) →
-    let k = c .before .before .before .before .before .before in
+    let k = c .before .before .before .before .before .before .before in
     let s = k .before .before .before .before .before in
     let l = k .before .loop in
     let r = c .pass-to .result in
@@ -176,20 +176,20 @@ past : (c : tie.After-pass-to Inv-loop μ-loop) →
     (take (l .count) (l .out) ++ (c .pass-to .last .0 ++ drop (length (l .out) - l .count) (drop (l .count) (l .out)))) (s .args .parts .now) (c .pass-to .last .1 .0)
     (record { now = l .g .now; up = l .g .up; lists = l .l; place = r .place; off = r .off }) (l .fates) (l .count + r .count) (l .i)
 past c =
-    let k = c .before .before .before .before .before .before in
+    let k = c .before .before .before .before .before .before .before in
     let s = k .before .before .before .before .before in
     let l = k .before .loop in
     sofar-pass (s .args .t3) (k .before .before .before .set-out .result .now) (take (s .args .n) (s .args .t5)) (s .args .out .now) (s .args .parts .now) (act k) (left k) (l .out) (l .parts) (under (l .g) (l .l)) (l .fates) (l .count) (l .i)
     (enough (k .before .before .before)) (here k) (c .pass-to .result) (c .pass-to .last .0) (c .pass-to .last .1 .0) (passing c)
 
 past-room : (c : tie.After-pass-to Inv-loop μ-loop) →
-    let k = c .before .before .before .before .before .before in
+    let k = c .before .before .before .before .before .before .before in
     let s = k .before .before .before .before .before in
     let l = k .before .loop in
     let out = take (l .count) (l .out) ++ (c .pass-to .last .0 ++ drop (length (l .out) - l .count) (drop (l .count) (l .out))) in
     (l .count + c .pass-to .result .count ≤ length out) × (length out ≡ length (s .args .out .now))
 past-room c =
-    let k = c .before .before .before .before .before .before in
+    let k = c .before .before .before .before .before .before .before in
     let s = k .before .before .before .before .before in
     let l = k .before .loop in
     has-room (s .args .t3) (k .before .before .before .set-out .result .now) (take (s .args .n) (s .args .t5)) (act k ∷ left k) (s .args .out .now) _ (s .args .parts .now) _ _ (l .fates) _ (l .i)
@@ -197,11 +197,11 @@ past-room c =
 
 -- the state there
 state-is : (c : tie.After-pass-to Inv-loop μ-loop) →
-    let k = c .before .before .before .before .before .before in
+    let k = c .before .before .before .before .before .before .before in
     let r = c .pass-to .result in
     (record { level = r .ahead .level; off = r .later }) ≡ before (k .before .before .before .before .before .args .t3) (k .before .loop .g .now) (act k)
 state-is c =
-    let k = c .before .before .before .before .before .before in
+    let k = c .before .before .before .before .before .before .before in
     let u = k .before .before .before .before .before .args .t3 in
     let g = k .before .loop .g in
     let p = passing c in
@@ -210,11 +210,11 @@ state-is c =
 -- src/lib.rt:280:9
 -- with effect
 new-one : (c : tie.Else1 Inv-loop μ-loop) →
-    let k = c .before .before .before .before .before .before .before .before .before .before .before .before .before in
+    let k = c .before .before .before .before .before .before .before .before .before .before .before .before .before .before in
     isIdle (k .before .before .before .before .before .args .t3) (k .before .loop .g .now) (act k) ≡ false
 new-one c =
     let a = c .before .before .before .before .before .before .before in
-    let k = a .before .before .before .before .before .before in
+    let k = a .before .before .before .before .before .before .before in
     let o = act k in
     sym (c .before .stays-idle .ensures ∙ ap (λ (x : State). idle (o .instruction .meaning .effect) (o .instruction .level) (x .level) (k .before .loop .g .now .maximised)) (state-is a)) ∙ c .if1 .left
 
@@ -223,7 +223,7 @@ add-count : tie.Need-add-count Inv-loop μ-loop
 add-count c =
     let a = c .before .before .before in
     let r = past-room a in
-    omega (arith, r .0, r .1, a .before .before .before .before .before .before .before .before .before .before .before .good .0)
+    omega (arith, r .0, r .1, a .before .before .before .before .before .before .before .before .before .before .before .before .good .0)
 
 -- src/lib.rt:283:12
 stays-idle-requires : tie.Need-stays-idle-requires Inv-loop μ-loop
@@ -231,7 +231,7 @@ stays-idle-requires c κs = search needs
 
 -- src/lib.rt:284:13
 array-write-fates : tie.Need-array-write-fates Inv-loop μ-loop
-array-write-fates c = let k = c .before .before .before .before .before .before .before .before .before .before .before .before .before in omega (arith, k .before .before .before .before .before .pre .0 .0)
+array-write-fates c = let k = c .before .before .before .before .before .before .before .before .before .before .before .before .before .before in omega (arith, k .before .before .before .before .before .pre .0 .0)
 
 -- src/lib.rt:270:5
 loop-less : tie.Need-loop-less Inv-loop μ-loop
@@ -241,7 +241,7 @@ loop-less c = omega arith
 loop-again : tie.Need-loop-again Inv-loop μ-loop
 loop-again c =
     let a = c .before .before .before .before .before .before .before in
-    let k = a .before .before .before .before .before .before in
+    let k = a .before .before .before .before .before .before .before in
     let s = k .before .before .before .before .before in
     let l = k .before .loop in
     let o = act k in
@@ -267,7 +267,7 @@ part-end-course-end c = search needs
 end-course-requires : tie.Need-end-course-requires Inv-loop μ-loop
 end-course-requires c κs =
     let a = c .before .before .before .before .before .before .before .before .before in
-    let k = a .before .before .before .before .before .before in
+    let k = a .before .before .before .before .before .before .before in
     let s = k .before .before .before .before .before in
     let l = k .before .loop in
     let p = passing a in
@@ -293,7 +293,7 @@ end-course-requires c κs =
 -- the course ended, and the next one
 later : (c : tie.After-end-course Inv-loop μ-loop) (g : OnCourse) →
     let a = c .before .before .before .before .before .before .before .before .before .before in
-    let k = a .before .before .before .before .before .before in
+    let k = a .before .before .before .before .before .before .before in
     let s = k .before .before .before .before .before in
     let l = k .before .loop in
     g ≡ setOut (s .args .t3) (next (s .args .t3) (l .g .now) (act k)) →
@@ -304,7 +304,7 @@ later : (c : tie.After-end-course Inv-loop μ-loop) (g : OnCourse) →
     g (set (l .fates) (l .i) 0) (n + c .end-course .result) (l .i + 1)
 later c g out-is =
     let a = c .before .before .before .before .before .before .before .before .before .before in
-    let k = a .before .before .before .before .before .before in
+    let k = a .before .before .before .before .before .before .before in
     let s = k .before .before .before .before .before in
     let l = k .before .loop in
     let p = passing a in
@@ -317,7 +317,7 @@ later c g out-is =
 add-count-2 : tie.Need-add-count-2 Inv-loop μ-loop
 add-count-2 c =
     let a = c .before .before .before .before .before .before .before .before .before .before .before .before in
-    let k = a .before .before .before .before .before .before in
+    let k = a .before .before .before .before .before .before .before in
     let s = k .before .before .before .before .before in
     let l = k .before .loop in
     let w = later (c .before .before) (setOut (s .args .t3) (next (s .args .t3) (l .g .now) (act k))) refl in
@@ -327,13 +327,13 @@ add-count-2 c =
 -- src/lib.rt:294:17
 begin-next-requires : tie.Need-begin-next-requires Inv-loop μ-loop
 begin-next-requires c κs =
-    let k = c .before .before .before .before .before .before .before .before .before .before .before .before .before .before .before .before .before .before in
+    let k = c .before .before .before .before .before .before .before .before .before .before .before .before .before .before .before .before .before .before .before in
     omega (arith, ordered-end (acting (act k)) (left k) (here k .ordered .1))
 
 -- src/lib.rt:295:13
 array-write-fates-2 : tie.Need-array-write-fates-2 Inv-loop μ-loop
 array-write-fates-2 c =
-    let k = c .before .before .before .before .before .before .before .before .before .before .before .before .before .before .before .before .before .before .before in
+    let k = c .before .before .before .before .before .before .before .before .before .before .before .before .before .before .before .before .before .before .before .before in
     omega (arith, going k, k .before .before .before .before .before .pre .0 .0)
 
 place-of-requires : tie.Need-place-of-requires Inv-loop μ-loop
@@ -360,14 +360,14 @@ off-starting-requires c κs = search needs
 -- src/lib.rt:270:5
 loop-less-2 : tie.Need-loop-less-2 Inv-loop μ-loop
 loop-less-2 c =
-    let k = c .before .before .before .before .before .before .before .before .before .before .before .before .before .before .before .before .before .before .before .before .before .before .before .before .before .before .before .before in
+    let k = c .before .before .before .before .before .before .before .before .before .before .before .before .before .before .before .before .before .before .before .before .before .before .before .before .before .before .before .before .before in
     omega (arith, going k)
 
 -- src/lib.rt:270:5
 loop-again-2 : tie.Need-loop-again-2 Inv-loop μ-loop
 unfolding columnFor
 loop-again-2 c =
-    let k = c .before .before .before .before .before .before .before .before .before .before .before .before .before .before .before .before .before .before .before .before .before .before .before .before .before .before .before .before in
+    let k = c .before .before .before .before .before .before .before .before .before .before .before .before .before .before .before .before .before .before .before .before .before .before .before .before .before .before .before .before .before in
     let s = k .before .before .before .before .before in
     let l = k .before .loop in
     let a = c .before .before .before .before .before .before .before .before .before .before .before .before .before .before .before .before .before .before .before .before .before .before in
@@ -379,7 +379,7 @@ loop-again-2 c =
     let place = c .before .begin-at in
     let u = s .args .t3 in
     let again = set-again u (l .g .now .course) (l .g .up) (l .l) (b .result) (rising .result) (getD (u .columns) (heat .result) noColumn) (ramp .result) (place .result) (c .off-starting .result)
-        (here k .on .lists) (rising .ensures) (ap (λ (n : ℕ). getD (u .columns) n noColumn) (heat .ensures .0)) (ramp .ensures) (place .ensures) (c .off-starting .ensures) in
+    (here k .on .lists) (rising .ensures) (ap (λ (n : ℕ). getD (u .columns) n noColumn) (heat .ensures .0)) (ramp .ensures) (place .ensures) (c .off-starting .ensures) in
     let is = again ∙ ap (setOut u) (b .ensures ∙ ap (begun u (l .g .now) (act k)) (state-is a)) in
     (omega (arith, going k), later e _ is)
 
