@@ -6,12 +6,17 @@ use mathlib.Core.Bool.{Bool, true, false}
 use mathlib.Core.List.{List, [], _∷_, _++_, map, append-assoc, append-nil}
 use native.Mathlib.Decide.{decLe}
 use native.Mathlib.Omega.{arith}
+use lib.Dec.{ltb}
 use borrow.Author.Tests.{lt-ltb, le-ltb}
 use lib.ListN.{length, take, drop, set, length-append, length-map}
+use Rattle.level.specs.Choice.{pick}
 use Rattle.level.specs.Level.{grains}
 use Rattle.level.specs.Lists.{All, filled}
 use Rattle.records.specs.declared.UnitData.{UnitData}
+use Rattle.records.specs.declared.Column.{Column}
+use Rattle.records.specs.declared.Ramp.{Ramp}
 use Rattle.course.specs.declared.Course.{Course}
+use Rattle.course.specs.Lists.{columnFor}
 use Rattle.course.proofs.Near.{Short}
 use Rattle.validation.specs.declared.Numbered.{Numbered}
 use Rattle.validation.specs.Kept.{Mark, mark, acting}
@@ -23,11 +28,12 @@ use Rattle.profile.specs.Profile.{beginOf, spansOf, piecesTo}
 use Rattle.day.specs.Day.{daySeconds}
 use Rattle.trajectory.specs.declared.OwnLists.{OwnLists}
 use Rattle.trajectory.specs.declared.Place.{Place}
-use Rattle.trajectory.specs.Ways.{headed, listsBy}
+use Rattle.trajectory.specs.Ways.{headed, rampFor, ownLists, listsBy}
 use Rattle.trajectory.specs.Walk.{beginning, onward, twiceTo}
 use Rattle.trajectory.proofs.Goes.{Goes, onward-goes}
 use Rattle.lines.specs.Text.{laid}
 use Rattle.close.specs.Summing.{firstSum}
+use Rattle.close.specs.Watching.{offStarting}
 use Rattle.close.specs.Walk.{fateIn, lastOf}
 use Rattle.printing.specs.Rest.{pieceLine, coursesLines}
 use Rattle.printing.proofs.Laws.{Laying, lay-none, lay-room, lay-next, lay-more, pieces-more, pieces-none}
@@ -69,6 +75,20 @@ fated ms o fates i f n h e =
 
 append-one : (xs : List Mark) (x : Mark) (ys : List Mark) → (xs ++ (x ∷ [])) ++ ys ≡ xs ++ (x ∷ ys)
 append-one xs x ys = append-assoc xs (x ∷ []) ys
+
+-- the next course takes over the lists but for its own column and ramp
+ramp-picked : (u : UnitData) (up : Bool) → pick up (u .up) (u .down) ≡ rampFor u up
+ramp-picked u true = refl
+ramp-picked u false = refl
+
+pub set-again : (u : UnitData) (c : Course) (before : Bool) (l : OwnLists) (w : UnderWay) (up : Bool) (column : Column) (ramp : Ramp) (place : Place) (off : ℕ) →
+    l ≡ ownLists u c before → up ≡ ltb (w .course .start .grains) (grains (w .course .target)) → column ≡ columnFor u (w .course .heat) → ramp ≡ pick up (u .up) (u .down) →
+    place ≡ beginning (w .course) (w .course .begin) → off ≡ offStarting (w .course) (w .off) →
+    (record { now = w; up = up; lists = record { msg = l .msg; column = column; ramp = ramp; dwells = l .dwells; deload = l .deload }; place = place; off = off }) ≡ setOut u w
+unfolding setOut ownLists
+set-again u c before l w up column ramp place off k e f h p o =
+    let r : ramp ≡ rampFor u (ltb (w .course .start .grains) (grains (w .course .target))) = h ∙ ramp-picked u up ∙ ap (rampFor u) e in
+    λ i. record { now = w; up = e i; lists = record { msg = k i .msg; column = f i; ramp = r i; dwells = k i .dwells; deload = k i .deload }; place = p i; off = o i }
 
 -- those that act all told, and those that are left; what was lent was o and xs and is out and ys; the course g is under way, and i
 -- have acted

@@ -3,9 +3,13 @@
 ghost use mathlib.Core.Path.{_≡_};
 ghost use Prim.Native.Nat.{ℕ, _+_, _*_, _-_, min, _<_, _≤_};
 ghost use lib.ListN.{length, take};
+ghost use Rattle.level.specs.Choice.{pick};
 ghost use Rattle.level.specs.Level.{grains};
 ghost use Rattle.level.specs.Lists.{All};
+ghost use Rattle.course.specs.Lists.{placeOf};
 ghost use Rattle.course.proofs.Near.{Short};
+ghost use Rattle.validation.specs.Kept.{acting};
+ghost use Rattle.profile.specs.Effects.{begun};
 ghost use Rattle.trajectory.specs.Ways.{headed, listsBy};
 ghost use Rattle.trajectory.proofs.Goes.{Goes};
 ghost use Rattle.keeping.specs.Outcome.{validationOf};
@@ -245,6 +249,43 @@ fn set_out(u: records::UnitData, now: profile::UnderWay) -> OnCourse
     }
 }
 
+// The place of a heat's column.
+fn place_of(heat: u32) -> usize
+    ensures { λ r. ⌜ (r ≡ placeOf heat) × (r < 3) ⌝ }
+{
+    match heat {
+        1 => 0,
+        2 => 1,
+        _ => 2,
+    }
+}
+
+// Ramp-up for a rising course, ramp-down for a falling one.
+fn ramp_of(up: bool, rising: records::Ramp, falling: records::Ramp) -> records::Ramp
+    ensures { λ r. ⌜ r ≡ pick up rising falling ⌝ }
+{
+    if up {
+        return rising;
+    }
+    falling
+}
+
+// The course that an instruction of fate 0 begins, from the place q with so many seconds off.
+fn begin_next(
+    u: records::UnitData,
+    now: profile::UnderWay,
+    o: validation::Numbered,
+    q: trajectory::Place,
+    off: u32,
+) -> profile::UnderWay
+    requires { ⌜ acting o < 4294967296 ⌝ }
+    ensures { λ r. ⌜ r ≡ begun u now o (record { level = q .level; off = off }) ⌝ }
+{
+    let level = q.level;
+    let state = profile::State { level, off };
+    close::begin_course(u, now, o, state)
+}
+
 // The last course that was begun, the fates of those that acted in acting order, and how many bytes were written.
 pub struct Followed {
     pub last: OnCourse,
@@ -253,7 +294,8 @@ pub struct Followed {
 }
 
 // The first n of those that act, from the course `first` on; each read with the state just before. Fate 7: the course under
-// way goes on. Fate 0: it ends there, and a new one begins.
+// way goes on. Fate 0: it ends there, and a new one begins. The lists l are kept apart from g: of them a new course picks
+// only its column and its ramp.
 fn follow_on(
     out: &mut [u8],
     parts: &mut [u64; 49],
@@ -268,6 +310,7 @@ fn follow_on(
     ensures { λ r. ⌜ FollowedBy u first (take n acts) (now (out .entry)) (now (out .exit)) (now (parts .entry)) (now (parts .exit)) r ⌝ }
 {
     let mut g = set_out(u, first);
+    let mut l = g.lists;
     let mut fates = [0u8; 40];
     let mut count: usize = 0;
     let mut i: usize = 0;
@@ -277,10 +320,8 @@ fn follow_on(
         i += 1;
         let now = g.now;
         let c = now.course;
-        let l = g.lists;
         let t = close::acting_second(o);
-        let from = g.place;
-        let s = pass_to(&mut out[count..], parts, l, c, g.up, from, g.off, t);
+        let s = pass_to(&mut out[count..], parts, l, c, g.up, g.place, g.off, t);
         count += s.count;
         let p = s.place;
         let q = s.ahead;
@@ -289,17 +330,20 @@ fn follow_on(
             g.place = p;
             g.off = s.off;
         } else {
-            let w = end_course(&mut out[count..], parts, l, c, g.up, p, q);
-            count += w;
-            let state = profile::State {
-                level: q.level,
-                off: s.later,
-            };
-            let next = close::begin_course(u, now, o, state);
+            count += end_course(&mut out[count..], parts, l, c, g.up, p, q);
+            let next = begin_next(u, now, o, q, s.later);
             fates[at] = 0;
-            g = set_out(u, next);
+            let d = next.course;
+            let heat = place_of(d.heat);
+            g.now = next;
+            g.up = trajectory::is_rising(d);
+            l.column = u.columns[heat];
+            l.ramp = ramp_of(g.up, u.up, u.down);
+            g.place = trajectory::begin_at(d, d.begin);
+            g.off = close::off_starting(d, next.off);
         }
     }
+    g.lists = l;
     Followed {
         last: g,
         fates,
