@@ -396,7 +396,14 @@ fn used_ordered(
         let g = group_at(os, times, issues, n, t);
         let items = g.items;
         let u = used_of(items, g.count);
-        out = push_found(out, u);
+        match u {
+            Found::One(o) => {
+                let k = out.count;
+                out.items[k] = o;
+                out.count = k + 1;
+            }
+            Found::Nothing => {}
+        }
     }
     out
 }

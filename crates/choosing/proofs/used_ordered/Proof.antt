@@ -5,9 +5,9 @@ use lib.ListN.{length, take, getD}
 use lib.Seq.{length-take-le, getD-take}
 use Rattle.validation.specs.Kept.{effectiveOf, usedOf, group}
 use Rattle.choosing.specs.Working.{noNumbered, pushed, foundList, joined}
-use Rattle.choosing.specs.declared.Found.the-variants.{One}
+use Rattle.choosing.specs.declared.Found.the-variants.{One, Nothing}
 use Rattle.validation.specs.declared.Numbered.{Numbered}
-use Rattle.choosing.proofs.Laws.{begun-all, joined-count, held, time-at}
+use Rattle.choosing.proofs.Laws.{begun-all, held, time-at}
 use Rattle.choosing.proofs.Order.{Reached, reached-none, reached-late, reached-all, reached-more, reached-alone}
 use native.Mathlib.Omega.{arith}
 use borrow.Author.Needs.{needs}
@@ -91,23 +91,52 @@ group-at-requires c κs = search needs
 used-of-requires : tie.Need-used-of-requires Inv-loop μ-loop
 used-of-requires c κs = search needs
 
-push-found-requires : tie.Need-push-found-requires Inv-loop μ-loop
-push-found-requires c κs = search needs
+enum-known-u : tie.Need-enum-known-u Inv-loop μ-loop
+enum-known-u c = search needs
+
+mul-o-3 : tie.Need-mul-o-3 Inv-loop μ-loop
+mul-o-3 c = omega arith
+
+element-set-from-o-2 : tie.Need-element-set-from-o-2 Inv-loop μ-loop
+element-set-from-o-2 c = omega arith
+
+add-out-2 : tie.Need-add-out-2 Inv-loop μ-loop
+add-out-2 c = omega arith
 
 loop-less-2 : tie.Need-loop-less-2 Inv-loop μ-loop
-loop-less-2 c = omega arith
+loop-less-2 c = omega (arith, c .before .before .before .before .before .before .before .run-end .ensures .starts)
 
 loop-again-2 : tie.Need-loop-again-2 Inv-loop μ-loop
+unfolding pushed joined
 loop-again-2 c =
-    let s = c .before .before .before .before .before .before .before .before .before .before .before in
-    let l = c .before .before .before .before .before .before .before .before .before .loop in
+    let s = c .before .before .before .before .before .before .before .before .before .before .before .before .before in
+    let l = c .before .before .before .before .before .before .before .before .before .before .before .loop in
     let os = take (s .args .n) (s .args .t1) in
-    let run = c .before .before .before .before .before .run-end .ensures in
-    let g = c .before .before .before .group-at .ensures in
-    let u = c .before .used-of .result in
-    let e : foundList u ≡ usedOf (group os (getD (s .args .times .now) (l .i) 0)) = c .before .used-of .ensures ∙ ap usedOf (held (g .0) (g .1)) in
-    let p = c .push-found .ensures in
-    (run .ends, rw p (omega (arith, joined-count (l .out) u, run .starts)), rw p (reached-more (s .args .end) os (s .args .times .now) (s .args .n) (long s) (at s) (s .pre .2) (l .i) (l .out) (l .inv .2) (c .before .before .before .before .before .run-end .result) u (omega arith) (omega arith) (omega arith) run e))
+    let run = c .before .before .before .before .before .before .before .run-end .ensures in
+    let g = c .before .before .before .before .before .group-at .ensures in
+    let u = c .before .before .before .used-of .result in
+    let e : foundList u ≡ usedOf (group os (getD (s .args .times .now) (l .i) 0)) = c .before .before .before .used-of .ensures ∙ ap usedOf (held (g .0) (g .1)) in
+    let r = reached-more (s .args .end) os (s .args .times .now) (s .args .n) (long s) (at s) (s .pre .2) (l .i) (l .out) (l .inv .2) (c .before .before .before .before .before .before .before .run-end .result) u (omega arith) (omega arith) (omega arith) run e in
+    (run .ends, omega (arith, run .starts), rw (c .before .u .given .1) at r)
+
+enum-told : tie.Need-enum-told Inv-loop μ-loop
+enum-told c = search needs
+
+loop-less-3 : tie.Need-loop-less-3 Inv-loop μ-loop
+loop-less-3 c = omega arith
+
+loop-again-3 : tie.Need-loop-again-3 Inv-loop μ-loop
+unfolding pushed joined
+loop-again-3 c =
+    let s = c .before .before .before .before .before .before .before .before .before .before .before .before in
+    let l = c .before .before .before .before .before .before .before .before .before .before .loop in
+    let os = take (s .args .n) (s .args .t1) in
+    let run = c .before .before .before .before .before .before .run-end .ensures in
+    let g = c .before .before .before .before .group-at .ensures in
+    let u = c .before .before .used-of .result in
+    let e : foundList u ≡ usedOf (group os (getD (s .args .times .now) (l .i) 0)) = c .before .before .used-of .ensures ∙ ap usedOf (held (g .0) (g .1)) in
+    let r = reached-more (s .args .end) os (s .args .times .now) (s .args .n) (long s) (at s) (s .pre .2) (l .i) (l .out) (l .inv .2) (c .before .before .before .before .before .before .run-end .result) u (omega arith) (omega arith) (omega arith) run e in
+    (run .ends, omega (arith, run .starts), rw (c .enum-told .given .1) at r)
 
 returns-2 : tie.Need-returns-2 Inv-loop μ-loop
 returns-2 c =
@@ -138,7 +167,13 @@ used-ordered-spec =
     loop-again
     group-at-requires
     used-of-requires
-    push-found-requires
+    enum-known-u
+    mul-o-3
+    element-set-from-o-2
+    add-out-2
     loop-less-2
     loop-again-2
+    enum-told
+    loop-less-3
+    loop-again-3
     returns-2)
