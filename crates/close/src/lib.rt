@@ -270,7 +270,7 @@ fn step_up(block: u64, target: u64, v: u64) -> u64
 fn course_from(u: records::UnitData, begin: u32, g: profile::Setting) -> course::Course
     ensures { λ r. ⌜ r ≡ courseFrom u begin g ⌝ }
 {
-    let column = trajectory::column_for(u, g.heat);
+    let column = stops::column_for(u, g.heat);
     let block = level::Level::from_kw(column.block);
     let target = level::Level::from_kw(g.target);
     let grains = step_up(block.grains, target.grains, g.from);
@@ -386,7 +386,7 @@ fn state_after(u: records::UnitData, c: course::Course, before: u32, k: u32) -> 
     ensures { λ r. ⌜ r ≡ byRule (trajectoryOf u c) before k ⌝ }
 {
     let up = trajectory::is_rising(c);
-    let l = trajectory::own_lists(u, c, up);
+    let l = stops::own_lists(u, c, up);
     let mut p = trajectory::begin_at(c, 0);
     let mut off = off_starting(c, before);
     while p.second < k {
@@ -589,7 +589,7 @@ fn add_course(parts: &mut [u64; 49], u: records::UnitData, c: course::Course, en
         × (firstSum 49 (now (parts .exit)) ≤ firstSum 49 (now (parts .entry)) + 47498902319923200) ⌝ }
 {
     let up = trajectory::is_rising(c);
-    let l = trajectory::own_lists(u, c, up);
+    let l = stops::own_lists(u, c, up);
     let target = level::Level::from_kw(c.target);
     let last = seconds_from(c.begin, smaller(end, DAY));
     let mut p = trajectory::begin_at(c, 0);

@@ -26,7 +26,7 @@ use Rattle.profile.specs.Effects.{idle, begun, underWay, courseFrom, goesOn, re
 use Rattle.profile.specs.Profile.{beginOf, spansOf, piecesTo, dayPieces}
 use Rattle.day.specs.Day.{daySeconds}
 use Rattle.trajectory.specs.declared.Place.{Place}
-use Rattle.trajectory.specs.Ways.{headed, listsIn, ownLists, listsBy}
+use Rattle.stops.specs.Ways.{headed, listsIn, ownLists, listsBy}
 use Rattle.trajectory.specs.Walk.{beginning, standing, twiceTo}
 use Rattle.trajectory.proofs.Goes.{standing-here}
 use Rattle.trajectory.proofs.Areas.{twice-here, twice-is}

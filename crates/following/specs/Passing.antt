@@ -14,9 +14,9 @@ use Rattle.course.specs.Lists.{Lists}
 use Rattle.course.specs.Course.{Heading, momentAt, trajectoryOf}
 use Rattle.course.proofs.Near.{Short}
 use Rattle.profile.specs.State.{watch}
-use Rattle.trajectory.specs.declared.OwnLists.{OwnLists}
+use Rattle.stops.specs.declared.OwnLists.{OwnLists}
 use Rattle.trajectory.specs.declared.Place.{Place}
-use Rattle.trajectory.specs.Ways.{headed, ownLists, listsBy}
+use Rattle.stops.specs.Ways.{headed, ownLists, listsBy}
 use Rattle.trajectory.specs.Walk.{momentOf, onward, standing, piecesLeft, twiceTo}
 use Rattle.lines.specs.Text.{laid}
 use Rattle.listing.specs.Listing.{sLines}

@@ -10,7 +10,7 @@ ghost use Rattle.course.specs.Lists.{placeOf};
 ghost use Rattle.course.proofs.Near.{Short};
 ghost use Rattle.validation.specs.Kept.{acting};
 ghost use Rattle.profile.specs.Effects.{begun};
-ghost use Rattle.trajectory.specs.Ways.{headed, listsBy};
+ghost use Rattle.stops.specs.Ways.{headed, listsBy};
 ghost use Rattle.trajectory.proofs.Goes.{Goes};
 ghost use Rattle.keeping.specs.Outcome.{validationOf};
 ghost use Rattle.lines.specs.Text.{laid};
@@ -61,7 +61,7 @@ fn add_flat(parts: &mut [u64; 49], level: u64, from: u32, to: u32)
 // A course from the place p to the second `to`.
 fn add_slope(
     parts: &mut [u64; 49],
-    l: trajectory::OwnLists,
+    l: stops::OwnLists,
     c: course::Course,
     up: bool,
     p: trajectory::Place,
@@ -89,7 +89,7 @@ fn add_slope(
 // The straight piece of a course from p to q.
 fn add_piece(
     parts: &mut [u64; 49],
-    l: trajectory::OwnLists,
+    l: stops::OwnLists,
     c: course::Course,
     up: bool,
     p: trajectory::Place,
@@ -121,7 +121,7 @@ fn add_piece(
 fn lay_piece(
     out: &mut [u8],
     parts: &mut [u64; 49],
-    l: trajectory::OwnLists,
+    l: stops::OwnLists,
     c: course::Course,
     up: bool,
     p: trajectory::Place,
@@ -155,7 +155,7 @@ pub struct Passed {
 fn pass_to(
     out: &mut [u8],
     parts: &mut [u64; 49],
-    l: trajectory::OwnLists,
+    l: stops::OwnLists,
     c: course::Course,
     up: bool,
     from: trajectory::Place,
@@ -200,7 +200,7 @@ fn pass_to(
 fn end_course(
     out: &mut [u8],
     parts: &mut [u64; 49],
-    l: trajectory::OwnLists,
+    l: stops::OwnLists,
     c: course::Course,
     up: bool,
     p: trajectory::Place,
@@ -226,7 +226,7 @@ fn end_course(
 pub struct OnCourse {
     pub now: profile::UnderWay,
     pub up: bool,
-    pub lists: trajectory::OwnLists,
+    pub lists: stops::OwnLists,
     pub place: trajectory::Place,
     pub off: u32,
 }
@@ -237,7 +237,7 @@ fn set_out(u: records::UnitData, now: profile::UnderWay) -> OnCourse
 {
     let c = now.course;
     let up = trajectory::is_rising(c);
-    let lists = trajectory::own_lists(u, c, up);
+    let lists = stops::own_lists(u, c, up);
     let place = trajectory::begin_at(c, c.begin);
     let off = close::off_starting(c, now.off);
     OnCourse {

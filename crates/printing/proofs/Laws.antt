@@ -22,9 +22,9 @@ use Rattle.course.specs.Pieces.{piecesIn}
 use Rattle.course.proofs.Near.{Short}
 use Rattle.profile.specs.Profile.{beginOf, spansOf, dayPieces, rounded}
 use Rattle.day.specs.Day.{halfHours, daySeconds, noCourse, quantityAt}
-use Rattle.trajectory.specs.declared.OwnLists.{OwnLists}
+use Rattle.stops.specs.declared.OwnLists.{OwnLists}
 use Rattle.trajectory.specs.declared.Place.{Place}
-use Rattle.trajectory.specs.Ways.{headed, ownLists, listsBy}
+use Rattle.stops.specs.Ways.{headed, ownLists, listsBy}
 use Rattle.trajectory.specs.Walk.{beginning, pieceBetween, onward, piecesLeft}
 use Rattle.trajectory.proofs.Left.{left-none, onward-first, all-left}
 use Rattle.trajectory.proofs.Own.{own-left}

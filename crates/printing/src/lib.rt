@@ -85,7 +85,7 @@ fn course_width(u: records::UnitData, c: course::Course, n: u32) -> usize
     ensures { λ r. ⌜ (r ≡ length (courseLines u c n)) × (r ≤ 369367187370) ⌝ }
 {
     let up = trajectory::is_rising(c);
-    let l = trajectory::own_lists(u, c, up);
+    let l = stops::own_lists(u, c, up);
     let mut p = trajectory::begin_at(c, c.begin);
     let mut width: usize = 0;
     while p.second < n {
@@ -102,7 +102,7 @@ fn put_course(out: &mut [u8], u: records::UnitData, c: course::Course, n: u32) -
     ensures { λ r. ⌜ (r ≡ length (courseLines u c n)) × (now (out .exit) ≡ laid (courseLines u c n) (now (out .entry))) ⌝ }
 {
     let up = trajectory::is_rising(c);
-    let l = trajectory::own_lists(u, c, up);
+    let l = stops::own_lists(u, c, up);
     let mut p = trajectory::begin_at(c, c.begin);
     let mut at: usize = 0;
     while p.second < n {

@@ -19,7 +19,7 @@ use Rattle.course.specs.Pieces.{piece, twiceArea}
 use Rattle.course.proofs.Rule.{at}
 use Rattle.course.proofs.Pieces.{traces-area}
 use Rattle.trajectory.specs.declared.Place.{Place}
-use Rattle.trajectory.specs.Ways.{headed, listsIn}
+use Rattle.stops.specs.Ways.{headed, listsIn}
 use Rattle.trajectory.specs.Walk.{momentOf, beginning, twiceBetween, standing, twiceTo}
 use Rattle.trajectory.proofs.Seconds.{after-add}
 use Rattle.trajectory.proofs.Goes.{Goes}

@@ -14,7 +14,8 @@ use Rattle.course.proofs.Ahead.{next-past}
 use Rattle.course.proofs.Rule.{at, after-rest}
 use Rattle.course.proofs.Pieces.{Room, Traces, line, room-less}
 use Rattle.trajectory.specs.declared.Place.{Place}
-use Rattle.trajectory.specs.Walk.{momentOf, afterHold, afterRest, afterRun, afterShort, along, segmentTo, segmentFrom, onward, standing}
+use Rattle.stops.specs.Ahead.{segmentTo, segmentFrom}
+use Rattle.trajectory.specs.Walk.{momentOf, afterHold, afterRest, afterRun, afterShort, along, onward, standing}
 use Rattle.trajectory.proofs.Onward.{full-way, full-some, along-stuck, along-short, along-run, onward-hold, onward-rest, onward-along}
 use Rattle.trajectory.proofs.Seconds.{holds, stuck, runs, stops, after-add}
 

@@ -1,8 +1,3 @@
-pub mod Arrays
-pub mod Rates
-pub mod Holds
-pub mod Nexts
-pub mod Sides
 pub mod Onward
 pub mod Seconds
 pub mod Goes
@@ -10,6 +5,4 @@ pub mod Courses
 pub mod Left
 pub mod Areas
 pub mod Own
-pub mod Arrivals
 pub mod Noted
-pub mod Pieced

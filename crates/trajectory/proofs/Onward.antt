@@ -14,8 +14,9 @@ use Rattle.course.specs.Course.{Heading, rising, falling, toward, gap, nextStop
 use Rattle.course.proofs.Near.{Past, gap-to}
 use Rattle.course.proofs.Ahead.{next-past}
 use Rattle.trajectory.specs.declared.Place.{Place}
-use Rattle.trajectory.specs.Ways.{headed}
-use Rattle.trajectory.specs.Walk.{Reaches, afterHold, afterRest, afterRun, afterShort, along, segmentTo, segmentFrom, onward}
+use Rattle.stops.specs.Ways.{headed}
+use Rattle.stops.specs.Ahead.{segmentTo, segmentFrom}
+use Rattle.trajectory.specs.Walk.{Reaches, afterHold, afterRest, afterRun, afterShort, along, onward}
 
 pub room-up : (up : Bool) (v m : ℕ) → up ≡ true → Reaches (headed up) v m → v + m ≤ 18446744073709551615
 room-up true v m e r = r

@@ -13,10 +13,11 @@ use Rattle.course.specs.declared.Course.{Course}
 use Rattle.course.specs.Lists.{Lists, ratesOf, listsOf}
 use Rattle.course.specs.Course.{Heading, Moment, toward, gap, inUse, rateAt, breaksInUse, triggers, candidates, nextStop, holdAt, arrived, second, after, stopsFrom, segmentsOf}
 use Rattle.course.specs.Pieces.{piece, piecesOf}
-use Rattle.trajectory.specs.declared.OwnLists.{OwnLists}
+use Rattle.stops.specs.declared.OwnLists.{OwnLists}
 use Rattle.trajectory.specs.declared.Place.{Place}
-use Rattle.trajectory.specs.Ways.{headed, listsIn, ownLists, listsBy}
-use Rattle.trajectory.specs.Walk.{momentOf, afterHold, afterRest, along, segmentTo, segmentFrom, onward, standing, segmentsFrom, piecesLeft, twiceTo}
+use Rattle.stops.specs.Ways.{headed, listsIn, ownLists, listsBy}
+use Rattle.stops.specs.Ahead.{segmentTo, segmentFrom}
+use Rattle.trajectory.specs.Walk.{momentOf, afterHold, afterRest, along, onward, standing, segmentsFrom, piecesLeft, twiceTo}
 use Rattle.trajectory.proofs.Areas.{area-same}
 
 -- two lists that a heading cannot tell apart

@@ -14,6 +14,7 @@ use Rattle.course.specs.Course.{Heading, rising, falling, trajectoryOf, Moment,
 use Rattle.course.specs.declared.Piece.{Piece}
 use Rattle.course.specs.Pieces.{piece, piecesOf, piecesIn, twiceArea}
 use Rattle.trajectory.specs.declared.Place.{Place}
+use Rattle.stops.specs.Ahead.{segmentFrom}
 
 -- room to move v by m: up to the largest number of 64 bits, down to 0
 abbrev pub Reaches : Heading → ℕ → ℕ → Type 0
@@ -59,17 +60,9 @@ module _ (h : Heading) where
       (pick (ltb (s .way) (s .rate)) (afterShort p s) (afterRun (min (s .way / s .rate) (n - p .second)) p s))
 
 module _ (h : Heading) (l : Lists) (t : ℕ) where
-  -- the segment from v to w: way, rate, and the hold there
-  unfoldable pub segmentTo : ℕ → ℕ → Segment
-  segmentTo v w = record { way = gap v w; rate = rateAt h l v; hold = holdAt h l t w }
-
-  -- the segment from v to its next stop
-  unfoldable pub segmentFrom : ℕ → Segment
-  segmentFrom v = segmentTo v (nextStop h l t v)
-
   -- the end of the straight piece that begins at p, cut at the second n
   unfoldable pub onward : ℕ → Place → Place
-  onward n p = pick (ltb 0 (p .left)) (afterHold n p) (pick (eqb (p .level) t) (afterRest n p) (along h n p (segmentFrom (p .level))))
+  onward n p = pick (ltb 0 (p .left)) (afterHold n p) (pick (eqb (p .level) t) (afterRest n p) (along h n p (segmentFrom h l t (p .level))))
 
   -- where the rule of one second stands at the second n
   unfoldable pub standing : ℕ → Place → Place

@@ -8,7 +8,7 @@ use Rattle.close.proofs.course_from.Reads as reads
 use Rattle.close.proofs.course_from.Lts as lts
 use Rattle.close.proofs.step_up.Reads as step-up-reads
 use Rattle.level.proofs.Level.from_kw.Reads as from-kw-reads
-use Rattle.trajectory.proofs.column_for.Reads as column-for-reads
+use Rattle.stops.proofs.column_for.Reads as column-for-reads
 
 -- src/lib.rt:249:9
 column-for-requires : tie.Need-column-for-requires

@@ -2,7 +2,7 @@ use native.Mathlib.Omega.{arith}
 use Prim.Native.Nat.{ℕ, _+_, _*_, _-_, _/_, _<_}
 use lib.ListN.{getD}
 use Rattle.level.specs.Level.{grains}
-use Rattle.trajectory.specs.Ways.{headed, listsBy}
+use Rattle.stops.specs.Ways.{headed, listsBy}
 use Rattle.trajectory.specs.Walk.{twiceTo}
 use Rattle.following.proofs.Adding.{adds-same}
 use Rattle.following.proofs.Areas.{level-area, piece-fits, piece-adds}

@@ -5,7 +5,7 @@ use borrow.Author.Needs.{needs}
 use Prim.Native.Nat.{ℕ, _+_, _*_, _-_, min, _≤_, _<_}
 use Rattle.level.specs.Level.{grains}
 use Rattle.course.proofs.Near.{Short}
-use Rattle.trajectory.specs.Ways.{headed, listsBy}
+use Rattle.stops.specs.Ways.{headed, listsBy}
 use Rattle.trajectory.specs.Walk.{standing, twiceTo}
 use Rattle.trajectory.proofs.Goes.{standing-here}
 use Rattle.following.specs.Passing.{AddsOn, Summed}

@@ -4,7 +4,7 @@ use native.Mathlib.Omega.{arith}
 use Prim.Native.Nat.{ℕ, _<_}
 use lib.ListN.{length}
 use Rattle.level.specs.Level.{grains}
-use Rattle.trajectory.specs.Ways.{headed, listsBy}
+use Rattle.stops.specs.Ways.{headed, listsBy}
 use Rattle.lines.specs.Text.{laid}
 use Rattle.following.proofs.Pass.{last-some, last-none, adds-nothing}
 use borrow.Author.Needs.{needs}

@@ -14,7 +14,7 @@ use Rattle.choosing.proofs.Laws.{left-cons, left-none}
 use Rattle.profile.specs.declared.UnderWay.{UnderWay}
 use Rattle.profile.specs.declared.State.{State}
 use Rattle.profile.specs.Effects.{idle, begun}
-use Rattle.trajectory.specs.declared.OwnLists.{OwnLists}
+use Rattle.stops.specs.declared.OwnLists.{OwnLists}
 use Rattle.printing.specs.Rest.{coursesLines}
 use Rattle.following.specs.declared.OnCourse.{OnCourse}
 use Rattle.lines.proofs.Laws.{part-length}

@@ -1,0 +1,5 @@
+pub mod Arrays
+pub mod Rates
+pub mod Holds
+pub mod Nexts
+pub mod Sides
