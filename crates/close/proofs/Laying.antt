@@ -12,6 +12,7 @@ use lib.Seq.{getD-take, take-set-lt, set-append-left}
 use borrow.Author.Tests.{le-leb, lt-leb, eq-eqb, ne-eqb}
 use Rattle.level.specs.Choice.{pick}
 use Rattle.level.specs.Lists.{All, filled}
+use Rattle.level.proofs.Lists.{by-bool}
 use Rattle.records.specs.declared.UnitData.{UnitData}
 use Rattle.records.specs.declared.Instruction.{Instruction}
 use Rattle.records.specs.declared.Effect.the-variants.{Fail}
@@ -95,10 +96,6 @@ module _ (acts : List Numbered) (own : List ℕ) (n : ℕ) where
 -- ---- no mark gives fate 1
 abbrev NotOne : List Mark → Type 0
 NotOne ms = All (λ (m : Mark). eqb (m .fate) 1 ≡ false) ms
-
-by-bool : {P : Type 0} (b : Bool) → (b ≡ true → P) → (b ≡ false → P) → P
-by-bool true t f = t refl
-by-bool false t f = f refl
 
 all-append : (xs ys : List Mark) → NotOne xs → NotOne ys → NotOne (xs ++ ys)
 all-append [] ys p q = q

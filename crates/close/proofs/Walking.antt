@@ -45,15 +45,6 @@ unfolding lastOf
 last-one c d [] = refl
 last-one c d (x ∷ us) = last-one x d us
 
-all-at : {A : Type 0} (P : A → Type 0) (xs : List A) (i : ℕ) (d : A) → i < length xs → All P xs → P (getD xs i d)
-all-at P [] i d h a = absurd (omega arith)
-all-at P (x ∷ xs) zero d h a = a .0
-all-at P (x ∷ xs) (suc i) d h a = all-at P xs i d (omega arith) (a .1)
-
--- a fact of each of the first n places
-pub all-first : {A : Type 0} (P : A → Type 0) (xs : List A) (n i : ℕ) (d : A) → i < n → n ≤ length xs → All P (take n xs) → P (getD xs i d)
-all-first P xs n i d h k a = rw (getD-take n xs i d h) at (all-at P (take n xs) i d (omega (arith, length-take-le n xs k)) a)
-
 module _ (u : UnitData) where
   -- the walk holds the beginning of a whole; the rest is what those left give
   pub record Going (w : Walk) (left : List Numbered) (whole : Followed) : Type 0 where

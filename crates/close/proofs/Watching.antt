@@ -24,7 +24,7 @@ use Rattle.trajectory.proofs.Seconds.{after-add}
 use Rattle.trajectory.proofs.Goes.{Goes, onward-goes}
 use Rattle.trajectory.proofs.Courses.{heading-is, begins-short}
 use Rattle.profile.specs.State.{held, watchNext, watch, byRule}
-use Rattle.close.specs.Watching.{offStarting, offBetween}
+use Rattle.effects.specs.Watching.{offStarting, offBetween}
 
 -- the one piece of a straight part
 the-line : (h : Heading) (f : ℕ → ℕ) (a b v w : ℕ) → a < b → Traces h f a b (piece a b v w) → Line h f (record { from = a; to = b; enter = v; leave = w })

@@ -38,7 +38,8 @@ use Rattle.close.specs.declared.Walk.{Walk}
 use Rattle.close.specs.declared.Fates.{Fates}
 use Rattle.close.specs.Walk.{fateIn, lastOf, walkOf, walkAll}
 use Rattle.close.specs.Laying.{overAll, laidAll, marksFrom}
-use Rattle.close.specs.Finding.{arraysOf, findingOf, findingBy, someAbove}
+use Rattle.summing.specs.Summing.{someAbove}
+use Rattle.close.specs.Finding.{arraysOf, findingOf, findingBy}
 use Rattle.close.proofs.Laying.{own-marks, fates-found}
 
 -- ---- the last course

@@ -1,18 +1,16 @@
--- What close finds, as arrays; and whether a quantity lies above the short-term maximum.
+-- What close finds, as arrays.
 -- Assumes nothing.
 use Prim.Native.Nat.{ℕ, suc}
 use mathlib.Core.List.{List}
-use mathlib.Core.Bool.{Bool}
-use lib.Dec.{ltb}
 use lib.ListN.{length, take}
-use Rattle.level.specs.Lists.{filled, some, listFrom}
+use Rattle.level.specs.Lists.{filled, listFrom}
 use Rattle.records.specs.declared.UnitData.{UnitData}
 use Rattle.records.specs.declared.Opening.{Opening}
 use Rattle.records.specs.declared.Instruction.{Instruction}
 use Rattle.profile.specs.State.{byRule}
 use Rattle.profile.specs.Effects.{stateAt}
 use Rattle.profile.specs.Profile.{Found, found, paper, spansOf, twinTo, closingBy}
-use Rattle.day.specs.Day.{halfHours, daySeconds, noCourse, quantityAt}
+use Rattle.day.specs.Day.{halfHours, daySeconds, noCourse}
 use Rattle.close.specs.declared.Walk.{Walk}
 use Rattle.close.specs.declared.Fates.{Fates}
 use Rattle.close.specs.declared.Finding.{Finding}
@@ -40,7 +38,3 @@ findingBy u w f = record {
   sums = listFrom (twinTo (spansOf u daySeconds (take (w .started) (w .courses)))) 0 (suc halfHours);
   closing = closingBy (w .now) (stateAt byRule u (w .now) daySeconds);
 }
-
--- "27 at close, a quantity above the short-term maximum", by the sums at the boundaries: of n half-hours from the boundary i on
-unfoldable pub someAbove : ℕ → List ℕ → ℕ → ℕ → Bool
-someAbove most sums i n = some (λ q. ltb most q) (listFrom (quantityAt sums) i n)

@@ -23,7 +23,8 @@ use Rattle.day.specs.declared.Day.{Day}
 use Rattle.day.specs.declared.Stepped.{Stepped}
 use Rattle.day.specs.Day.{empty, entered, withUnit, withOpening, withInstruction, closedWith, foundIn}
 use Rattle.day.specs.Step.{kindOf, bodyOf, tooHigh, dayWith, answerOf, stepBy, stepOf}
-use Rattle.day.proofs.Passed.{never, by-bool, is-accepted, Passed, passed}
+use Rattle.level.proofs.Lists.{by-bool}
+use Rattle.day.proofs.Passed.{never, is-accepted, Passed, passed}
 use Rattle.contract.specs.Calls.{Call, sends, asks, after, letIn}
 use Rattle.contract.specs.LetIn.{ofKind, bodyOfKind, unitIn, openingIn, instructionsIn}
 

@@ -31,7 +31,8 @@ use Rattle.profile.proofs.Room.{Sized, sized, PieceBelow, ClosingBelow, pieces-
 use Rattle.day.specs.declared.Day.{Day}
 use Rattle.day.specs.Day.{halfHours, daySeconds, empty, entered, noCourse, closedWith, fatesIn, coursesIn, quantityAt, quantitiesIn, foundIn}
 use Rattle.day.specs.Step.{tooHigh}
-use Rattle.day.proofs.Passed.{never, by-bool}
+use Rattle.level.proofs.Lists.{by-bool}
+use Rattle.day.proofs.Passed.{never}
 use Rattle.listing.specs.Listing.{listing, printedDay, listAnswer}
 use Rattle.listing.proofs.Room.{enough}
 use Rattle.contract.specs.Calls.{Call, dayAfter, recordsOf}

@@ -17,7 +17,8 @@ use Rattle.profile.specs.Profile.{paper}
 use Rattle.day.specs.declared.Day.{Day}
 use Rattle.day.specs.Day.{empty, foundIn}
 use Rattle.day.specs.Step.{kindOf, bodyOf, dayWith, answerOf, stepBy, stepOf}
-use Rattle.day.proofs.Passed.{never, by-bool, is-accepted, Passed, passed}
+use Rattle.level.proofs.Lists.{by-bool}
+use Rattle.day.proofs.Passed.{never, is-accepted, Passed, passed}
 use Rattle.lines.specs.Text.{laid}
 use Rattle.listing.specs.Listing.{printedDay, listAnswer, listOf, lentAfter}
 use Rattle.contract.specs.Calls.{Call, sends, asks, after, letIn, wrote}

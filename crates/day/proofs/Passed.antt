@@ -24,10 +24,6 @@ use Rattle.day.specs.Step.{kindOf, bodyOf, noBytes, unknownKind, tooFew,
 pub never : {P : Type 0} → false ≡ true → P
 never e = absurd (true≢false (sym e))
 
-pub by-bool : {P : Type 0} (b : Bool) → (b ≡ true → P) → (b ≡ false → P) → P
-by-bool true t f = t refl
-by-bool false t f = f refl
-
 -- ---- answers
 pub is-accepted : (a : Answer) → accepted a ≡ true → a ≡ Accepted
 is-accepted Accepted e = refl

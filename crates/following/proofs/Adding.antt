@@ -7,8 +7,8 @@ use native.Mathlib.Decide.{decLe}
 use native.Mathlib.Nat.{zero-mul, mul-le-mul-left}
 use native.Mathlib.Omega.{arith}
 use lib.ListN.{length, getD, set, length-set}
-use Rattle.close.specs.Summing.{firstSum}
-use Rattle.close.proofs.Summing.{first-part}
+use Rattle.summing.specs.Summing.{firstSum}
+use Rattle.summing.proofs.Summing.{first-part}
 use Rattle.following.specs.Passing.{Summed}
 
 -- a part after the place j changed; a part up to it raised by v

@@ -9,6 +9,7 @@ use native.Mathlib.Omega.{arith}
 use lib.Dec.{ltb}
 use lib.ListN.{drop}
 use Rattle.level.specs.Level.{grains}
+use Rattle.level.proofs.Lists.{by-bool}
 use Rattle.segments.specs.Segments.{area}
 use Rattle.records.specs.declared.UnitData.{UnitData}
 use Rattle.course.specs.declared.Course.{Course}
@@ -71,10 +72,6 @@ module _ (u : UnitData) where
   follow-none : (now : UnderWay) → follow byRule u now [] ≡ record { marks = []; courses = now ∷ [] }
   unfolding follow
   follow-none now = refl
-
-  by-bool : {P : Type 0} (b : Bool) → (b ≡ true → P) → (b ≡ false → P) → P
-  by-bool true t f = t refl
-  by-bool false t f = f refl
 
   -- the one under way comes first
   pub from-head : (now : UnderWay) (os : List Numbered) → coursesFrom u now os ≡ now .course ∷ coursesAfter u now os

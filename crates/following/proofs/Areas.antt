@@ -18,7 +18,7 @@ use Rattle.trajectory.specs.declared.Place.{Place}
 use Rattle.trajectory.specs.Walk.{momentOf, standing, twiceBetween, twiceTo}
 use Rattle.trajectory.proofs.Seconds.{after-add}
 use Rattle.trajectory.proofs.Goes.{Goes}
-use Rattle.trajectory.proofs.Areas.{area-same, twice-on, twice-here, twice-low}
+use Rattle.trajectory.proofs.Areas.{area-from, area-same, twice-on, twice-here, twice-low}
 use Rattle.following.specs.Passing.{AddsOn, Summed}
 use Rattle.following.proofs.Adding.{adds-none, adds-on, summed-on, part-fits}
 
@@ -26,13 +26,6 @@ sum-from : (g : ℕ → ℕ) (x i n : ℕ) → sum g (x + i) n ≡ sum (λ j. g 
 unfolding sum
 sum-from g x i zero = refl
 sum-from g x i (suc n) = ap (λ (k : ℕ). g (x + i) + k) (ap (λ (j : ℕ). sum g j n) {x = suc (x + i)} {y = x + suc i} (omega arith) ∙ sum-from g x (suc i) n)
-
--- counted from x on
-area-from : (f : ℕ → ℕ) (x n : ℕ) → area f x n ≡ area (λ j. f (x + j)) 0 n
-unfolding area
-area-from f x n =
-    ap (λ (k : ℕ). sum (λ j. f j + f (suc j)) k n) {x = x} {y = x + 0} (omega arith) ∙ sum-from (λ j. f j + f (suc j)) x 0 n
-    ∙ sum-eq (λ j. f (x + j) + f (suc (x + j))) (λ j. f (x + j) + f (x + suc j)) (λ j. ap (λ (k : ℕ). f (x + j) + f k) (omega arith)) 0 n
 
 module _ (h : Heading) (l : Lists) (t : ℕ) (p : Place) where
   abbrev path : Place → ℕ → ℕ

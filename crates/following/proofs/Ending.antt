@@ -10,7 +10,7 @@ use Rattle.course.specs.declared.Course.{Course}
 use Rattle.stops.specs.Ways.{headed, listsBy}
 use Rattle.trajectory.specs.Walk.{twiceTo}
 use Rattle.lines.specs.Text.{laid}
-use Rattle.close.specs.Summing.{firstSum}
+use Rattle.summing.specs.Summing.{firstSum}
 use Rattle.printing.proofs.Laws.{Laying, lay-next, lay-more, lay-all}
 use Rattle.following.specs.declared.Passed.{Passed}
 use Rattle.following.specs.declared.OnCourse.{OnCourse}

@@ -29,11 +29,11 @@ use Rattle.listing.specs.Listing.{fLines}
 use Rattle.close.specs.declared.Walk.{Walk}
 use Rattle.close.specs.declared.Fates.{Fates}
 use Rattle.close.specs.declared.Finding.{Finding}
-use Rattle.close.specs.Summing.{firstSum}
+use Rattle.summing.specs.Summing.{firstSum}
 use Rattle.close.specs.Laying.{laidAll, marksFrom}
 use Rattle.close.specs.Walk.{walkOf, walkAll}
 use Rattle.close.specs.Finding.{arraysOf, findingOf, findingBy}
-use Rattle.close.proofs.Summing.{boundaries-same}
+use Rattle.summing.proofs.Summing.{boundaries-same}
 use Rattle.close.proofs.Whole.{acts-are, acting-few, courses-are, starts-fit, find-is}
 use Rattle.printing.specs.Rest.{fateLines, coursesLines, quantityLines, closingLine}
 use Rattle.following.specs.Following.{Ordered, LowStart, coursesFrom, fatesBy, lastIn}

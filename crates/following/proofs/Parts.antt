@@ -12,8 +12,8 @@ use Rattle.profile.specs.Profile.{rounded}
 use Rattle.profile.proofs.Whole.{list-same}
 use Rattle.day.specs.Day.{quantityAt}
 use Rattle.listing.specs.Listing.{qLines}
-use Rattle.close.specs.Summing.{firstSum}
-use Rattle.close.proofs.Summing.{first-more, first-part}
+use Rattle.summing.specs.Summing.{firstSum}
+use Rattle.summing.proofs.Summing.{first-more, first-part}
 use Rattle.printing.specs.Rest.{closingLine, runEnd}
 use Rattle.printing.proofs.Laws.{end-on, end-here, quantities-left, quantities-all}
 use Rattle.following.specs.Listing.{partAt, partLines, endLines}

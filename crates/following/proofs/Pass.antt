@@ -25,7 +25,7 @@ use Rattle.trajectory.proofs.Goes.{Goes, onward-goes, standing-on, standing-her
 use Rattle.trajectory.proofs.Own.{own-onward}
 use Rattle.lines.specs.Text.{laid}
 use Rattle.lines.proofs.Laws.{laid-length, laid-part}
-use Rattle.close.specs.Watching.{offBetween}
+use Rattle.effects.specs.Watching.{offBetween}
 use Rattle.printing.specs.Rest.{pieceLine}
 use Rattle.printing.proofs.Laws.{pieces-more}
 use Rattle.following.specs.Passing.{AddsOn, Summed, linesLeft, lastLine, Watching, Roomy, Passing}

@@ -32,8 +32,8 @@ use Rattle.stops.specs.Ways.{headed, rampFor, ownLists, listsBy}
 use Rattle.trajectory.specs.Walk.{beginning, onward, twiceTo}
 use Rattle.trajectory.proofs.Goes.{Goes, onward-goes}
 use Rattle.lines.specs.Text.{laid}
-use Rattle.close.specs.Summing.{firstSum}
-use Rattle.close.specs.Watching.{offStarting}
+use Rattle.summing.specs.Summing.{firstSum}
+use Rattle.effects.specs.Watching.{offStarting}
 use Rattle.close.specs.Walk.{fateIn, lastOf}
 use Rattle.printing.specs.Rest.{pieceLine, coursesLines}
 use Rattle.printing.proofs.Laws.{Laying, lay-none, lay-room, lay-next, lay-more, pieces-more, pieces-none}

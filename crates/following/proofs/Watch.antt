@@ -22,7 +22,7 @@ use Rattle.stops.specs.Ways.{headed, listsIn}
 use Rattle.trajectory.specs.Walk.{momentOf, beginning, onward}
 use Rattle.trajectory.proofs.Goes.{Goes, onward-goes}
 use Rattle.trajectory.proofs.Courses.{heading-is, begins-short}
-use Rattle.close.specs.Watching.{offStarting, offBetween}
+use Rattle.effects.specs.Watching.{offStarting, offBetween}
 use Rattle.close.proofs.Watching.{moment-on, off-on, state-there}
 use Rattle.following.specs.Passing.{Watching}
 use Rattle.following.specs.Following.{setOut, LowStart, OnIt}

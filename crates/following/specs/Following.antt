@@ -21,8 +21,8 @@ use Rattle.day.specs.Day.{daySeconds}
 use Rattle.stops.specs.Ways.{headed, ownLists, listsBy}
 use Rattle.trajectory.specs.Walk.{beginning, twiceTo}
 use Rattle.lines.specs.Text.{laid}
-use Rattle.close.specs.Summing.{firstSum}
-use Rattle.close.specs.Watching.{offStarting}
+use Rattle.summing.specs.Summing.{firstSum}
+use Rattle.effects.specs.Watching.{offStarting}
 use Rattle.close.specs.Walk.{fateIn, lastOf}
 use Rattle.printing.specs.Rest.{coursesLines}
 use Rattle.printing.proofs.Laws.{Laying}

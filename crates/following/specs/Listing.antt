@@ -10,7 +10,7 @@ use Rattle.records.specs.declared.Instruction.{Instruction}
 use Rattle.profile.specs.declared.Closing.{Closing}
 use Rattle.profile.specs.Profile.{rounded}
 use Rattle.listing.specs.Listing.{qLines}
-use Rattle.close.specs.Summing.{firstSum}
+use Rattle.summing.specs.Summing.{firstSum}
 use Rattle.close.specs.declared.Finding.{Finding}
 use Rattle.close.specs.Finding.{findingOf}
 use Rattle.printing.specs.Rest.{fateLines, coursesLines, quantityLines, closingLine}

@@ -20,7 +20,7 @@ use Rattle.stops.specs.Ways.{headed, ownLists, listsBy}
 use Rattle.trajectory.specs.Walk.{momentOf, onward, standing, piecesLeft, twiceTo}
 use Rattle.lines.specs.Text.{laid}
 use Rattle.listing.specs.Listing.{sLines}
-use Rattle.close.specs.Summing.{firstSum}
+use Rattle.summing.specs.Summing.{firstSum}
 use Rattle.printing.specs.Rest.{pieceLine}
 use Rattle.following.specs.declared.Passed.{Passed}
 

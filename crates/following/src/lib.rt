@@ -14,7 +14,7 @@ ghost use Rattle.stops.specs.Ways.{headed, listsBy};
 ghost use Rattle.trajectory.proofs.Goes.{Goes};
 ghost use Rattle.keeping.specs.Outcome.{validationOf};
 ghost use Rattle.lines.specs.Text.{laid};
-ghost use Rattle.close.specs.Summing.{firstSum};
+ghost use Rattle.summing.specs.Summing.{firstSum};
 ghost use Rattle.profile.specs.Profile.{rounded};
 ghost use Rattle.printing.specs.Rest.{pieceLine, coursesLines, runEnd};
 ghost use Rattle.following.specs.Passing.{AddsFlat, AddsOn, Summed, linesLeft, lastLine, Roomy, Passing};
@@ -25,15 +25,6 @@ ghost use Rattle.following.specs.Listing.{partAt, partLines, endLines, l
 const DAY: u32 = 86400;
 
 const HALF_HOUR: u32 = 1800;
-
-fn smaller(a: u32, b: u32) -> u32
-    ensures { λ r. ⌜ r ≡ min a b ⌝ }
-{
-    if a <= b {
-        return a;
-    }
-    b
-}
 
 // ---- areas, added half-hour by half-hour
 
@@ -51,7 +42,7 @@ fn add_flat(parts: &mut [u64; 49], level: u64, from: u32, to: u32)
     while at < to {
         b += 1;
         x += HALF_HOUR;
-        let n = smaller(x, to);
+        let n = level::smaller(x, to);
         let time = n - at;
         parts[b] = parts[b] + (time as u64) * twice;
         at = n;
@@ -79,7 +70,7 @@ fn add_slope(
     while at.second < to {
         b += 1;
         x += HALF_HOUR;
-        let n = smaller(x, to);
+        let n = level::smaller(x, to);
         let s = trajectory::sum_to(l, c, up, at, n);
         parts[b] = parts[b] + s.twice;
         at = s.place;
@@ -172,7 +163,7 @@ fn pass_to(
     let mut count: usize = 0;
     while p.second < n {
         let q = trajectory::walk_on(l, c, up, p, n);
-        let later = close::off_between(p, q, off);
+        let later = effects::off_between(p, q, off);
         if n <= q.second {
             return Passed {
                 place: p,
@@ -239,7 +230,7 @@ fn set_out(u: records::UnitData, now: profile::UnderWay) -> OnCourse
     let up = trajectory::is_rising(c);
     let lists = stops::own_lists(u, c, up);
     let place = trajectory::begin_at(c, c.begin);
-    let off = close::off_starting(c, now.off);
+    let off = effects::off_starting(c, now.off);
     OnCourse {
         now,
         up,
@@ -283,7 +274,7 @@ fn begin_next(
 {
     let level = q.level;
     let state = profile::State { level, off };
-    close::begin_course(u, now, o, state)
+    effects::begin_course(u, now, o, state)
 }
 
 // The last course that was begun, the fates of those that acted in acting order, and how many bytes were written.
@@ -320,12 +311,12 @@ fn follow_on(
         i += 1;
         let now = g.now;
         let c = now.course;
-        let t = close::acting_second(o);
+        let t = effects::acting_second(o);
         let s = pass_to(&mut out[count..], parts, l, c, g.up, g.place, g.off, t);
         count += s.count;
         let p = s.place;
         let q = s.ahead;
-        if close::stays_idle(o, q.level, now.maximised) {
+        if effects::stays_idle(o, q.level, now.maximised) {
             fates[at] = 7;
             g.place = p;
             g.off = s.off;
@@ -340,7 +331,7 @@ fn follow_on(
             l.column = u.columns[heat];
             l.ramp = ramp_of(g.up, u.up, u.down);
             g.place = trajectory::begin_at(d, d.begin);
-            g.off = close::off_starting(d, next.off);
+            g.off = effects::off_starting(d, next.off);
         }
     }
     g.lists = l;
@@ -521,7 +512,7 @@ pub fn list_open(
 {
     let v = validated(instructions, count);
     let acts = v.acts;
-    let first = close::open_course(u, o);
+    let first = effects::open_course(u, o);
     let from = fates_room(count);
     let mut parts = [0u64; 49];
     let s = follow_day(&mut out[from..], &mut parts, u, first, acts, v.acting);

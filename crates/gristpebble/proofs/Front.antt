@@ -22,7 +22,8 @@ use Rattle.day.specs.declared.Stepped.{Stepped}
 use Rattle.day.specs.declared.Ran.{Ran}
 use Rattle.day.specs.Day.{empty}
 use Rattle.day.specs.Step.{kindOf, bodyOf, noBytes, unknownKind, tooFew, secondOne, beforeUnit, tooMany, notReady, fieldAnswer, tooHigh, quantityTooHigh, answerBy, dayWith, stepBy}
-use Rattle.day.proofs.Passed.{never, by-bool}
+use Rattle.level.proofs.Lists.{by-bool}
+use Rattle.day.proofs.Passed.{never}
 use Rattle.taking.proofs.Laws.{step-used}
 use Rattle.contract.specs.Program.{runBy, ranBy}
 

@@ -7,6 +7,7 @@ use mathlib.Core.List.{List}
 use mathlib.Core.Bool.{true, false, not}
 use lib.ListN.{length, take, drop, length-drop}
 use lib.Seq.{take-all, drop-drop}
+use Rattle.level.proofs.Lists.{tail-is}
 use Rattle.records.specs.declared.Answer.{Answer}
 use Rattle.records.specs.declared.Answer.the-variants.{Accepted, Refused}
 use Rattle.records.specs.declared.Refusal.{Refusal}
@@ -29,9 +30,6 @@ use Rattle.records.specs.Records.{instructionOf}
 use Rattle.taking.specs.Kinds.{accept, LetsIn}
 use Rattle.taking.proofs.Laws.{step-used, let-in}
 use Rattle.contract.specs.Program.{runBy, ranBy}
-
-pub tail-is : (n : ℕ) (s : List ℕ) → take (length s - n) (drop n s) ≡ drop n s
-tail-is n s = take-all (length s - n) (drop n s) (simp length-drop (omega arith))
 
 -- what n records at most come to, from the place at on
 abbrev pub rest : ℕ → Day → List ℕ → ℕ → Ran

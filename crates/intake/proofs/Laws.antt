@@ -11,6 +11,7 @@ use lib.Seq.{take-all, drop-drop, getD-drop}
 use borrow.Author.Tests.{le-ltb, ltb-false}
 use Rattle.level.specs.Level.{grains}
 use Rattle.level.specs.Lists.{some, listFrom}
+use Rattle.level.proofs.Lists.{tail-is}
 use Rattle.records.specs.declared.Column.{Column}
 use Rattle.records.specs.declared.UnitData.{UnitData}
 use Rattle.records.specs.declared.Opening.{Opening}
@@ -34,9 +35,6 @@ use Rattle.contract.specs.Program.{runBy, ranBy}
 use Rattle.intake.specs.declared.Opened.{Opened}
 use Rattle.intake.specs.Fronts.{UnitIn, OpeningIn}
 use Rattle.intake.specs.Opened.{dayWith, closedRun}
-
-tail-is : (n : ℕ) (s : List ℕ) → take (length s - n) (drop n s) ≡ drop n s
-tail-is n s = take-all (length s - n) (drop n s) (simp length-drop (omega arith))
 
 -- ---- a step within a run
 

@@ -1,5 +1,6 @@
 // Levels in grains.
 ghost use mathlib.Core.Path.{_≡_};
+ghost use Prim.Native.Nat.{min, max};
 ghost use Rattle.level.specs.Level.{fromKw};
 
 // A level. A grain is 1/60 kW, so that a rate of r kW a minute is r grains a second. (The grain is document 01's own unit.)
@@ -21,4 +22,24 @@ impl Level {
             grains: Level::GRAINS_IN_A_KW * wide,
         }
     }
+}
+
+// The smaller of two figures.
+pub fn smaller(a: u32, b: u32) -> u32
+    ensures { λ r. ⌜ r ≡ min a b ⌝ }
+{
+    if a <= b {
+        return a;
+    }
+    b
+}
+
+// The larger of two figures.
+pub fn larger(a: u32, b: u32) -> u32
+    ensures { λ r. ⌜ r ≡ max a b ⌝ }
+{
+    if a <= b {
+        return b;
+    }
+    a
 }

@@ -9,16 +9,13 @@ use lib.Dec.{ltb, leb, eqb}
 use lib.ListN.{length, getD}
 use borrow.Author.Tests.{ltb-true, ltb-false, le-leb, lt-leb, eq-eqb, ne-eqb, eqb-true}
 use Rattle.level.specs.Choice.{pick}
+use Rattle.level.proofs.Lists.{by-bool}
 use Rattle.course.specs.declared.Piece.{Piece}
 use Rattle.profile.specs.declared.Closing.{Closing}
 use Rattle.lines.specs.Text.{digits, decimal, field, fields, line, fLine, sLine, qLine, eLine}
 use Rattle.lines.proofs.Laws.{low-length, high-length, digits-low, digits-high}
 use Rattle.listing.specs.Listing.{fLines, sLines, runLines, qLines, listing}
 use Rattle.listing.specs.Reader.{longer, parted, linesOf, wordsOf, isByte, allDigits, isDecimal, valueFrom, value, enclosing, inLines, printedAt, firstOf, printedKw}
-
-pub by-bool : {P : Type 0} (b : Bool) → (b ≡ true → P) → (b ≡ false → P) → P
-by-bool true t f = t refl
-by-bool false t f = f refl
 
 -- ---- parts of bytes
 abbrev Without : ℕ → List ℕ → Type 0

@@ -15,7 +15,7 @@ use Rattle.profile.proofs.Room.{PieceBelow, ClosingBelow}
 use Rattle.lines.specs.Text.{fLine, sLine, qLine, eLine}
 use Rattle.lines.proofs.Laws.{decimal-width, f-length, s-length, q-length, e-length}
 use Rattle.listing.specs.Listing.{fLines, sLines, runLines, qLines, listing}
-use Rattle.listing.proofs.Read.{by-bool}
+use Rattle.level.proofs.Lists.{by-bool}
 
 f-width : (n : ℕ) (fates : List ℕ) → n + length fates ≤ 100 → All (λ (f : ℕ). f ≤ 8) fates → length (fLines n fates) ≤ 7 * length fates
 unfolding fLines

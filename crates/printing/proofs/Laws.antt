@@ -14,6 +14,7 @@ use borrow.Author.Tests.{lt-ltb, le-ltb, eq-eqb, ne-eqb}
 use Rattle.level.specs.Choice.{pick}
 use Rattle.level.specs.Level.{grains}
 use Rattle.level.specs.Lists.{listFrom}
+use Rattle.level.proofs.Lists.{by-bool}
 use Rattle.records.specs.declared.UnitData.{UnitData}
 use Rattle.course.specs.declared.Course.{Course}
 use Rattle.course.specs.declared.Piece.{Piece}
@@ -181,10 +182,6 @@ quantity-none sums i h = omega (arith, ap (λ (k : ℕ). getD sums k 0) (add-one
 pub quantity-some : (sums : List ℕ) (i : ℕ) → rounded (getD sums (i + 1) 0 - getD sums i 0) ≡ quantityAt sums i
 unfolding quantityAt
 quantity-some sums i = ap (λ (k : ℕ). rounded (getD sums k 0 - getD sums i 0)) (add-one i)
-
-by-bool : {P : Type 0} (b : Bool) → (b ≡ true → P) → (b ≡ false → P) → P
-by-bool true t f = t refl
-by-bool false t f = f refl
 
 module _ (f : ℕ → ℕ) where
   -- the run of k goes on up to its end, and there the others begin

@@ -14,8 +14,5 @@ use Rattle.day.specs.Step.{stepOf}
 use Rattle.taking.proofs.Laws.{step-used}
 use Rattle.taker.specs.Rest.{restAfter}
 
-pub tail-is : (n : ℕ) (s : List ℕ) → take (length s - n) (drop n s) ≡ drop n s
-tail-is n s = take-all (length s - n) (drop n s) (simp length-drop (omega arith))
-
 pub rest-is : (d : Day) (s : List ℕ) → restAfter (stepOf d s) s ≡ drop (stepOf d s .used) s
 rest-is d s = rw (le-leb _ _ (step-used (foundIn paper) d s))

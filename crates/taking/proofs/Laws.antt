@@ -25,10 +25,12 @@ use Rattle.profile.specs.Profile.{Found, paper}
 use Rattle.day.specs.declared.Day.{Day}
 use Rattle.day.specs.declared.Stepped.{Stepped}
 use Rattle.day.specs.Day.{daySeconds, entered, withUnit, withOpening, withInstruction, closedWith, foundIn}
-use Rattle.close.specs.Finding.{arraysOf, findingOf, someAbove}
+use Rattle.summing.specs.Summing.{someAbove}
+use Rattle.close.specs.Finding.{arraysOf, findingOf}
 use Rattle.close.proofs.Whole.{too-high-is}
 use Rattle.day.specs.Step.{kindOf, bodyOf, noBytes, unknownKind, tooFew, secondOne, beforeUnit, tooMany, notReady, fieldAnswer, tooHigh, quantityTooHigh, answerBy, dayWith, stepBy}
-use Rattle.day.proofs.Passed.{by-bool, is-accepted, passed}
+use Rattle.level.proofs.Lists.{by-bool}
+use Rattle.day.proofs.Passed.{is-accepted, passed}
 use Rattle.taking.specs.Kinds.{refuse, accept, onAnswer, unitStep, openingTaken, openingStep, instructionStep, LetsIn, closedBy, closeStep}
 
 -- what an answer makes of a day: as it stands, or taken

@@ -35,7 +35,7 @@ unfolding area
 area-same f g e a n = sum-eq (λ j. f j + f (suc j)) (λ j. g j + g (suc j)) (λ j. rw (e j, e (suc j))) a n
 
 -- counted from x on
-area-from : (f : ℕ → ℕ) (x n : ℕ) → area f x n ≡ area (λ j. f (x + j)) 0 n
+pub area-from : (f : ℕ → ℕ) (x n : ℕ) → area f x n ≡ area (λ j. f (x + j)) 0 n
 unfolding area
 area-from f x n =
     ap (λ (k : ℕ). sum (λ j. f j + f (suc j)) k n) {x = x} {y = x + 0} (omega arith) ∙ sum-from (λ j. f j + f (suc j)) x 0 n

@@ -12,6 +12,7 @@ use lib.ListN.{length, take, set}
 use lib.Seq.{take-suc-set}
 use Rattle.level.specs.Lists.{listFrom}
 use Rattle.level.specs.Level.{grains}
+use Rattle.level.proofs.Lists.{list-snoc}
 use Rattle.segments.specs.Segments.{area}
 use Rattle.segments.proofs.Sums.{area-split}
 use Rattle.records.specs.declared.UnitData.{UnitData}
@@ -98,12 +99,6 @@ module _ (u : UnitData) (c : Course) (up : Bool) where
   pub noted-is : (p : Place) (total end b : ℕ) → Noted u c up p total → p .second ≡ min end (1800 * b) - c .begin → total ≡ notedAt u c end b
   unfolding notedAt
   noted-is p total end b g e = g .sum ∙ ap (area (levelAt (trajectoryOf u c)) 0) e ∙ sym (pieces-area (trajectoryOf u c) (min end (1800 * b) - c .begin))
-
--- one more place of an array
-list-snoc : (g : ℕ → ℕ) (a n : ℕ) → listFrom g a (suc n) ≡ listFrom g a n ++ (g (a + n) ∷ [])
-unfolding listFrom
-list-snoc g a zero = ap (λ (k : ℕ). g k ∷ []) (omega arith)
-list-snoc g a (suc n) = ap (λ (xs : List ℕ). g a ∷ xs) (list-snoc g (suc a) n ∙ ap (λ (k : ℕ). listFrom g (suc a) n ++ (g k ∷ [])) {x = suc a + n} {y = a + suc n} (omega arith))
 
 pub list-more : (g : ℕ → ℕ) (out : List ℕ) (i v : ℕ) → i < length out → take i out ≡ listFrom g 0 i → v ≡ g i → take (i + 1) (set out i v) ≡ listFrom g 0 (i + 1)
 list-more g out i v h e q =

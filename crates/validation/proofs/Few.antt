@@ -10,16 +10,13 @@ use lib.Dec.{leb, ltb, eqb}
 use lib.ListN.{length, length-append}
 use Rattle.level.specs.Choice.{pick}
 use Rattle.level.specs.Lists.{All, those}
+use Rattle.level.proofs.Lists.{by-bool}
 use Rattle.records.specs.declared.Effect.{Effect}
 use Rattle.records.specs.declared.Effect.the-variants.{Mwof, Sync, Desy, Fail}
 use Rattle.records.specs.declared.Instruction.{Instruction}
 use Rattle.records.specs.Codes.{same}
 use Rattle.validation.specs.declared.Numbered.{Numbered}
 use Rattle.validation.specs.Kept.{effectOf, effectiveOf, numbered, Mark, mark, superseded, group, highest, firstOne, orElse, present, carrying, merged, usedOf, nextTime, usedFrom, used, repeats, syncWithinHour, fromSync, beforeSync, Checked, failed, checkOne, check, acting, overtaken, lateFate, actors, lateMarks, turned, Validated, keptOf, validated, fateAmong, fatesOf}
-
-by-bool : {P : Type 0} (b : Bool) → (b ≡ true → P) → (b ≡ false → P) → P
-by-bool true t f = t refl
-by-bool false t f = f refl
 
 pub numbered-length : (n : ℕ) (is : List Instruction) → length (numbered n is) ≡ length is
 unfolding numbered

@@ -9,7 +9,7 @@ use Rattle.close.proofs.at_most_forty.Reads as at-most-forty-reads
 use Rattle.close.proofs.finding_by.Reads as finding-by-reads
 use Rattle.close.proofs.follow_all.Reads as follow-all-reads
 use Rattle.close.proofs.lay_fates.Reads as lay-fates-reads
-use Rattle.close.proofs.open_course.Reads as open-course-reads
+use Rattle.effects.proofs.open_course.Reads as open-course-reads
 use Rattle.keeping.proofs.validate.Reads as validate-reads
 
 -- src/lib.rt:696:9

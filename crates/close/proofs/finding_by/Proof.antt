@@ -6,7 +6,7 @@ use Rattle.close.proofs.finding_by.Tie as tie
 use Rattle.close.proofs.finding_by.Reads as reads
 use Rattle.close.proofs.finding_by.Lts as lts
 use Rattle.close.proofs.closing_of.Reads as closing-of-reads
-use Rattle.close.proofs.sums_of.Reads as sums-of-reads
+use Rattle.summing.proofs.sums_of.Reads as sums-of-reads
 
 -- src/lib.rt:670:9
 sums-of-requires : tie.Need-sums-of-requires

@@ -11,16 +11,17 @@ use Rattle.choosing.proofs.Laws.{left-cons, left-none}
 use Rattle.profile.specs.State.{byRule}
 use Rattle.profile.specs.Effects.{stateAt, follow}
 use Rattle.close.specs.Walk.{walkOf, walkAll, wentOn, replacedBy}
-use Rattle.close.proofs.Walking.{all-first, Going, going-start, going-next, going-out, acts-idle, acts-new}
+use Rattle.level.proofs.Lists.{all-first}
+use Rattle.close.proofs.Walking.{Going, going-start, going-next, going-out, acts-idle, acts-new}
 use Rattle.close.proofs.follow_all.Statement.{statement}
 use Rattle.close.proofs.follow_all.Tie as tie
 use Rattle.close.proofs.follow_all.Reads as reads
 use Rattle.close.proofs.follow_all.Lts as lts
-use Rattle.close.proofs.acting_second.Reads as acting-second-reads
-use Rattle.close.proofs.begin_course.Reads as begin-course-reads
+use Rattle.effects.proofs.acting_second.Reads as acting-second-reads
+use Rattle.effects.proofs.begin_course.Reads as begin-course-reads
 use Rattle.close.proofs.begin_walk.Reads as begin-walk-reads
 use Rattle.close.proofs.state_at.Reads as state-at-reads
-use Rattle.close.proofs.stays_idle.Reads as stays-idle-reads
+use Rattle.effects.proofs.stays_idle.Reads as stays-idle-reads
 
 abbrev Inv-loop : tie.InvT-loop
 Inv-loop u n acts w₀ i₀ w i =

@@ -14,8 +14,8 @@ use Rattle.close.proofs.state_after.Statement.{statement}
 use Rattle.close.proofs.state_after.Tie as tie
 use Rattle.close.proofs.state_after.Reads as reads
 use Rattle.close.proofs.state_after.Lts as lts
-use Rattle.close.proofs.off_between.Reads as off-between-reads
-use Rattle.close.proofs.off_starting.Reads as off-starting-reads
+use Rattle.effects.proofs.off_between.Reads as off-between-reads
+use Rattle.effects.proofs.off_starting.Reads as off-starting-reads
 use Rattle.trajectory.proofs.begin_at.Reads as begin-at-reads
 use Rattle.trajectory.proofs.is_rising.Reads as is-rising-reads
 use Rattle.trajectory.proofs.walk_on.Reads as walk-on-reads

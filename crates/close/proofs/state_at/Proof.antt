@@ -4,7 +4,7 @@ use Rattle.close.proofs.state_at.Statement.{statement}
 use Rattle.close.proofs.state_at.Tie as tie
 use Rattle.close.proofs.state_at.Reads as reads
 use Rattle.close.proofs.state_at.Lts as lts
-use Rattle.close.proofs.seconds_from.Reads as seconds-from-reads
+use Rattle.summing.proofs.seconds_from.Reads as seconds-from-reads
 use Rattle.close.proofs.state_after.Reads as state-after-reads
 
 -- src/lib.rt:398:9

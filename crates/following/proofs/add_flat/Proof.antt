@@ -8,7 +8,7 @@ use Rattle.following.proofs.add_flat.Statement.{statement}
 use Rattle.following.proofs.add_flat.Tie as tie
 use Rattle.following.proofs.add_flat.Reads as reads
 use Rattle.following.proofs.add_flat.Lts as lts
-use Rattle.following.proofs.smaller.Reads as smaller-reads
+use Rattle.level.proofs.smaller.Reads as smaller-reads
 
 -- up to `at` the level is added; x is the boundary b, where the half-hour of `at` begins, unless `to` is reached
 abbrev Inv-loop : tie.InvT-loop

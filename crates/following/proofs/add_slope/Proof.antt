@@ -15,7 +15,7 @@ use Rattle.following.proofs.add_slope.Statement.{statement}
 use Rattle.following.proofs.add_slope.Tie as tie
 use Rattle.following.proofs.add_slope.Reads as reads
 use Rattle.following.proofs.add_slope.Lts as lts
-use Rattle.following.proofs.smaller.Reads as smaller-reads
+use Rattle.level.proofs.smaller.Reads as smaller-reads
 use Rattle.trajectory.proofs.sum_to.Reads as sum-to-reads
 
 -- up to `at` the course is added, and it stands there; x is the boundary b, where the half-hour of `at` begins, unless `to` is reached

@@ -27,9 +27,9 @@ use Rattle.following.proofs.follow_on.Statement.{statement}
 use Rattle.following.proofs.follow_on.Tie as tie
 use Rattle.following.proofs.follow_on.Reads as reads
 use Rattle.following.proofs.follow_on.Lts as lts
-use Rattle.close.proofs.acting_second.Reads as acting-second-reads
-use Rattle.close.proofs.off_starting.Reads as off-starting-reads
-use Rattle.close.proofs.stays_idle.Reads as stays-idle-reads
+use Rattle.effects.proofs.acting_second.Reads as acting-second-reads
+use Rattle.effects.proofs.off_starting.Reads as off-starting-reads
+use Rattle.effects.proofs.stays_idle.Reads as stays-idle-reads
 use Rattle.following.proofs.begin_next.Reads as begin-next-reads
 use Rattle.following.proofs.end_course.Reads as end-course-reads
 use Rattle.following.proofs.pass_to.Reads as pass-to-reads

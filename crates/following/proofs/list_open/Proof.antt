@@ -6,7 +6,7 @@ use lib.ListN.{length, take, drop, length-append, length-take}
 use Rattle.course.specs.declared.Course.{Course}
 use Rattle.lines.specs.Text.{laid}
 use Rattle.lines.proofs.Laws.{part-length}
-use Rattle.close.proofs.Summing.{first-zeros}
+use Rattle.summing.proofs.Summing.{first-zeros}
 use Rattle.close.specs.declared.Fates.{Fates}
 use Rattle.printing.specs.Rest.{fateLines, coursesLines}
 use Rattle.printing.proofs.Whole.{second-room, both-laid}
@@ -20,7 +20,7 @@ use Rattle.following.proofs.list_open.Tie as tie
 use Rattle.following.proofs.list_open.Reads as reads
 use Rattle.following.proofs.list_open.Lts as lts
 use Rattle.close.proofs.lay_fates.Reads as lay-fates-reads
-use Rattle.close.proofs.open_course.Reads as open-course-reads
+use Rattle.effects.proofs.open_course.Reads as open-course-reads
 use Rattle.following.proofs.fates_room.Reads as fates-room-reads
 use Rattle.following.proofs.follow_day.Reads as follow-day-reads
 use Rattle.following.proofs.put_end.Reads as put-end-reads

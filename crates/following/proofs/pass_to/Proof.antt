@@ -13,7 +13,7 @@ use Rattle.following.proofs.pass_to.Statement.{statement}
 use Rattle.following.proofs.pass_to.Tie as tie
 use Rattle.following.proofs.pass_to.Reads as reads
 use Rattle.following.proofs.pass_to.Lts as lts
-use Rattle.close.proofs.off_between.Reads as off-between-reads
+use Rattle.effects.proofs.off_between.Reads as off-between-reads
 use Rattle.following.proofs.lay_piece.Reads as lay-piece-reads
 use Rattle.trajectory.proofs.walk_on.Reads as walk-on-reads
 

@@ -6,7 +6,7 @@ use Rattle.following.proofs.set_out.Statement.{statement}
 use Rattle.following.proofs.set_out.Tie as tie
 use Rattle.following.proofs.set_out.Reads as reads
 use Rattle.following.proofs.set_out.Lts as lts
-use Rattle.close.proofs.off_starting.Reads as off-starting-reads
+use Rattle.effects.proofs.off_starting.Reads as off-starting-reads
 use Rattle.trajectory.proofs.begin_at.Reads as begin-at-reads
 use Rattle.trajectory.proofs.is_rising.Reads as is-rising-reads
 use Rattle.stops.proofs.own_lists.Reads as own-lists-reads

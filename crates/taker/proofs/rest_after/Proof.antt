@@ -1,6 +1,6 @@
 use native.Mathlib.Omega.{arith}
 use borrow.Author.Tests.{le-leb, lt-leb}
-use Rattle.taker.proofs.Laws.{tail-is}
+use Rattle.level.proofs.Lists.{tail-is}
 use borrow.Author.Needs.{needs}
 use Rattle.taker.proofs.rest_after.Statement.{statement}
 use Rattle.taker.proofs.rest_after.Tie as tie

@@ -1,7 +1,7 @@
 use mathlib.Core.Path.{_≡_, refl, sym, ap, _∙_}
 use Rattle.day.specs.declared.Day.{Day}
 use Rattle.close.specs.declared.Finding.{Finding}
-use Rattle.close.specs.Finding.{someAbove}
+use Rattle.summing.specs.Summing.{someAbove}
 use Rattle.taking.specs.Kinds.{accept, closedBy}
 use Rattle.taking.proofs.Laws.{not-true, not-false, high-is, closed-is, close-unready, close-high, close-taken}
 use borrow.Author.Needs.{needs}
@@ -9,7 +9,7 @@ use Rattle.taking.proofs.close_step.Statement.{statement}
 use Rattle.taking.proofs.close_step.Tie as tie
 use Rattle.taking.proofs.close_step.Reads as reads
 use Rattle.taking.proofs.close_step.Lts as lts
-use Rattle.close.proofs.quantity_too_high.Reads as quantity-too-high-reads
+use Rattle.summing.proofs.quantity_too_high.Reads as quantity-too-high-reads
 use Rattle.taking.proofs.accepted.Reads as accepted-reads
 use Rattle.taking.proofs.closed_with.Reads as closed-with-reads
 use Rattle.taking.proofs.find_in.Reads as find-in-reads

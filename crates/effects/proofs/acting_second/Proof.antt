@@ -1,0 +1,20 @@
+use mathlib.Core.Path.{refl}
+use native.Mathlib.Omega.{arith}
+use Rattle.validation.specs.Kept.{acting}
+use Rattle.effects.proofs.acting_second.Statement.{statement}
+use Rattle.effects.proofs.acting_second.Tie as tie
+use Rattle.effects.proofs.acting_second.Reads as reads
+use Rattle.effects.proofs.acting_second.Lts as lts
+
+-- src/lib.rt:300:5
+add-result : tie.Need-add-result
+unfolding acting
+add-result c = omega arith
+
+-- src/lib.rt:294:1
+returns : tie.Need-returns
+unfolding acting
+returns c = refl
+
+pub acting-second-spec : {M : Type 1} → statement M
+acting-second-spec = tie.close (tie.spec add-result returns)

@@ -1,0 +1,37 @@
+use Rattle.level.specs.Level.{fromKw}
+use mathlib.Core.Path.{refl}
+use Rattle.profile.specs.Effects.{courseFrom}
+use borrow.Author.Needs.{needs}
+use Rattle.effects.proofs.course_from.Statement.{statement}
+use Rattle.effects.proofs.course_from.Tie as tie
+use Rattle.effects.proofs.course_from.Reads as reads
+use Rattle.effects.proofs.course_from.Lts as lts
+use Rattle.effects.proofs.step_up.Reads as step-up-reads
+use Rattle.level.proofs.Level.from_kw.Reads as from-kw-reads
+use Rattle.stops.proofs.column_for.Reads as column-for-reads
+
+-- src/lib.rt:249:9
+column-for-requires : tie.Need-column-for-requires
+column-for-requires c κs = search needs
+
+-- src/lib.rt:250:9
+from-kw-requires : tie.Need-from-kw-requires
+from-kw-requires c κs = search needs
+
+-- src/lib.rt:251:9
+from-kw-requires-2 : tie.Need-from-kw-requires-2
+from-kw-requires-2 c κs = search needs
+
+-- src/lib.rt:252:9
+step-up-requires : tie.Need-step-up-requires
+step-up-requires c κs = search needs
+
+-- src/lib.rt:246:1
+returns : tie.Need-returns
+unfolding courseFrom fromKw
+returns c = rw (c .step-up .ensures, c .before .from-kw2 .ensures, c .before .before .from-kw .ensures, c .before .before .before .column-for .ensures) refl
+
+pub course-from-spec : {M : Type 1} → statement M
+course-from-spec =
+    tie.close
+    (tie.spec column-for-requires from-kw-requires from-kw-requires-2 step-up-requires returns)

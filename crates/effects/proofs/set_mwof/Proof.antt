@@ -1,0 +1,24 @@
+use Rattle.profile.specs.Effects.{setting, mwofTarget}
+use borrow.Author.Needs.{needs}
+use Rattle.effects.proofs.set_mwof.Statement.{statement}
+use Rattle.effects.proofs.set_mwof.Tie as tie
+use Rattle.effects.proofs.set_mwof.Reads as reads
+use Rattle.effects.proofs.set_mwof.Lts as lts
+use Rattle.effects.proofs.mwof_heat.Reads as mwof-heat-reads
+use Rattle.level.proofs.smaller.Reads as smaller-reads
+
+-- src/lib.rt:104:9
+smaller-requires : tie.Need-smaller-requires
+smaller-requires c κs = search needs
+
+-- src/lib.rt:105:9
+mwof-heat-requires : tie.Need-mwof-heat-requires
+mwof-heat-requires c κs = search needs
+
+-- src/lib.rt:95:1
+returns : tie.Need-returns
+unfolding setting mwofTarget
+returns c = rw (c .mwof-heat .ensures, c .before .smaller .ensures)
+
+pub set-mwof-spec : {M : Type 1} → statement M
+set-mwof-spec = tie.close (tie.spec smaller-requires mwof-heat-requires returns)

@@ -1,0 +1,354 @@
+// What an instruction does at its acting second: whether the course under way goes on, else the course that it starts; and
+// the seconds off along a course.
+ghost use mathlib.Core.Path.{_≡_};
+ghost use mathlib.Core.Bool.{true};
+ghost use Prim.Native.Nat.{_+_, _*_, _-_, _<_, _≤_};
+ghost use lib.Dec.{eqb};
+ghost use Rattle.level.specs.Choice.{pick};
+ghost use Rattle.records.specs.declared.Effect.the-variants.{Trip, Mwof, Mxon, Sync, Mxof, Desy};
+ghost use Rattle.course.specs.declared.Course.{Course};
+ghost use Rattle.validation.specs.Kept.{acting};
+ghost use Rattle.validation.specs.declared.Numbered.{Numbered};
+ghost use Rattle.profile.specs.Effects.{idle, heatBy, setting, stepped, courseFrom, underWay, opened, begun};
+ghost use Rattle.profile.specs.State.{held};
+ghost use Rattle.effects.specs.Watching.{offStarting, offBetween};
+
+// ---- what each instruction does at its acting second
+
+// Fate 7, read with the level v just before: the course under way goes on.
+fn is_idle(effect: records::Effect, x: u32, v: u64, maximised: bool) -> bool
+    ensures { λ r. ⌜ r ≡ idle effect x v maximised ⌝ }
+{
+    match effect {
+        records::Effect::Trip => v == 0,
+        records::Effect::Mwof => (v == 0) & (x == 0),
+        records::Effect::Mxon => (v == 0) | maximised,
+        records::Effect::Sync => 0 < v,
+        records::Effect::Mxof => !maximised,
+        records::Effect::Desy => v == 0,
+        records::Effect::Fail => true,
+    }
+}
+
+// The same of an instruction that acts.
+pub fn stays_idle(o: validation::Numbered, v: u64, maximised: bool) -> bool
+    ensures { λ r. ⌜ r ≡ idle (o .instruction .meaning .effect) (o .instruction .level) v maximised ⌝ }
+{
+    let i = o.instruction;
+    let m = i.meaning;
+    let effect = m.effect;
+    is_idle(effect, i.level, v, maximised)
+}
+
+// The heat of a start after so many seconds off.
+fn heat_by(u: records::UnitData, off: u32) -> u32
+    ensures { λ r. ⌜ r ≡ heatBy u off ⌝ }
+{
+    let hot = 60 * (u.hot as u64);
+    let warm = 60 * (u.warm as u64);
+    let seconds = off as u64;
+    if seconds <= hot {
+        return 1;
+    }
+    if seconds <= warm {
+        return 2;
+    }
+    3
+}
+
+// The heat of a course that an MWOF starts: cold from 0, else as it was.
+fn mwof_heat(v: u64, before: u32) -> u32
+    ensures { λ r. ⌜ r ≡ pick (eqb v 0) 3 before ⌝ }
+{
+    if v == 0 {
+        return 3;
+    }
+    before
+}
+
+// TRIP: level 0 at that second, target 0.
+fn set_trip(
+    u: records::UnitData,
+    now: profile::UnderWay,
+    i: records::Instruction,
+    s: profile::State,
+) -> profile::Setting
+    ensures { λ r. ⌜ r ≡ setting u now i s Trip ⌝ }
+{
+    let c = now.course;
+    profile::Setting {
+        from: 0,
+        target: 0,
+        heat: c.heat,
+        up: i.up,
+        down: i.down,
+        maximised: false,
+        ordered: now.ordered,
+    }
+}
+
+// MWOF(x): target the smaller of x and capacity; from 0 with the cold column.
+fn set_mwof(
+    u: records::UnitData,
+    now: profile::UnderWay,
+    i: records::Instruction,
+    s: profile::State,
+) -> profile::Setting
+    ensures { λ r. ⌜ r ≡ setting u now i s Mwof ⌝ }
+{
+    let c = now.course;
+    let target = level::smaller(i.level, u.capacity);
+    let heat = mwof_heat(s.level, c.heat);
+    profile::Setting {
+        from: s.level,
+        target: target,
+        heat: heat,
+        up: i.up,
+        down: i.down,
+        maximised: false,
+        ordered: target,
+    }
+}
+
+// MXON: target the short-term maximum, ramp-up rate 5 for all five.
+fn set_mxon(
+    u: records::UnitData,
+    now: profile::UnderWay,
+    i: records::Instruction,
+    s: profile::State,
+) -> profile::Setting
+    ensures { λ r. ⌜ r ≡ setting u now i s Mxon ⌝ }
+{
+    let c = now.course;
+    let ramp = u.up;
+    profile::Setting {
+        from: s.level,
+        target: u.maximum,
+        heat: c.heat,
+        up: ramp.rates[4],
+        down: i.down,
+        maximised: true,
+        ordered: now.ordered,
+    }
+}
+
+// SYNC: target the larger of its x and MSG, at most capacity; column by seconds off.
+fn set_sync(
+    u: records::UnitData,
+    now: profile::UnderWay,
+    i: records::Instruction,
+    s: profile::State,
+) -> profile::Setting
+    ensures { λ r. ⌜ r ≡ setting u now i s Sync ⌝ }
+{
+    let raised = level::larger(i.level, u.msg);
+    let target = level::smaller(raised, u.capacity);
+    let heat = heat_by(u, s.off);
+    profile::Setting {
+        from: s.level,
+        target: target,
+        heat: heat,
+        up: i.up,
+        down: i.down,
+        maximised: false,
+        ordered: target,
+    }
+}
+
+// MXOF: target that of the last MWOF or SYNC with fate 0, or the opening's; ramp-down rate 1 for all five.
+fn set_mxof(
+    u: records::UnitData,
+    now: profile::UnderWay,
+    i: records::Instruction,
+    s: profile::State,
+) -> profile::Setting
+    ensures { λ r. ⌜ r ≡ setting u now i s Mxof ⌝ }
+{
+    let c = now.course;
+    let ramp = u.down;
+    profile::Setting {
+        from: s.level,
+        target: now.ordered,
+        heat: c.heat,
+        up: i.up,
+        down: ramp.rates[0],
+        maximised: false,
+        ordered: now.ordered,
+    }
+}
+
+// DESY: target 0.
+fn set_desy(
+    u: records::UnitData,
+    now: profile::UnderWay,
+    i: records::Instruction,
+    s: profile::State,
+) -> profile::Setting
+    ensures { λ r. ⌜ r ≡ setting u now i s Desy ⌝ }
+{
+    let c = now.course;
+    profile::Setting {
+        from: s.level,
+        target: 0,
+        heat: c.heat,
+        up: i.up,
+        down: i.down,
+        maximised: false,
+        ordered: now.ordered,
+    }
+}
+
+// What an instruction sets, read with the state just before.
+fn setting_of(
+    u: records::UnitData,
+    now: profile::UnderWay,
+    i: records::Instruction,
+    s: profile::State,
+) -> profile::Setting
+    ensures { λ r. ⌜ r ≡ setting u now i s (i .meaning .effect) ⌝ }
+{
+    let m = i.meaning;
+    let effect = m.effect;
+    match effect {
+        records::Effect::Trip => set_trip(u, now, i, s),
+        records::Effect::Mwof => set_mwof(u, now, i, s),
+        records::Effect::Mxon => set_mxon(u, now, i, s),
+        records::Effect::Sync => set_sync(u, now, i, s),
+        records::Effect::Mxof => set_mxof(u, now, i, s),
+        records::Effect::Desy => set_desy(u, now, i, s),
+        records::Effect::Fail => set_desy(u, now, i, s),
+    }
+}
+
+// ---- the course that it starts
+
+// "At level 0 with a target above 0 the level goes at once to the smaller of block load and target."
+fn step_up(block: u64, target: u64, v: u64) -> u64
+    ensures { λ r. ⌜ r ≡ stepped block target v ⌝ }
+{
+    if v != 0 {
+        return v;
+    }
+    if target == 0 {
+        return v;
+    }
+    if block <= target {
+        return block;
+    }
+    target
+}
+
+// The course (document 01's own term) that a setting makes at a second.
+fn course_from(u: records::UnitData, begin: u32, g: profile::Setting) -> course::Course
+    ensures { λ r. ⌜ r ≡ courseFrom u begin g ⌝ }
+{
+    let column = stops::column_for(u, g.heat);
+    let block = level::Level::from_kw(column.block);
+    let target = level::Level::from_kw(g.target);
+    let grains = step_up(block.grains, target.grains, g.from);
+    let start = level::Level { grains };
+    course::Course {
+        begin,
+        start,
+        target: g.target,
+        heat: g.heat,
+        up: g.up,
+        down: g.down,
+    }
+}
+
+// It under way, the unit having been off so many seconds where it began.
+fn under_way(u: records::UnitData, begin: u32, g: profile::Setting, off: u32) -> profile::UnderWay
+    ensures { λ r. ⌜ r ≡ underWay u begin g off ⌝ }
+{
+    let course = course_from(u, begin, g);
+    profile::UnderWay {
+        course,
+        maximised: g.maximised,
+        ordered: g.ordered,
+        off,
+    }
+}
+
+// The opening's course, from 06:00 on.
+pub fn open_course(u: records::UnitData, o: records::Opening) -> profile::UnderWay
+    ensures { λ r. ⌜ r ≡ opened u o ⌝ }
+{
+    let g = profile::Setting {
+        from: o.level as u64,
+        target: o.target,
+        heat: o.heat,
+        up: 0,
+        down: 0,
+        maximised: false,
+        ordered: o.target,
+    };
+    under_way(u, 0, g, o.off)
+}
+
+// The second at which an instruction acts, where it fits.
+pub fn acting_second(o: validation::Numbered) -> u32
+    requires { ⌜ acting o < 4294967296 ⌝ }
+    ensures { λ r. ⌜ r ≡ acting o ⌝ }
+{
+    let i = o.instruction;
+    let m = i.meaning;
+    i.effective + m.lag
+}
+
+// The course that an instruction of fate 0 starts at its acting second.
+pub fn begin_course(
+    u: records::UnitData,
+    now: profile::UnderWay,
+    o: validation::Numbered,
+    s: profile::State,
+) -> profile::UnderWay
+    requires { ⌜ acting o < 4294967296 ⌝ }
+    ensures { λ r. ⌜ r ≡ begun u now o s ⌝ }
+{
+    let at = acting_second(o);
+    let i = o.instruction;
+    let g = setting_of(u, now, i, s);
+    under_way(u, at, g, s.off)
+}
+
+// ---- the state just before
+
+// The most seconds off that are counted.
+const MOST_OFF: u64 = 10000000;
+
+// So many seconds off and so many more, held.
+fn held_off(off: u32, more: u32) -> u32
+    ensures { λ r. ⌜ r ≡ held (off + more) ⌝ }
+{
+    let sum = off as u64 + more as u64;
+    if sum <= MOST_OFF {
+        return sum as u32;
+    }
+    MOST_OFF as u32
+}
+
+// The seconds off where a course begins.
+pub fn off_starting(c: course::Course, off: u32) -> u32
+    ensures { λ r. ⌜ r ≡ offStarting c off ⌝ }
+{
+    let start = c.start;
+    if start.grains == 0 {
+        return held_off(off, 0);
+    }
+    0
+}
+
+// The seconds off at q, by those at p.
+pub fn off_between(p: trajectory::Place, q: trajectory::Place, off: u32) -> u32
+    requires { ⌜ p .second ≤ q .second ⌝ }
+    ensures { λ r. ⌜ r ≡ offBetween p q off ⌝ }
+{
+    if p.level != 0 {
+        return 0;
+    }
+    if q.level != 0 {
+        return 0;
+    }
+    held_off(off, q.second - p.second)
+}

@@ -1,0 +1,45 @@
+-- Lists, and a case of a test: what many proofs need.
+-- Assumes nothing.
+use mathlib.Core.Path.{_≡_, refl, ap, _∙_}
+use mathlib.Core.List.{List, [], _∷_, _++_}
+use mathlib.Core.Bool.{Bool, true, false}
+use Prim.Native.Nat.{ℕ, zero, suc, _+_, _-_, _≤_, _<_}
+use native.Mathlib.Omega.{arith}
+use native.Mathlib.Numerals.{add-one}
+use lib.ListN.{length, take, drop, getD, length-drop, length-take, drop-of-length-le}
+use lib.Seq.{take-all, getD-take, drop-cons, length-take-le}
+use Rattle.level.specs.Lists.{All, listFrom}
+
+-- by the value of a test
+pub by-bool : {P : Type 0} (b : Bool) → (b ≡ true → P) → (b ≡ false → P) → P
+by-bool true t f = t refl
+by-bool false t f = f refl
+
+-- a part that reaches to the end
+pub tail-is : (n : ℕ) (s : List ℕ) → take (length s - n) (drop n s) ≡ drop n s
+tail-is n s = take-all (length s - n) (drop n s) (simp length-drop (omega arith))
+
+-- one more at the end
+pub list-snoc : (f : ℕ → ℕ) (a n : ℕ) → listFrom f a (suc n) ≡ listFrom f a n ++ (f (a + n) ∷ [])
+unfolding listFrom
+list-snoc f a zero = ap (λ (k : ℕ). f k ∷ []) {x = a} {y = a + 0} (omega arith)
+list-snoc f a (suc n) = ap (λ (xs : List ℕ). f a ∷ xs) (list-snoc f (suc a) n ∙ ap (λ (k : ℕ). listFrom f (suc a) n ++ (f k ∷ [])) {x = suc a + n} {y = a + suc n} (omega arith))
+
+-- what is left of the first n from the place i on
+module _ {A : Type 0} (xs : List A) (n : ℕ) where
+  pub left-cons : (i : ℕ) (d : A) → i < n → n ≤ length xs → drop i (take n xs) ≡ getD xs i d ∷ drop (i + 1) (take n xs)
+  left-cons i d h k =
+      let l : i < length (take n xs) = omega (arith, length-take-le n xs k) in
+      rw (add-one, drop-cons (take n xs) i d l, getD-take n xs i d h)
+
+  pub left-none : (i : ℕ) → n ≤ i → drop i (take n xs) ≡ []
+  left-none i h = drop-of-length-le (take n xs) {i = i} (omega (arith, length-take n xs))
+
+-- a fact of all is one of each
+pub all-at : {A : Type 0} (P : A → Type 0) (xs : List A) (i : ℕ) (d : A) → i < length xs → All P xs → P (getD xs i d)
+all-at P [] i d h a = absurd (omega arith)
+all-at P (x ∷ xs) zero d h a = a .0
+all-at P (x ∷ xs) (suc i) d h a = all-at P xs i d (omega arith) (a .1)
+
+pub all-first : {A : Type 0} (P : A → Type 0) (xs : List A) (n i : ℕ) (d : A) → i < n → n ≤ length xs → All P (take n xs) → P (getD xs i d)
+all-first P xs n i d h k a = rw (getD-take n xs i d h) at (all-at P (take n xs) i d (omega (arith, length-take-le n xs k)) a)

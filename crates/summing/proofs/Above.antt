@@ -1,0 +1,37 @@
+-- A quantity above a figure, half-hour by half-hour.
+-- Assumes nothing.
+use mathlib.Core.Path.{_≡_, ap, sym, _∙_}
+use mathlib.Core.List.{List}
+use mathlib.Core.Bool.{true, false, _||_}
+use Prim.Native.Nat.{ℕ, suc, _+_, _-_, _≤_, _<_}
+use native.Mathlib.Omega.{arith}
+use native.Mathlib.Numerals.{add-one}
+use lib.ListN.{getD}
+use lib.Dec.{ltb}
+use borrow.Author.Tests.{lt-ltb, le-ltb}
+use Rattle.level.specs.Lists.{some, listFrom}
+use Rattle.profile.specs.Profile.{rounded}
+use Rattle.day.specs.Day.{quantityAt}
+use Rattle.summing.specs.Summing.{someAbove}
+
+module _ (sums : List ℕ) (i : ℕ) where
+  pub quantity-is : rounded (getD sums (i + 1) 0 - getD sums i 0) ≡ quantityAt sums i
+  unfolding quantityAt
+  quantity-is = ap (λ (k : ℕ). rounded (getD sums k 0 - getD sums i 0)) (add-one i)
+
+module _ (most : ℕ) (sums : List ℕ) (i : ℕ) where
+  above-one : i < 48 → someAbove most sums i (48 - i) ≡ (ltb most (quantityAt sums i) || someAbove most sums (i + 1) (48 - (i + 1)))
+  unfolding someAbove some listFrom
+  above-one h =
+      ap (λ (n : ℕ). some (λ q. ltb most q) (listFrom (quantityAt sums) i n)) {x = 48 - i} {y = suc (48 - (i + 1))} (omega arith)
+      ∙ ap (λ (k : ℕ). ltb most (quantityAt sums i) || some (λ q. ltb most q) (listFrom (quantityAt sums) k (48 - (i + 1)))) (sym (add-one i))
+
+  pub above-here : i < 48 → most < quantityAt sums i → someAbove most sums i (48 - i) ≡ true
+  above-here h k = above-one h ∙ simp (lt-ltb most (quantityAt sums i) k)
+
+  pub above-next : i < 48 → quantityAt sums i ≤ most → someAbove most sums i (48 - i) ≡ someAbove most sums (i + 1) (48 - (i + 1))
+  above-next h k = above-one h ∙ simp (le-ltb most (quantityAt sums i) k)
+
+  pub above-none : 48 ≤ i → someAbove most sums i (48 - i) ≡ false
+  unfolding someAbove some listFrom
+  above-none h = ap (λ (n : ℕ). some (λ q. ltb most q) (listFrom (quantityAt sums) i n)) {x = 48 - i} {y = 0} (omega arith)
