@@ -107,7 +107,7 @@ fn serve_one(day: Day) -> Turn {
 // A proved loop has to end, and nothing says that the input does: the loop counts its turns down, from a number that no
 // run uses up.
 fn serve() {
-    let mut day = taking::empty_day();
+    let mut day = day::empty_day();
     let mut turns = u64::MAX;
     while 0 < turns {
         let t = serve_one(day);

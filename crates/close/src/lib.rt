@@ -11,7 +11,6 @@ ghost use Rattle.validation.specs.declared.Numbered.{Numbered};
 ghost use Rattle.profile.specs.Effects.{stateAt};
 ghost use Rattle.profile.specs.Profile.{closingBy};
 ghost use Rattle.profile.specs.State.{byRule};
-ghost use Rattle.day.specs.Day.{noCourse};
 ghost use Rattle.close.specs.Finding.{findingOf, findingBy};
 ghost use Rattle.close.specs.Laying.{laid, laidAll, marksFrom};
 ghost use Rattle.close.specs.Walk.{walkOf, walkAll};
@@ -58,26 +57,11 @@ pub struct Walk {
     pub acted: usize,
 }
 
-// A place that holds no course.
-fn no_course() -> course::Course
-    ensures { λ r. ⌜ r ≡ noCourse ⌝ }
-{
-    let start = level::Level { grains: 0 };
-    course::Course {
-        begin: 0,
-        start,
-        target: 0,
-        heat: 0,
-        up: 0,
-        down: 0,
-    }
-}
-
 // None has acted yet.
 fn begin_walk(now: profile::UnderWay) -> Walk
     ensures { λ r. ⌜ r ≡ walkOf now (record { marks = []; courses = now ∷ [] }) ⌝ }
 {
-    let none = no_course();
+    let none = day::no_course();
     let first = now.course;
     let mut courses = [none; 41];
     courses[0] = first;

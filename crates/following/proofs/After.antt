@@ -4,7 +4,6 @@ use Prim.Native.Nat.{ℕ, _+_, _*_, _-_, min, _≤_}
 use mathlib.Core.Path.{_≡_, refl, ap, sym, _∙_}
 use mathlib.Core.Bool.{Bool, true, false}
 use mathlib.Core.List.{List, [], _∷_, _++_, append-assoc}
-use native.Mathlib.Decide.{decLe}
 use native.Mathlib.Omega.{arith}
 use lib.Dec.{ltb}
 use lib.ListN.{drop}
@@ -13,8 +12,7 @@ use Rattle.level.proofs.Lists.{by-bool}
 use Rattle.segments.specs.Segments.{area}
 use Rattle.records.specs.declared.UnitData.{UnitData}
 use Rattle.course.specs.declared.Course.{Course}
-use Rattle.course.specs.Lists.{Lists}
-use Rattle.course.specs.Course.{Heading, trajectoryOf, levelAt, after}
+use Rattle.course.specs.Course.{trajectoryOf, levelAt}
 use Rattle.course.specs.declared.Piece.{Piece}
 use Rattle.course.specs.Pieces.{piecesIn, twiceArea}
 use Rattle.course.proofs.Pieces.{pieces-area}
@@ -26,19 +24,18 @@ use Rattle.profile.specs.State.{byRule}
 use Rattle.profile.specs.Effects.{idle, begun, underWay, courseFrom, goesOn, replaces, stateAt, follow}
 use Rattle.profile.specs.Profile.{beginOf, spansOf, piecesTo, dayPieces}
 use Rattle.day.specs.Day.{daySeconds}
-use Rattle.trajectory.specs.declared.Place.{Place}
 use Rattle.stops.specs.Ways.{headed, listsIn, ownLists, listsBy}
-use Rattle.trajectory.specs.Walk.{beginning, standing, twiceTo}
+use Rattle.trajectory.specs.Walk.{beginning, twiceTo}
 use Rattle.trajectory.proofs.Goes.{standing-here}
-use Rattle.trajectory.proofs.Areas.{twice-here, twice-is}
+use Rattle.trajectory.proofs.Areas.{twice-is}
 use Rattle.trajectory.proofs.Own.{own-twice}
 use Rattle.close.specs.Walk.{lastOf}
-use Rattle.printing.specs.Rest.{courseLines, coursesLines}
-use Rattle.printing.proofs.Laws.{pieces-all}
+use Rattle.daylines.specs.Rest.{courseLines, coursesLines}
+use Rattle.daylines.proofs.Laws.{pieces-all}
 use Rattle.lines.specs.Text.{sLine}
 use Rattle.listing.specs.Listing.{sLines}
-use Rattle.following.proofs.Areas.{twice-split}
-use Rattle.following.specs.Following.{setOut, Ordered, coursesFrom, coursesAfter, endOf, linesAfter, sumAfter}
+use Rattle.passing.proofs.Watch.{watching-start}
+use Rattle.following.specs.Following.{setOut, Ordered, LowStart, OnIt, coursesFrom, coursesAfter, endOf, linesAfter, sumAfter}
 
 -- lines, in parts
 s-append : (ps qs : List Piece) → sLines (ps ++ qs) ≡ sLines ps ++ sLines qs
@@ -177,22 +174,6 @@ module _ (u : UnitData) where
 
 -- ---- their areas
 
--- to the second n by way of a place between
-module _ (h : Heading) (l : Lists) (t : ℕ) (from p : Place) (there : p ≡ standing h l t (p .second) from) (later : from .second ≤ p .second) where
-  twice-by : (n : ℕ) → p .second ≤ n → twiceTo h l t (p .second) from + twiceTo h l t n p ≡ twiceTo h l t n from
-  twice-by n le = ap (λ (q : Place). twiceTo h l t (p .second) from + twiceTo h l t n q) there ∙ twice-split h l t from (p .second) n later le
-
-  -- up to a boundary x, or to the end e if that comes first
-  pub twice-through : (e x : ℕ) → p .second ≤ e → twiceTo h l t (min (p .second) x) from + twiceTo h l t (min e x) p ≡ twiceTo h l t (min e x) from
-  twice-through e x le = elim (decLe x (p .second)) [
-    | yes lo ↦
-        ap (λ (k : ℕ). twiceTo h l t (min (p .second) x) from + k) (twice-here h l t (min e x) p (omega arith))
-        ∙ ap (λ (k : ℕ). twiceTo h l t k from + 0) {x = min (p .second) x} {y = min e x} (omega arith) ∙ omega arith
-    | no hi ↦
-        ap (λ (k : ℕ). twiceTo h l t k from + twiceTo h l t (min e x) p) {x = min (p .second) x} {y = p .second} (omega arith)
-        ∙ twice-by (min e x) (omega arith)
-  ]
-
 module _ (u : UnitData) (c : Course) where
   abbrev up : Bool
   up = ltb (c .start .grains) (grains (c .target))
@@ -216,3 +197,12 @@ unfolding sumAfter setOut spansOf piecesTo
 set-out-sum u now os j =
     ap (λ (cs : List Course). piecesTo (spansOf u daySeconds cs) (1800 * j)) (from-head u now os)
     ∙ ap (λ (k : ℕ). k + piecesTo (spansOf u daySeconds (coursesAfter u now os)) (1800 * j)) (course-area u (now .course) (min (endOf u now os) (1800 * j)))
+
+-- a course set out on is where its rule says
+pub out-on : (u : UnitData) (now : UnderWay) → LowStart (now .course) → OnIt u (setOut u now)
+unfolding setOut beginning
+out-on u now low = record {
+  lists = refl;
+  watching = watching-start u (now .course) (now .off) (ltb (now .course .start .grains) (grains (now .course .target))) refl;
+  low = low;
+}

@@ -11,14 +11,14 @@ use Rattle.stops.specs.Ways.{headed, listsBy}
 use Rattle.trajectory.specs.Walk.{twiceTo}
 use Rattle.lines.specs.Text.{laid}
 use Rattle.summing.specs.Summing.{firstSum}
-use Rattle.printing.proofs.Laws.{Laying, lay-next, lay-more, lay-all}
-use Rattle.following.specs.declared.Passed.{Passed}
+use Rattle.daylines.proofs.Laws.{Laying, lay-next, lay-more, lay-all}
+use Rattle.passing.specs.declared.Passed.{Passed}
 use Rattle.following.specs.declared.OnCourse.{OnCourse}
 use Rattle.following.specs.declared.Ended.{Ended}
-use Rattle.following.specs.Passing.{AddsOn, Summed, linesLeft, lastLine, Passing}
+use Rattle.passing.specs.Passing.{AddsOn, Summed, linesLeft, lastLine, Passing}
 use Rattle.following.specs.Following.{EndedBy}
-use Rattle.following.proofs.After.{twice-through}
-use Rattle.following.proofs.Watch.{watching-at}
+use Rattle.passing.proofs.Areas.{twice-through}
+use Rattle.passing.proofs.Watch.{watching-at}
 use Rattle.following.proofs.Steps.{last-lines}
 
 module _ (g : OnCourse) (o out xs ys : List ℕ) (s : Passed) (p : Passing (g .lists) (g .now .course) (g .up) (g .place) (g .off) 86400 o out xs ys s)

@@ -1,10 +1,4 @@
-pub mod Adding
-pub mod Areas
 pub mod After
-pub mod Watch
 pub mod Steps
-pub mod Pass
 pub mod Ending
 pub mod Whole
-pub mod Found
-pub mod Parts

@@ -35,14 +35,15 @@ use Rattle.lines.specs.Text.{laid}
 use Rattle.summing.specs.Summing.{firstSum}
 use Rattle.effects.specs.Watching.{offStarting}
 use Rattle.close.specs.Walk.{fateIn, lastOf}
-use Rattle.printing.specs.Rest.{pieceLine, coursesLines}
-use Rattle.printing.proofs.Laws.{Laying, lay-none, lay-room, lay-next, lay-more, pieces-more, pieces-none}
-use Rattle.following.specs.declared.Passed.{Passed}
+use Rattle.daylines.specs.Rest.{pieceLine, coursesLines}
+use Rattle.daylines.proofs.Laws.{Laying, lay-none, lay-room, lay-next, lay-more, pieces-more, pieces-none}
+use Rattle.passing.specs.declared.Passed.{Passed}
 use Rattle.following.specs.declared.OnCourse.{OnCourse}
-use Rattle.following.specs.Passing.{AddsOn, Summed, linesLeft, lastLine, Roomy, Passing}
+use Rattle.passing.specs.Passing.{AddsOn, Summed, linesLeft, lastLine, Roomy, Passing}
 use Rattle.following.specs.Following.{setOut, Ordered, LowStart, coursesFrom, coursesAfter, endOf, OnIt, linesAfter, sumAfter, FollowedBy}
-use Rattle.following.proofs.After.{before, isIdle, next, from-head, after-idle, after-new, marks-none, marks-idle, marks-new, last-none, last-idle, last-new, next-begins, end-new, end-after, ordered-less, set-out-lines, set-out-sum, twice-through}
-use Rattle.following.proofs.Watch.{out-on}
+use Rattle.passing.proofs.Areas.{twice-through}
+use Rattle.following.proofs.After.{before, isIdle, next, from-head, after-idle, after-new, marks-none, marks-idle, marks-new, last-none, last-idle, last-new, next-begins, end-new, end-after, ordered-less, set-out-lines, set-out-sum}
+use Rattle.following.proofs.After.{out-on}
 
 -- the lines of a course that ends at the second n, from the last piece on
 module _ (l : OwnLists) (c : Course) (up : Bool) (n : ℕ) (p q : Place) where

@@ -19,13 +19,13 @@ use Rattle.stops.specs.Ways.{headed, listsBy}
 use Rattle.trajectory.specs.Walk.{twiceTo}
 use Rattle.lines.specs.Text.{laid}
 use Rattle.listing.specs.Listing.{sLines}
-use Rattle.printing.specs.Rest.{coursesLines}
-use Rattle.printing.proofs.Laws.{Laying, lay-next, lay-more, lay-all}
+use Rattle.daylines.specs.Rest.{coursesLines}
+use Rattle.daylines.proofs.Laws.{Laying, lay-next, lay-more, lay-all}
 use Rattle.following.specs.declared.OnCourse.{OnCourse}
 use Rattle.following.specs.declared.Followed.{Followed}
 use Rattle.following.specs.declared.Ended.{Ended}
 use Rattle.following.specs.declared.Settled.{Settled}
-use Rattle.following.specs.Passing.{linesLeft}
+use Rattle.passing.specs.Passing.{linesLeft}
 use Rattle.following.specs.Following.{coursesFrom, linesAfter, sumAfter, FollowedBy, EndedBy, SettledBy}
 use Rattle.following.proofs.After.{after-none, end-none}
 

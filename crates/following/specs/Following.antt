@@ -24,9 +24,9 @@ use Rattle.lines.specs.Text.{laid}
 use Rattle.summing.specs.Summing.{firstSum}
 use Rattle.effects.specs.Watching.{offStarting}
 use Rattle.close.specs.Walk.{fateIn, lastOf}
-use Rattle.printing.specs.Rest.{coursesLines}
-use Rattle.printing.proofs.Laws.{Laying}
-use Rattle.following.specs.Passing.{AddsOn, Summed, linesLeft, Watching}
+use Rattle.daylines.specs.Rest.{coursesLines}
+use Rattle.daylines.proofs.Laws.{Laying}
+use Rattle.passing.specs.Passing.{AddsOn, Summed, linesLeft, Watching}
 use Rattle.following.specs.declared.OnCourse.{OnCourse}
 use Rattle.following.specs.declared.Followed.{Followed}
 use Rattle.following.specs.declared.Ended.{Ended}

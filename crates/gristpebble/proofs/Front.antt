@@ -24,7 +24,7 @@ use Rattle.day.specs.Day.{empty}
 use Rattle.day.specs.Step.{kindOf, bodyOf, noBytes, unknownKind, tooFew, secondOne, beforeUnit, tooMany, notReady, fieldAnswer, tooHigh, quantityTooHigh, answerBy, dayWith, stepBy}
 use Rattle.level.proofs.Lists.{by-bool}
 use Rattle.day.proofs.Passed.{never}
-use Rattle.taking.proofs.Laws.{step-used}
+use Rattle.entering.proofs.Laws.{step-used}
 use Rattle.contract.specs.Program.{runBy, ranBy}
 
 -- a step, by what it reads of the bytes

@@ -22,13 +22,13 @@ use Rattle.day.specs.Step.{stepOf}
 use Rattle.listing.specs.declared.Listed.{Listed}
 use Rattle.lines.specs.Text.{laid}
 use Rattle.listing.specs.Listing.{printedDay, listOf, lentAfter}
-use Rattle.printing.specs.Rest.{someListing}
+use Rattle.printing.specs.Parts.{someListing}
 use Rattle.printing.proofs.Whole.{ask-room}
 use Rattle.gristpebble.specs.Listed.{inOne, listResult, afterRun, lentRun, listedResult, listedLent}
 use Rattle.records.specs.declared.Instruction.{Instruction}
 use Rattle.records.specs.Records.{instructionOf}
-use Rattle.taking.specs.Kinds.{accept, LetsIn}
-use Rattle.taking.proofs.Laws.{step-used, let-in}
+use Rattle.entering.specs.Kinds.{accept, LetsIn}
+use Rattle.entering.proofs.Laws.{step-used, let-in}
 use Rattle.contract.specs.Program.{runBy, ranBy}
 
 -- what n records at most come to, from the place at on

@@ -12,9 +12,9 @@ use Rattle.day.specs.Day.{closedWith, entered, foundIn}
 use Rattle.lines.specs.Text.{laid}
 use Rattle.listing.specs.Listing.{printedDay}
 use Rattle.close.specs.Finding.{arraysOf, findingOf}
-use Rattle.printing.specs.Rest.{fateLines, coursesLines, quantityLines, closingLine}
+use Rattle.daylines.specs.Rest.{fateLines, coursesLines, quantityLines, closingLine}
 use Rattle.printing.proofs.Whole.{from-q, from-s, from-f}
-use Rattle.following.specs.Listing.{listingBy, listingOf}
+use Rattle.onepass.specs.Listing.{listingBy, listingOf}
 use Rattle.intake.specs.declared.Opened.{Opened}
 use Rattle.intake.specs.Opened.{dayWith, dayOf, closedRun}
 use Rattle.contract.specs.Program.{ranBy}

@@ -15,12 +15,12 @@ use records::Refusal;
 pub fn run(input: &[u8]) -> Ran
     ensures { λ r. ⌜ r ≡ ranBy (foundIn paper) (now (input .entry)) ⌝ }
 {
-    let mut d = taking::empty_day();
+    let mut d = day::empty_day();
     let mut at: usize = 0;
     let mut n = input.len();
     while 0 < n {
         n -= 1;
-        if taking::lets_in(d.hasUnit, d.closed, d.count, &input[at..]) {
+        if entering::lets_in(d.hasUnit, d.closed, d.count, &input[at..]) {
             let from = at + 1;
             let to = at + 22;
             let i = records::instruction_of(&input[from..to]);
@@ -108,6 +108,6 @@ pub extern "C" fn gristpebble_listing(input: &[u8], out: &mut [u8]) -> u64
     let unit = d.unit;
     let opening = d.opening;
     let instructions = d.instructions;
-    let count = following::list_open(out, unit, opening, instructions, d.count);
+    let count = onepass::list_open(out, unit, opening, instructions, d.count);
     count as u64
 }

@@ -29,8 +29,8 @@ use Rattle.day.specs.declared.Ran.{Ran}
 use Rattle.day.specs.Day.{halfHours, noInstruction, empty, entered, withUnit, withOpening, withInstruction, closedWith, foundIn}
 use Rattle.day.specs.Step.{tooHigh, quantityTooHigh, stepOf}
 use Rattle.day.proofs.Passed.{never}
-use Rattle.taking.specs.Kinds.{accept, LetsIn}
-use Rattle.taking.proofs.Laws.{let-in, unit-now, unit-taken, opening-now, opening-fits, taken-low, close-now, close-taken}
+use Rattle.entering.specs.Kinds.{accept, LetsIn}
+use Rattle.entering.proofs.Laws.{let-in, unit-now, unit-taken, opening-now, opening-fits, taken-low, close-now, close-taken}
 use Rattle.contract.specs.Program.{runBy, ranBy}
 use Rattle.intake.specs.declared.Opened.{Opened}
 use Rattle.intake.specs.Fronts.{UnitIn, OpeningIn}

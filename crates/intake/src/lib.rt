@@ -2,7 +2,6 @@
 // close with no refusal. Any other input is left to the steps of `taking`.
 ghost use mathlib.Core.Path.{_≡_};
 ghost use mathlib.Core.Bool.{true, false, _&&_};
-ghost use mathlib.Core.List.{[]};
 ghost use Prim.Native.Nat.{_≤_};
 ghost use lib.Dec.{leb, eqb};
 ghost use lib.ListN.{length, take, drop};
@@ -11,8 +10,8 @@ ghost use Rattle.records.specs.declared.Answer.the-variants.{Accepted};
 ghost use Rattle.records.specs.Fields.{instructionAnswer};
 ghost use Rattle.records.specs.Records.{openingOf, issueOf, instructionOf};
 ghost use Rattle.profile.specs.Profile.{paper};
-ghost use Rattle.day.specs.Day.{daySeconds, noInstruction, foundIn};
-ghost use Rattle.taking.specs.Kinds.{LetsIn};
+ghost use Rattle.day.specs.Day.{daySeconds, foundIn};
+ghost use Rattle.entering.specs.Kinds.{LetsIn};
 ghost use Rattle.contract.specs.Program.{ranBy};
 ghost use Rattle.intake.specs.Fronts.{UnitIn, OpeningIn};
 ghost use Rattle.intake.specs.Opened.{closedRun};
@@ -46,38 +45,6 @@ struct Read {
     instruction: records::Instruction,
 }
 
-// An opening of zeros.
-fn no_opening() -> records::Opening
-    ensures { λ r. ⌜ r ≡ openingOf [] ⌝ }
-{
-    records::Opening {
-        level: 0,
-        target: 0,
-        heat: 0,
-        off: 0,
-    }
-}
-
-// What an unused place holds.
-fn no_instruction() -> records::Instruction
-    ensures { λ r. ⌜ r ≡ noInstruction ⌝ }
-{
-    let effect = records::Effect::Fail;
-    let meaning = records::Meaning {
-        lag: 0,
-        rank: 0,
-        effect,
-    };
-    records::Instruction {
-        effective: 0,
-        issue: 0,
-        meaning,
-        level: 0,
-        up: 0,
-        down: 0,
-    }
-}
-
 // A unit read from the front of the input; zeros where there are too few bytes.
 fn read_unit(input: &[u8]) -> First
     ensures { λ r. ⌜ (r .fits ≡ true → UnitIn (now (input .entry)) (r .unit)) ⌝ }
@@ -104,7 +71,7 @@ fn read_opening(unit: records::UnitData, input: &[u8]) -> Begun
 {
     let none = Begun {
         fits: false,
-        opening: no_opening(),
+        opening: day::no_opening(),
     };
     if input.len() < 17 {
         return none;
@@ -124,7 +91,7 @@ fn read_opening(unit: records::UnitData, input: &[u8]) -> Begun
         heat,
         off,
     };
-    let high = taking::too_high(unit, opening);
+    let high = entering::too_high(unit, opening);
     Begun {
         fits: ranges & !high,
         opening,
@@ -178,7 +145,7 @@ fn read_body(body: &[u8]) -> Read
         }
         Coded::Unknown => Read {
             fits: false,
-            instruction: no_instruction(),
+            instruction: day::no_instruction(),
         },
     }
 }
@@ -189,7 +156,7 @@ fn read_instruction(count: usize, input: &[u8]) -> Read
 {
     let none = Read {
         fits: false,
-        instruction: no_instruction(),
+        instruction: day::no_instruction(),
     };
     if input.len() < 22 {
         return none;
@@ -213,8 +180,8 @@ pub fn open_day(input: &[u8]) -> Opened
     let mut e = Opened {
         fits: false,
         unit,
-        opening: no_opening(),
-        instructions: [no_instruction(); 40],
+        opening: day::no_opening(),
+        instructions: [day::no_instruction(); 40],
         count: 0,
     };
     if !first.fits {

@@ -139,7 +139,7 @@ fn round_kw(twice: u64) -> u64
 }
 
 // The quantity (kW) of a half-hour, by the sums before and after it.
-fn quantity_between(before: u64, after: u64) -> u64
+pub fn quantity_between(before: u64, after: u64) -> u64
     ensures { λ r. ⌜ r ≡ rounded (after - before) ⌝ }
 {
     if after < before {

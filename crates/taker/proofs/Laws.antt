@@ -11,7 +11,7 @@ use Rattle.profile.specs.Profile.{paper}
 use Rattle.day.specs.declared.Day.{Day}
 use Rattle.day.specs.Day.{foundIn}
 use Rattle.day.specs.Step.{stepOf}
-use Rattle.taking.proofs.Laws.{step-used}
+use Rattle.entering.proofs.Laws.{step-used}
 use Rattle.taker.specs.Rest.{restAfter}
 
 pub rest-is : (d : Day) (s : List ℕ) → restAfter (stepOf d s) s ≡ drop (stepOf d s .used) s

@@ -6,7 +6,7 @@ use Rattle.close.proofs.begin_walk.Statement.{statement}
 use Rattle.close.proofs.begin_walk.Tie as tie
 use Rattle.close.proofs.begin_walk.Reads as reads
 use Rattle.close.proofs.begin_walk.Lts as lts
-use Rattle.close.proofs.no_course.Reads as no-course-reads
+use Rattle.day.proofs.no_course.Reads as no-course-reads
 
 -- src/lib.rt:439:9
 no-course-requires : tie.Need-no-course-requires

@@ -9,7 +9,7 @@ use borrow.Author.Needs.{needs}
 use Rattle.trajectory.proofs.Goes.{Goes}
 use Rattle.stops.specs.Ways.{headed, listsIn, ownLists}
 use Rattle.level.specs.Level.{grains}
-use Rattle.close.proofs.Watching.{Watched, watched-start, watched-goes, watched-on, watched-end}
+use Rattle.effects.proofs.Watching.{Watched, watched-start, watched-goes, watched-on, watched-end}
 use Rattle.close.proofs.state_after.Statement.{statement}
 use Rattle.close.proofs.state_after.Tie as tie
 use Rattle.close.proofs.state_after.Reads as reads

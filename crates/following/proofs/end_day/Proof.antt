@@ -3,7 +3,7 @@ use mathlib.Core.Path.{_≡_, refl}
 use native.Mathlib.Omega.{arith}
 use lib.ListN.{length}
 use Rattle.lines.proofs.Laws.{part-length}
-use Rattle.following.specs.Passing.{lastLine, Passing}
+use Rattle.passing.specs.Passing.{lastLine, Passing}
 use Rattle.following.proofs.Steps.{last-goes}
 use Rattle.following.proofs.Ending.{last-fits, ended}
 use borrow.Author.Needs.{needs}
@@ -11,8 +11,8 @@ use Rattle.following.proofs.end_day.Statement.{statement}
 use Rattle.following.proofs.end_day.Tie as tie
 use Rattle.following.proofs.end_day.Reads as reads
 use Rattle.following.proofs.end_day.Lts as lts
-use Rattle.following.proofs.end_course.Reads as end-course-reads
-use Rattle.following.proofs.pass_to.Reads as pass-to-reads
+use Rattle.passing.proofs.end_course.Reads as end-course-reads
+use Rattle.passing.proofs.pass_to.Reads as pass-to-reads
 
 -- src/lib.rt:320:9
 pass-to-requires : tie.Need-pass-to-requires

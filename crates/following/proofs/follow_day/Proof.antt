@@ -3,7 +3,7 @@ use mathlib.Core.Path.{_≡_, refl}
 use native.Mathlib.Omega.{arith}
 use lib.ListN.{length, take}
 use Rattle.lines.proofs.Laws.{part-length}
-use Rattle.following.specs.Passing.{linesLeft}
+use Rattle.passing.specs.Passing.{linesLeft}
 use Rattle.following.proofs.Whole.{rest-fits, settled}
 use borrow.Author.Needs.{needs}
 use Rattle.following.proofs.follow_day.Statement.{statement}

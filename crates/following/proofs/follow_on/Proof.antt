@@ -15,14 +15,14 @@ use Rattle.profile.specs.declared.UnderWay.{UnderWay}
 use Rattle.profile.specs.declared.State.{State}
 use Rattle.profile.specs.Effects.{idle, begun}
 use Rattle.stops.specs.declared.OwnLists.{OwnLists}
-use Rattle.printing.specs.Rest.{coursesLines}
+use Rattle.daylines.specs.Rest.{coursesLines}
 use Rattle.following.specs.declared.OnCourse.{OnCourse}
 use Rattle.lines.proofs.Laws.{part-length}
-use Rattle.following.specs.Passing.{Roomy, Passing}
+use Rattle.passing.specs.Passing.{Roomy, Passing}
 use Rattle.following.specs.Following.{setOut, coursesFrom, FollowedBy}
 use Rattle.following.proofs.After.{before, isIdle, next, ordered-end}
-use Rattle.following.proofs.Watch.{watching-at}
-use Rattle.following.proofs.Steps.{Sofar, has-room, sofar-start, set-again, ends-later, roomy, sofar-pass, sofar-idle, last-room, last-goes, sofar-new, sofar-all}
+use Rattle.passing.proofs.Watch.{watching-at}
+use Rattle.following.proofs.Steps.{Sofar, has-room, sofar-start, set-again, roomy, sofar-pass, sofar-idle, last-room, last-goes, sofar-new, sofar-all}
 use Rattle.following.proofs.follow_on.Statement.{statement}
 use Rattle.following.proofs.follow_on.Tie as tie
 use Rattle.following.proofs.follow_on.Reads as reads
@@ -31,8 +31,8 @@ use Rattle.effects.proofs.acting_second.Reads as acting-second-reads
 use Rattle.effects.proofs.off_starting.Reads as off-starting-reads
 use Rattle.effects.proofs.stays_idle.Reads as stays-idle-reads
 use Rattle.following.proofs.begin_next.Reads as begin-next-reads
-use Rattle.following.proofs.end_course.Reads as end-course-reads
-use Rattle.following.proofs.pass_to.Reads as pass-to-reads
+use Rattle.passing.proofs.end_course.Reads as end-course-reads
+use Rattle.passing.proofs.pass_to.Reads as pass-to-reads
 use Rattle.following.proofs.place_of.Reads as place-of-reads
 use Rattle.following.proofs.ramp_of.Reads as ramp-of-reads
 use Rattle.following.proofs.set_out.Reads as set-out-reads

@@ -6,7 +6,7 @@ use Rattle.gristpebble.proofs.gristpebble_listing.Statement.{statement}
 use Rattle.gristpebble.proofs.gristpebble_listing.Tie as tie
 use Rattle.gristpebble.proofs.gristpebble_listing.Reads as reads
 use Rattle.gristpebble.proofs.gristpebble_listing.Lts as lts
-use Rattle.following.proofs.list_open.Reads as list-open-reads
+use Rattle.onepass.proofs.list_open.Reads as list-open-reads
 use Rattle.gristpebble.proofs.list_run.Reads as list-run-reads
 use Rattle.intake.proofs.open_day.Reads as open-day-reads
 

@@ -3,8 +3,8 @@ use mathlib.Core.Bool.{true, false}
 use borrow.Author.Tests.{eqb-true}
 use Rattle.records.specs.Records.{openingOf, instructionOf}
 use Rattle.day.proofs.Passed.{never}
-use Rattle.taking.specs.Kinds.{LetsIn}
-use Rattle.taking.proofs.Laws.{not-false}
+use Rattle.entering.specs.Kinds.{LetsIn}
+use Rattle.entering.proofs.Laws.{not-false}
 use Rattle.intake.specs.Fronts.{OpeningIn}
 use Prim.Native.Nat.{_≤_, _<_, _+_, _-_, _^_}
 use native.Mathlib.Omega.{arith}
@@ -15,8 +15,8 @@ use Rattle.intake.proofs.open_day.Statement.{statement}
 use Rattle.intake.proofs.open_day.Tie as tie
 use Rattle.intake.proofs.open_day.Reads as reads
 use Rattle.intake.proofs.open_day.Lts as lts
-use Rattle.intake.proofs.no_instruction.Reads as no-instruction-reads
-use Rattle.intake.proofs.no_opening.Reads as no-opening-reads
+use Rattle.day.proofs.no_instruction.Reads as no-instruction-reads
+use Rattle.day.proofs.no_opening.Reads as no-opening-reads
 use Rattle.intake.proofs.read_instruction.Reads as read-instruction-reads
 use Rattle.intake.proofs.read_opening.Reads as read-opening-reads
 use Rattle.intake.proofs.read_unit.Reads as read-unit-reads

@@ -11,7 +11,7 @@ use Rattle.intake.proofs.read_body.Reads as reads
 use Rattle.intake.proofs.read_body.Lts as lts
 use Rattle.intake.proofs.figures_fit.Reads as figures-fit-reads
 use Rattle.intake.proofs.issue_of.Reads as issue-of-reads
-use Rattle.intake.proofs.no_instruction.Reads as no-instruction-reads
+use Rattle.day.proofs.no_instruction.Reads as no-instruction-reads
 use Rattle.records.proofs.decode.Reads as decode-reads
 use Rattle.records.proofs.number.Reads as number-reads
 

@@ -6,7 +6,7 @@ use Rattle.intake.proofs.read_instruction.Statement.{statement}
 use Rattle.intake.proofs.read_instruction.Tie as tie
 use Rattle.intake.proofs.read_instruction.Reads as reads
 use Rattle.intake.proofs.read_instruction.Lts as lts
-use Rattle.intake.proofs.no_instruction.Reads as no-instruction-reads
+use Rattle.day.proofs.no_instruction.Reads as no-instruction-reads
 use Rattle.intake.proofs.read_body.Reads as read-body-reads
 
 no-instruction-requires : tie.Need-no-instruction-requires

@@ -2,16 +2,16 @@ use native.Mathlib.Omega.{arith}
 use mathlib.Core.Path.{sym, ap, _∙_}
 use Rattle.day.specs.Step.{tooHigh}
 use Rattle.day.proofs.Passed.{never}
-use Rattle.taking.proofs.Laws.{not-true}
+use Rattle.entering.proofs.Laws.{not-true}
 use Rattle.intake.proofs.Reading.{both, begun-is, opening-fit}
 use borrow.Author.Needs.{needs}
 use Rattle.intake.proofs.read_opening.Statement.{statement}
 use Rattle.intake.proofs.read_opening.Tie as tie
 use Rattle.intake.proofs.read_opening.Reads as reads
 use Rattle.intake.proofs.read_opening.Lts as lts
-use Rattle.intake.proofs.no_opening.Reads as no-opening-reads
+use Rattle.day.proofs.no_opening.Reads as no-opening-reads
 use Rattle.records.proofs.number.Reads as number-reads
-use Rattle.taking.proofs.too_high.Reads as too-high-reads
+use Rattle.entering.proofs.too_high.Reads as too-high-reads
 
 no-opening-requires : tie.Need-no-opening-requires
 no-opening-requires c κs = search needs

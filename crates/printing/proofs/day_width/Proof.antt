@@ -5,10 +5,10 @@ use Rattle.printing.proofs.day_width.Statement.{statement}
 use Rattle.printing.proofs.day_width.Tie as tie
 use Rattle.printing.proofs.day_width.Reads as reads
 use Rattle.printing.proofs.day_width.Lts as lts
-use Rattle.printing.proofs.closing_width.Reads as closing-width-reads
-use Rattle.printing.proofs.courses_width.Reads as courses-width-reads
-use Rattle.printing.proofs.fates_width.Reads as fates-width-reads
-use Rattle.printing.proofs.quantities_width.Reads as quantities-width-reads
+use Rattle.daylines.proofs.closing_width.Reads as closing-width-reads
+use Rattle.daylines.proofs.courses_width.Reads as courses-width-reads
+use Rattle.daylines.proofs.fates_width.Reads as fates-width-reads
+use Rattle.daylines.proofs.quantities_width.Reads as quantities-width-reads
 
 -- src/lib.rt:271:9
 fates-width-requires : tie.Need-fates-width-requires

@@ -1,6 +1,6 @@
 use mathlib.Core.Path.{ap, _∙_}
 use native.Mathlib.Omega.{arith}
-use Rattle.printing.specs.Rest.{someListing}
+use Rattle.printing.specs.Parts.{someListing}
 use Rattle.printing.proofs.Whole.{ask-open, ask-short, ask-room}
 use borrow.Author.Needs.{needs}
 use Rattle.printing.proofs.list.Statement.{statement}

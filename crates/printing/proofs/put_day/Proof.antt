@@ -7,13 +7,15 @@ use lib.ListN.{length}
 use Rattle.lines.proofs.Laws.{part-length}
 use Rattle.day.specs.declared.Day.{Day}
 use Rattle.listing.specs.Listing.{printedDay}
-use Rattle.printing.specs.Rest.{fateLines, fromS}
-use Rattle.printing.proofs.Whole.{first-room, second-room, both-laid, from-f}
+use Rattle.printing.specs.Parts.{fromS}
+use Rattle.daylines.specs.Rest.{fateLines}
+use Rattle.daylines.proofs.Two.{first-room, second-room, both-laid}
+use Rattle.printing.proofs.Whole.{from-f}
 use Rattle.printing.proofs.put_day.Statement.{statement}
 use Rattle.printing.proofs.put_day.Tie as tie
 use Rattle.printing.proofs.put_day.Reads as reads
 use Rattle.printing.proofs.put_day.Lts as lts
-use Rattle.printing.proofs.put_fates.Reads as put-fates-reads
+use Rattle.daylines.proofs.put_fates.Reads as put-fates-reads
 use Rattle.printing.proofs.put_from_s.Reads as put-from-s-reads
 
 -- the two parts

@@ -6,14 +6,16 @@ use borrow.Author.Needs.{needs}
 use lib.ListN.{length}
 use Rattle.lines.proofs.Laws.{part-length}
 use Rattle.day.specs.declared.Day.{Day}
-use Rattle.printing.specs.Rest.{quantityLines, closingLine, fromQ}
-use Rattle.printing.proofs.Whole.{first-room, second-room, both-laid, from-q}
+use Rattle.printing.specs.Parts.{fromQ}
+use Rattle.daylines.specs.Rest.{quantityLines, closingLine}
+use Rattle.daylines.proofs.Two.{first-room, second-room, both-laid}
+use Rattle.printing.proofs.Whole.{from-q}
 use Rattle.printing.proofs.put_from_q.Statement.{statement}
 use Rattle.printing.proofs.put_from_q.Tie as tie
 use Rattle.printing.proofs.put_from_q.Reads as reads
 use Rattle.printing.proofs.put_from_q.Lts as lts
-use Rattle.printing.proofs.put_closing.Reads as put-closing-reads
-use Rattle.printing.proofs.put_quantities.Reads as put-quantities-reads
+use Rattle.daylines.proofs.put_closing.Reads as put-closing-reads
+use Rattle.daylines.proofs.put_quantities.Reads as put-quantities-reads
 
 -- the two parts
 abbrev front : Day → List ℕ

@@ -6,13 +6,15 @@ use borrow.Author.Needs.{needs}
 use lib.ListN.{length, take}
 use Rattle.lines.proofs.Laws.{part-length}
 use Rattle.day.specs.declared.Day.{Day}
-use Rattle.printing.specs.Rest.{coursesLines, fromQ, fromS}
-use Rattle.printing.proofs.Whole.{first-room, second-room, both-laid, from-s}
+use Rattle.printing.specs.Parts.{fromQ, fromS}
+use Rattle.daylines.specs.Rest.{coursesLines}
+use Rattle.daylines.proofs.Two.{first-room, second-room, both-laid}
+use Rattle.printing.proofs.Whole.{from-s}
 use Rattle.printing.proofs.put_from_s.Statement.{statement}
 use Rattle.printing.proofs.put_from_s.Tie as tie
 use Rattle.printing.proofs.put_from_s.Reads as reads
 use Rattle.printing.proofs.put_from_s.Lts as lts
-use Rattle.printing.proofs.put_courses.Reads as put-courses-reads
+use Rattle.daylines.proofs.put_courses.Reads as put-courses-reads
 use Rattle.printing.proofs.put_from_q.Reads as put-from-q-reads
 
 -- the two parts

@@ -1,15 +1,15 @@
 use native.Mathlib.Omega.{arith}
-use mathlib.Core.Path.{_≡_, refl, sym, ap, _∙_}
+use mathlib.Core.Path.{_∙_}
 use Rattle.profile.specs.Profile.{paper}
 use Rattle.day.specs.Day.{foundIn}
-use Rattle.taking.proofs.Laws.{close-late, close-now}
+use Rattle.entering.proofs.Laws.{close-late, close-now}
 use borrow.Author.Needs.{needs}
 use Rattle.taking.proofs.close_front.Statement.{statement}
 use Rattle.taking.proofs.close_front.Tie as tie
 use Rattle.taking.proofs.close_front.Reads as reads
 use Rattle.taking.proofs.close_front.Lts as lts
 use Rattle.taking.proofs.close_step.Reads as close-step-reads
-use Rattle.taking.proofs.refused.Reads as refused-reads
+use Rattle.entering.proofs.refused.Reads as refused-reads
 
 refused-requires : tie.Need-refused-requires
 refused-requires c κs = search needs

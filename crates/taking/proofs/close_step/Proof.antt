@@ -1,19 +1,21 @@
-use mathlib.Core.Path.{_≡_, refl, sym, ap, _∙_}
+use mathlib.Core.Path.{sym, ap, _∙_}
 use Rattle.day.specs.declared.Day.{Day}
 use Rattle.close.specs.declared.Finding.{Finding}
 use Rattle.summing.specs.Summing.{someAbove}
-use Rattle.taking.specs.Kinds.{accept, closedBy}
-use Rattle.taking.proofs.Laws.{not-true, not-false, high-is, closed-is, close-unready, close-high, close-taken}
+use Rattle.taking.specs.Closed.{closedBy}
+use Rattle.entering.specs.Kinds.{accept}
+use Rattle.taking.proofs.Closed.{high-is, closed-is}
+use Rattle.entering.proofs.Laws.{not-true, not-false, close-unready, close-high, close-taken}
 use borrow.Author.Needs.{needs}
 use Rattle.taking.proofs.close_step.Statement.{statement}
 use Rattle.taking.proofs.close_step.Tie as tie
 use Rattle.taking.proofs.close_step.Reads as reads
 use Rattle.taking.proofs.close_step.Lts as lts
 use Rattle.summing.proofs.quantity_too_high.Reads as quantity-too-high-reads
-use Rattle.taking.proofs.accepted.Reads as accepted-reads
+use Rattle.entering.proofs.accepted.Reads as accepted-reads
 use Rattle.taking.proofs.closed_with.Reads as closed-with-reads
 use Rattle.taking.proofs.find_in.Reads as find-in-reads
-use Rattle.taking.proofs.refused.Reads as refused-reads
+use Rattle.entering.proofs.refused.Reads as refused-reads
 
 refused-requires : tie.Need-refused-requires
 refused-requires c κs = search needs

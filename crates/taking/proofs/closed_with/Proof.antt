@@ -1,5 +1,5 @@
 use mathlib.Core.Path.{refl}
-use Rattle.taking.specs.Kinds.{closedBy}
+use Rattle.taking.specs.Closed.{closedBy}
 use Rattle.taking.proofs.closed_with.Statement.{statement}
 use Rattle.taking.proofs.closed_with.Tie as tie
 use Rattle.taking.proofs.closed_with.Reads as reads

@@ -1,5 +1,5 @@
-use mathlib.Core.Path.{_≡_, _∙_}
-use Rattle.taking.proofs.Laws.{finding-is}
+use mathlib.Core.Path.{_∙_}
+use Rattle.taking.proofs.Closed.{finding-is}
 use borrow.Author.Needs.{needs}
 use Rattle.taking.proofs.find_in.Statement.{statement}
 use Rattle.taking.proofs.find_in.Tie as tie

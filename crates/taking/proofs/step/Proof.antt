@@ -1,18 +1,18 @@
 use native.Mathlib.Omega.{arith}
-use mathlib.Core.Path.{_≡_, refl, sym, ap, _∙_}
+use mathlib.Core.Path.{_∙_}
 use Rattle.profile.specs.Profile.{paper}
 use Rattle.day.specs.Day.{foundIn}
-use Rattle.taking.proofs.Laws.{step-empty, no-kind}
+use Rattle.entering.proofs.Laws.{step-empty, no-kind}
 use borrow.Author.Needs.{needs}
 use Rattle.taking.proofs.step.Statement.{statement}
 use Rattle.taking.proofs.step.Tie as tie
 use Rattle.taking.proofs.step.Reads as reads
 use Rattle.taking.proofs.step.Lts as lts
 use Rattle.taking.proofs.close_front.Reads as close-front-reads
-use Rattle.taking.proofs.instruction_front.Reads as instruction-front-reads
-use Rattle.taking.proofs.opening_front.Reads as opening-front-reads
-use Rattle.taking.proofs.refused.Reads as refused-reads
-use Rattle.taking.proofs.unit_front.Reads as unit-front-reads
+use Rattle.entering.proofs.instruction_front.Reads as instruction-front-reads
+use Rattle.entering.proofs.opening_front.Reads as opening-front-reads
+use Rattle.entering.proofs.refused.Reads as refused-reads
+use Rattle.entering.proofs.unit_front.Reads as unit-front-reads
 
 refused-requires : tie.Need-refused-requires
 refused-requires c κs = search needs

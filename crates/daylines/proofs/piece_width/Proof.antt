@@ -1,0 +1,27 @@
+use Rattle.daylines.specs.Rest.{pieceLine}
+use borrow.Author.Needs.{needs}
+use Rattle.daylines.proofs.piece_width.Statement.{statement}
+use Rattle.daylines.proofs.piece_width.Tie as tie
+use Rattle.daylines.proofs.piece_width.Reads as reads
+use Rattle.daylines.proofs.piece_width.Lts as lts
+use Rattle.lines.proofs.s_width.Reads as s-width-reads
+
+-- src/lib.rt:67:16
+cast-from : tie.Need-cast-from
+cast-from c = search needs
+
+-- src/lib.rt:68:14
+cast-to : tie.Need-cast-to
+cast-to c = search needs
+
+-- src/lib.rt:69:5
+s-width-requires : tie.Need-s-width-requires
+s-width-requires c κs = search needs
+
+-- src/lib.rt:64:1
+returns : tie.Need-returns
+unfolding pieceLine
+returns c = c .s-width .ensures
+
+pub piece-width-spec : {M : Type 1} → statement M
+piece-width-spec = tie.close (tie.spec cast-from cast-to s-width-requires returns)

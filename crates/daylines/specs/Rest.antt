@@ -1,0 +1,52 @@
+-- The lines of a day, kind by kind, and what is left of each kind to print.
+-- Assumes nothing.
+use Prim.Native.Nat.{ℕ, zero, suc}
+use mathlib.Core.List.{List, []}
+use lib.Dec.{eqb}
+use lib.ListN.{take}
+use Rattle.level.specs.Choice.{pick}
+use Rattle.level.specs.Lists.{listFrom}
+use Rattle.records.specs.declared.UnitData.{UnitData}
+use Rattle.course.specs.declared.Course.{Course}
+use Rattle.course.specs.Course.{trajectoryOf}
+use Rattle.course.specs.Pieces.{piecesIn}
+use Rattle.profile.specs.declared.Closing.{Closing}
+use Rattle.profile.specs.Profile.{spansOf, dayPieces}
+use Rattle.day.specs.Day.{halfHours, daySeconds, quantityAt}
+use Rattle.trajectory.specs.declared.Place.{Place}
+use Rattle.lines.specs.Text.{sLine, eLine}
+use Rattle.listing.specs.Listing.{fLines, sLines, runLines, qLines}
+
+-- the F lines of the first n of some fates
+abbrev pub fateLines : ℕ → List ℕ → List ℕ
+fateLines n fates = fLines 1 (take n fates)
+
+-- the S line of the straight piece from one place of a course to another
+unfoldable pub pieceLine : Place → Place → List ℕ
+pieceLine p q = sLine (p .second) (q .second) (p .level) (q .level)
+
+-- the S lines of a course that lasts to the second n
+abbrev pub courseLines : UnitData → Course → ℕ → List ℕ
+courseLines u c n = sLines (piecesIn (trajectoryOf u c) (c .begin) n)
+
+-- the S lines of some courses, the last of which goes on to the day's end
+unfoldable pub coursesLines : UnitData → List Course → List ℕ
+coursesLines u cs = sLines (dayPieces (spansOf u daySeconds cs))
+
+-- the Q lines of a day of these sums
+abbrev pub quantityLines : List ℕ → List ℕ
+quantityLines sums = qLines (listFrom (quantityAt sums) 0 halfHours)
+
+-- the Q lines of the half-hours from the boundary i on, n of them, where f gives the quantity of each
+unfoldable pub runsFrom : (ℕ → ℕ) → ℕ → ℕ → List ℕ
+runsFrom f i zero = []
+runsFrom f i (suc n) = runLines (suc i) (suc i) (f i) (listFrom f (suc i) n)
+
+-- the boundary at which a run of the quantity k ends, from the boundary i on, with n half-hours left
+unfoldable pub runEnd : (ℕ → ℕ) → ℕ → ℕ → ℕ → ℕ
+runEnd f k i zero = i
+runEnd f k i (suc n) = pick (eqb (f i) k) (runEnd f k (suc i) n) i
+
+-- the E line
+unfoldable pub closingLine : Closing → List ℕ
+closingLine e = eLine (e .level .grains) (e .target) (e .heat) (e .off)

@@ -1,0 +1,19 @@
+use mathlib.Core.Path.{refl}
+use Rattle.profile.specs.Profile.{rounded}
+use borrow.Author.Needs.{needs}
+use Rattle.onepass.proofs.part_kw.Statement.{statement}
+use Rattle.onepass.proofs.part_kw.Tie as tie
+use Rattle.onepass.proofs.part_kw.Reads as reads
+use Rattle.onepass.proofs.part_kw.Lts as lts
+
+-- src/lib.rt:394:6
+add-result : tie.Need-add-result
+add-result c = search needs
+
+-- src/lib.rt:390:1
+returns : tie.Need-returns
+unfolding rounded
+returns c = refl
+
+pub part-kw-spec : {M : Type 1} → statement M
+part-kw-spec = tie.close (tie.spec add-result returns)

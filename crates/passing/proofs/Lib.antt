@@ -1,0 +1,4 @@
+pub mod Adding
+pub mod Areas
+pub mod Watch
+pub mod Pass
