@@ -19,7 +19,7 @@ use Rattle.day.specs.Day.{empty, foundIn}
 use Rattle.day.specs.Step.{kindOf, bodyOf, dayWith, answerOf, stepBy, stepOf}
 use Rattle.level.proofs.Lists.{by-bool}
 use Rattle.day.proofs.Passed.{never, is-accepted, Passed, passed}
-use Rattle.lines.specs.Text.{laid}
+use Rattle.text.specs.Text.{laid}
 use Rattle.listing.specs.Listing.{printedDay, listAnswer, listOf, lentAfter}
 use Rattle.contract.specs.Calls.{Call, sends, asks, after, letIn, wrote}
 use Rattle.contract.proofs.Made.{Made, made-empty, front, taken}

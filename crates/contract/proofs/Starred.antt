@@ -23,7 +23,8 @@ use Rattle.profile.specs.Profile.{beginOf, spansOf, inForce, levelStarting, lev
 use Rattle.profile.specs.State.{held, watchNext, watch, byRule, arrival, stateOn, bySegments}
 use Rattle.day.specs.Day.{empty, entered, withUnit, withOpening, withInstruction, closedWith, fatesIn, coursesIn, quantityAt, quantitiesIn, foundIn}
 use Rattle.day.specs.Step.{kindOf, bodyOf, noBytes, unknownKind, tooFew, secondOne, beforeUnit, tooMany, notReady, fieldAnswer, tooHigh, quantityTooHigh, answerBy, dayWith, stepBy, restOf}
-use Rattle.lines.specs.Text.{digits, decimal, field, fields, line, fLine, sLine, qLine, eLine, xLine}
+use Rattle.lines.specs.Lines.{fLine, sLine, qLine, eLine, xLine}
+use Rattle.text.specs.Text.{digits, decimal, field, fields, line}
 use Rattle.listing.specs.Listing.{fLines, sLines, runLines, qLines, listing, printedDay, listAnswer, listOf, lentAfter}
 use Rattle.listing.specs.Reader.{parted, linesOf, wordsOf, isByte, allDigits, isDecimal, valueFrom, value, enclosing, inLines, printedAt, printedKw}
 use Rattle.contract.specs.Calls.{letIn, wrote}

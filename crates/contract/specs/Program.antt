@@ -13,7 +13,7 @@ use Rattle.day.specs.declared.Stepped.{Stepped}
 use Rattle.day.specs.declared.Ran.{Ran}
 use Rattle.day.specs.Day.{empty, foundIn}
 use Rattle.day.specs.Step.{stepBy}
-use Rattle.lines.specs.Text.{xLine}
+use Rattle.lines.specs.Lines.{xLine}
 use Rattle.listing.specs.Listing.{printedDay}
 
 -- records from a day on, up to close or the first refusal, n at most; where none is left, there are too few bytes

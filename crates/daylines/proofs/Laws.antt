@@ -29,8 +29,9 @@ use Rattle.stops.specs.Ways.{headed, ownLists, listsBy}
 use Rattle.trajectory.specs.Walk.{beginning, pieceBetween, onward, piecesLeft}
 use Rattle.trajectory.proofs.Left.{left-none, onward-first, all-left}
 use Rattle.trajectory.proofs.Own.{own-left}
-use Rattle.lines.specs.Text.{fLine, sLine, qLine, laid}
-use Rattle.lines.proofs.Laws.{laid-part, laid-length}
+use Rattle.lines.specs.Lines.{fLine, sLine, qLine}
+use Rattle.text.specs.Text.{laid}
+use Rattle.text.proofs.Laws.{laid-part, laid-length}
 use Rattle.listing.specs.Listing.{fLines, sLines, runLines, qLines}
 use Rattle.daylines.specs.Rest.{pieceLine, courseLines, coursesLines, runsFrom, runEnd}
 

@@ -5,8 +5,8 @@ use mathlib.Core.Path.{_≡_, sym, ap, _∙_}
 use mathlib.Core.List.{List, _++_}
 use native.Mathlib.Omega.{arith}
 use lib.ListN.{length, take, drop, length-append}
-use Rattle.lines.specs.Text.{laid}
-use Rattle.lines.proofs.Laws.{laid-part, laid-length}
+use Rattle.text.specs.Text.{laid}
+use Rattle.text.proofs.Laws.{laid-part, laid-length}
 
 -- ---- a whole of two parts, the second laid after the first
 module _ (whole x y o : List ℕ) (h : length whole ≤ length o) (parts : whole ≡ x ++ y) where

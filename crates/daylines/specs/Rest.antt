@@ -14,7 +14,7 @@ use Rattle.profile.specs.declared.Closing.{Closing}
 use Rattle.profile.specs.Profile.{spansOf, dayPieces}
 use Rattle.day.specs.Day.{halfHours, daySeconds, quantityAt}
 use Rattle.trajectory.specs.declared.Place.{Place}
-use Rattle.lines.specs.Text.{sLine, eLine}
+use Rattle.lines.specs.Lines.{sLine, eLine}
 use Rattle.listing.specs.Listing.{fLines, sLines, runLines, qLines}
 
 -- the F lines of the first n of some fates

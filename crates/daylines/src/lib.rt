@@ -4,7 +4,7 @@ ghost use Prim.Native.Nat.{_+_, _-_, min, _<_, _≤_};
 ghost use lib.ListN.{length, take};
 ghost use Rattle.level.specs.Choice.{pick};
 ghost use Rattle.day.specs.Day.{daySeconds, quantityAt};
-ghost use Rattle.lines.specs.Text.{laid};
+ghost use Rattle.text.specs.Text.{laid};
 ghost use Rattle.daylines.specs.Rest.{fateLines, pieceLine, courseLines, coursesLines, quantityLines, runEnd, closingLine};
 
 // A count that reads like the places there are, where it is larger.

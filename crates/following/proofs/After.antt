@@ -32,7 +32,7 @@ use Rattle.trajectory.proofs.Own.{own-twice}
 use Rattle.close.specs.Walk.{lastOf}
 use Rattle.daylines.specs.Rest.{courseLines, coursesLines}
 use Rattle.daylines.proofs.Laws.{pieces-all}
-use Rattle.lines.specs.Text.{sLine}
+use Rattle.lines.specs.Lines.{sLine}
 use Rattle.listing.specs.Listing.{sLines}
 use Rattle.passing.proofs.Watch.{watching-start}
 use Rattle.following.specs.Following.{setOut, Ordered, LowStart, OnIt, coursesFrom, coursesAfter, endOf, linesAfter, sumAfter}

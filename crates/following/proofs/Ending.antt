@@ -9,7 +9,7 @@ use Rattle.level.specs.Level.{grains}
 use Rattle.course.specs.declared.Course.{Course}
 use Rattle.stops.specs.Ways.{headed, listsBy}
 use Rattle.trajectory.specs.Walk.{twiceTo}
-use Rattle.lines.specs.Text.{laid}
+use Rattle.text.specs.Text.{laid}
 use Rattle.summing.specs.Summing.{firstSum}
 use Rattle.daylines.proofs.Laws.{Laying, lay-next, lay-more, lay-all}
 use Rattle.passing.specs.declared.Passed.{Passed}

@@ -31,7 +31,7 @@ use Rattle.trajectory.specs.declared.Place.{Place}
 use Rattle.stops.specs.Ways.{headed, rampFor, ownLists, listsBy}
 use Rattle.trajectory.specs.Walk.{beginning, onward, twiceTo}
 use Rattle.trajectory.proofs.Goes.{Goes, onward-goes}
-use Rattle.lines.specs.Text.{laid}
+use Rattle.text.specs.Text.{laid}
 use Rattle.summing.specs.Summing.{firstSum}
 use Rattle.effects.specs.Watching.{offStarting}
 use Rattle.close.specs.Walk.{fateIn, lastOf}

@@ -17,7 +17,7 @@ use Rattle.profile.specs.Profile.{spansOf, piecesTo, dayPieces, closingBy}
 use Rattle.day.specs.Day.{daySeconds}
 use Rattle.stops.specs.Ways.{headed, listsBy}
 use Rattle.trajectory.specs.Walk.{twiceTo}
-use Rattle.lines.specs.Text.{laid}
+use Rattle.text.specs.Text.{laid}
 use Rattle.listing.specs.Listing.{sLines}
 use Rattle.daylines.specs.Rest.{coursesLines}
 use Rattle.daylines.proofs.Laws.{Laying, lay-next, lay-more, lay-all}

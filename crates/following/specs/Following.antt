@@ -20,7 +20,7 @@ use Rattle.profile.specs.Profile.{beginOf, spansOf, piecesTo, courseOf, closing
 use Rattle.day.specs.Day.{daySeconds}
 use Rattle.stops.specs.Ways.{headed, ownLists, listsBy}
 use Rattle.trajectory.specs.Walk.{beginning, twiceTo}
-use Rattle.lines.specs.Text.{laid}
+use Rattle.text.specs.Text.{laid}
 use Rattle.summing.specs.Summing.{firstSum}
 use Rattle.effects.specs.Watching.{offStarting}
 use Rattle.close.specs.Walk.{fateIn, lastOf}

@@ -20,7 +20,7 @@ use Rattle.day.specs.declared.Ran.{Ran}
 use Rattle.day.specs.Day.{empty, foundIn, withInstruction}
 use Rattle.day.specs.Step.{stepOf}
 use Rattle.listing.specs.declared.Listed.{Listed}
-use Rattle.lines.specs.Text.{laid}
+use Rattle.text.specs.Text.{laid}
 use Rattle.listing.specs.Listing.{printedDay, listOf, lentAfter}
 use Rattle.printing.specs.Parts.{someListing}
 use Rattle.printing.proofs.Whole.{ask-room}

@@ -9,7 +9,7 @@ use lib.ListN.{length, take}
 use Rattle.profile.specs.Profile.{paper}
 use Rattle.day.specs.declared.Day.{Day}
 use Rattle.day.specs.Day.{closedWith, entered, foundIn}
-use Rattle.lines.specs.Text.{laid}
+use Rattle.text.specs.Text.{laid}
 use Rattle.listing.specs.Listing.{printedDay}
 use Rattle.close.specs.Finding.{arraysOf, findingOf}
 use Rattle.daylines.specs.Rest.{fateLines, coursesLines, quantityLines, closingLine}

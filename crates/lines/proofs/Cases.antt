@@ -1,7 +1,8 @@
 -- Lines as document 01 prints them, and numbers at the ends of their range, evaluated by the definitions.
 use mathlib.Core.Path.{_≡_, refl}
 use mathlib.Core.List.{[], _∷_}
-use Rattle.lines.specs.Text.{digits, decimal, field, fields, line, fLine, sLine, qLine, eLine, xLine, laid}
+use Rattle.lines.specs.Lines.{fLine, sLine, qLine, eLine, xLine}
+use Rattle.text.specs.Text.{digits, decimal, field, fields, line, laid}
 
 -- 0
 nought : decimal 0 ≡ 48 ∷ []

@@ -3,7 +3,7 @@
 use Prim.Native.Nat.{ℕ, zero, suc, _+_, _*_, _-_, _/_, _%_, _<_, _≤_}
 use mathlib.Core.Path.{_≡_, refl, sym, ap, _∙_}
 use mathlib.Core.List.{List, [], _∷_, _++_, append-assoc, append-nil}
-use mathlib.Core.Bool.{Bool, true, false, _&&_}
+use mathlib.Core.Bool.{true, _&&_}
 use native.Mathlib.Omega.{arith}
 use lib.Dec.{ltb, leb, eqb}
 use lib.ListN.{length, getD}
@@ -12,8 +12,9 @@ use Rattle.level.specs.Choice.{pick}
 use Rattle.level.proofs.Lists.{by-bool}
 use Rattle.course.specs.declared.Piece.{Piece}
 use Rattle.profile.specs.declared.Closing.{Closing}
-use Rattle.lines.specs.Text.{digits, decimal, field, fields, line, fLine, sLine, qLine, eLine}
-use Rattle.lines.proofs.Laws.{low-length, high-length, digits-low, digits-high}
+use Rattle.lines.specs.Lines.{fLine, sLine, qLine, eLine}
+use Rattle.text.specs.Text.{digits, decimal, field, fields, line}
+use Rattle.text.proofs.Laws.{low-length, high-length, digits-low, digits-high}
 use Rattle.listing.specs.Listing.{fLines, sLines, runLines, qLines, listing}
 use Rattle.listing.specs.Reader.{longer, parted, linesOf, wordsOf, isByte, allDigits, isDecimal, valueFrom, value, enclosing, inLines, printedAt, firstOf, printedKw}
 

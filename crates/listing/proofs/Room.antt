@@ -1,9 +1,7 @@
 -- "46,080 bytes always suffice".
 -- Assumes nothing.
-use Prim.Native.Nat.{ℕ, zero, suc, _+_, _*_, _-_, _^_, _<_, _≤_}
-use mathlib.Core.Path.{_≡_, refl, sym, ap, _∙_}
-use mathlib.Core.List.{List, [], _∷_, _++_}
-use mathlib.Core.Bool.{Bool, true, false}
+use Prim.Native.Nat.{ℕ, suc, _+_, _*_, _-_, _<_, _≤_}
+use mathlib.Core.List.{List, [], _∷_}
 use native.Mathlib.Omega.{arith}
 use lib.Dec.{eqb}
 use lib.ListN.{length, length-append}
@@ -12,8 +10,9 @@ use Rattle.level.specs.Lists.{All}
 use Rattle.course.specs.declared.Piece.{Piece}
 use Rattle.profile.specs.declared.Closing.{Closing}
 use Rattle.profile.proofs.Room.{PieceBelow, ClosingBelow}
-use Rattle.lines.specs.Text.{fLine, sLine, qLine, eLine}
-use Rattle.lines.proofs.Laws.{decimal-width, f-length, s-length, q-length, e-length}
+use Rattle.lines.specs.Lines.{qLine, eLine}
+use Rattle.lines.proofs.Widths.{f-length, s-length, q-length, e-length}
+use Rattle.text.proofs.Laws.{decimal-width}
 use Rattle.listing.specs.Listing.{fLines, sLines, runLines, qLines, listing}
 use Rattle.level.proofs.Lists.{by-bool}
 

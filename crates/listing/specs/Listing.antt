@@ -1,8 +1,8 @@
 -- The printed day, byte by byte, and what asking for it returns.
 -- Assumes nothing.
-use Prim.Native.Nat.{ℕ, zero, suc, _+_}
+use Prim.Native.Nat.{ℕ, suc, _+_}
 use mathlib.Core.List.{List, [], _∷_, _++_}
-use mathlib.Core.Bool.{Bool, true, false, not}
+use mathlib.Core.Bool.{not}
 use lib.Dec.{ltb, eqb}
 use lib.ListN.{length}
 use Rattle.level.specs.Choice.{pick}
@@ -14,7 +14,8 @@ use Rattle.profile.specs.declared.Closing.{Closing}
 use Rattle.profile.specs.Profile.{spansOf, dayPieces}
 use Rattle.day.specs.declared.Day.{Day}
 use Rattle.day.specs.Day.{daySeconds, fatesIn, coursesIn, quantitiesIn}
-use Rattle.lines.specs.Text.{fLine, sLine, qLine, eLine, laid}
+use Rattle.lines.specs.Lines.{fLine, sLine, qLine, eLine}
+use Rattle.text.specs.Text.{laid}
 use Rattle.listing.specs.declared.Listed.{Listed}
 
 -- "F n fate by number", from the number n on

@@ -1,7 +1,7 @@
 -- What a listing prints for a half-hour: "the kW of the Q line whose first and last enclose the half-hour".
 -- A reader of bytes: it names nothing of how they were written.
 -- Assumes nothing.
-use Prim.Native.Nat.{ℕ, zero, suc, _+_, _*_, _-_}
+use Prim.Native.Nat.{ℕ, _+_, _*_, _-_}
 use mathlib.Core.List.{List, [], _∷_, _++_}
 use mathlib.Core.Bool.{Bool, true, false, _&&_}
 use lib.Dec.{eqb, leb}

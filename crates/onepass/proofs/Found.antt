@@ -24,7 +24,8 @@ use Rattle.profile.specs.Effects.{opened, underWay, courseFrom, stateAt, follow
 use Rattle.profile.specs.Profile.{paper, found, spansOf, piecesTo, twinTo, courseOf, closingBy}
 use Rattle.profile.proofs.Room.{fates-are-digits, fates-many}
 use Rattle.day.specs.Day.{halfHours, daySeconds}
-use Rattle.lines.proofs.Laws.{f-length, low-length, width-between}
+use Rattle.lines.proofs.Widths.{f-length}
+use Rattle.text.proofs.Laws.{low-length, width-between}
 use Rattle.listing.specs.Listing.{fLines}
 use Rattle.close.specs.declared.Walk.{Walk}
 use Rattle.close.specs.declared.Fates.{Fates}

@@ -4,7 +4,7 @@ ghost use Prim.Native.Nat.{_+_, _*_, _-_, min, _<_, _≤_};
 ghost use lib.ListN.{length};
 ghost use Rattle.validation.specs.Kept.{acting};
 ghost use Rattle.keeping.specs.Outcome.{validationOf};
-ghost use Rattle.lines.specs.Text.{laid};
+ghost use Rattle.text.specs.Text.{laid};
 ghost use Rattle.summing.specs.Summing.{firstSum};
 ghost use Rattle.profile.specs.Profile.{rounded};
 ghost use Rattle.daylines.specs.Rest.{runEnd};

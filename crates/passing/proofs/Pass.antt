@@ -23,8 +23,8 @@ use Rattle.trajectory.specs.Walk.{afterHold, afterRest, afterRun, along, onward
 use Rattle.trajectory.proofs.Onward.{along-stuck, along-short, along-run, onward-hold, onward-rest, onward-along}
 use Rattle.trajectory.proofs.Goes.{Goes, onward-goes, standing-on, standing-here}
 use Rattle.trajectory.proofs.Own.{own-onward}
-use Rattle.lines.specs.Text.{laid}
-use Rattle.lines.proofs.Laws.{laid-length, laid-part}
+use Rattle.text.specs.Text.{laid}
+use Rattle.text.proofs.Laws.{laid-length, laid-part}
 use Rattle.effects.specs.Watching.{offBetween}
 use Rattle.daylines.specs.Rest.{pieceLine}
 use Rattle.daylines.proofs.Laws.{pieces-more}

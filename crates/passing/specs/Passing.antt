@@ -18,7 +18,7 @@ use Rattle.stops.specs.declared.OwnLists.{OwnLists}
 use Rattle.trajectory.specs.declared.Place.{Place}
 use Rattle.stops.specs.Ways.{headed, ownLists, listsBy}
 use Rattle.trajectory.specs.Walk.{momentOf, onward, standing, piecesLeft, twiceTo}
-use Rattle.lines.specs.Text.{laid}
+use Rattle.text.specs.Text.{laid}
 use Rattle.listing.specs.Listing.{sLines}
 use Rattle.summing.specs.Summing.{firstSum}
 use Rattle.daylines.specs.Rest.{pieceLine}

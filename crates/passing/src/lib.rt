@@ -6,7 +6,7 @@ ghost use Rattle.level.specs.Level.{grains};
 ghost use Rattle.course.proofs.Near.{Short};
 ghost use Rattle.stops.specs.Ways.{headed, listsBy};
 ghost use Rattle.trajectory.proofs.Goes.{Goes};
-ghost use Rattle.lines.specs.Text.{laid};
+ghost use Rattle.text.specs.Text.{laid};
 ghost use Rattle.daylines.specs.Rest.{pieceLine};
 ghost use Rattle.passing.specs.Passing.{AddsFlat, AddsOn, Summed, lastLine, Roomy, Passing};
 

@@ -10,7 +10,7 @@ use lib.ListN.{length, take, length-append}
 use Rattle.records.specs.declared.Refusal.the-variants.{NotReady, SliceTooShort}
 use Rattle.day.specs.declared.Day.{Day}
 use Rattle.day.specs.Day.{fatesIn, coursesIn, quantitiesIn}
-use Rattle.lines.specs.Text.{laid}
+use Rattle.text.specs.Text.{laid}
 use Rattle.listing.specs.Listing.{listing, printedDay, listAnswer, listOf, lentAfter}
 use Rattle.printing.specs.Parts.{fromQ, fromS, noListing, someListing}
 use Rattle.daylines.specs.Rest.{fateLines, coursesLines, quantityLines, closingLine}

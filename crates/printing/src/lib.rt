@@ -2,7 +2,7 @@
 ghost use mathlib.Core.Path.{_≡_};
 ghost use Prim.Native.Nat.{_+_, _-_, _<_, _≤_};
 ghost use lib.ListN.{length};
-ghost use Rattle.lines.specs.Text.{laid};
+ghost use Rattle.text.specs.Text.{laid};
 ghost use Rattle.listing.specs.Listing.{printedDay, listOf, lentAfter};
 ghost use Rattle.printing.specs.Parts.{fromQ, fromS, noListing, someListing};
 use day::Day;

@@ -3,7 +3,7 @@ use mathlib.Core.Path.{_≡_, ap}
 use native.Mathlib.Omega.{arith}
 use borrow.Author.Needs.{needs}
 use lib.ListN.{length, getD}
-use Rattle.lines.specs.Text.{fLine}
+use Rattle.lines.specs.Lines.{fLine}
 use Rattle.daylines.proofs.Laws.{left-shorter, fates-left, fates-more, fates-none}
 use Rattle.daylines.proofs.fates_width.Statement.{statement}
 use Rattle.daylines.proofs.fates_width.Tie as tie

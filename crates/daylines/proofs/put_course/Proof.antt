@@ -10,8 +10,8 @@ use Rattle.stops.specs.Ways.{headed, listsBy}
 use Rattle.trajectory.proofs.Courses.{begins-short}
 use Rattle.trajectory.proofs.Goes.{Goes, onward-goes}
 use Rattle.daylines.specs.Rest.{pieceLine}
-use Rattle.lines.specs.Text.{laid}
-use Rattle.lines.proofs.Laws.{part-length}
+use Rattle.text.specs.Text.{laid}
+use Rattle.text.proofs.Laws.{part-length}
 use Rattle.daylines.proofs.Laws.{Laying, lay-none, lay-room, lay-next, lay-more, lay-all, pieces-left, pieces-more, pieces-none, pieces-all}
 use Rattle.daylines.proofs.put_course.Statement.{statement}
 use Rattle.daylines.proofs.put_course.Tie as tie

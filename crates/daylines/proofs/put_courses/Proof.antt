@@ -9,7 +9,7 @@ use Rattle.course.specs.declared.Course.{Course}
 use Rattle.level.specs.Choice.{pick}
 use Rattle.day.specs.Day.{daySeconds, noCourse}
 use Rattle.daylines.specs.Rest.{courseLines}
-use Rattle.lines.proofs.Laws.{part-length}
+use Rattle.text.proofs.Laws.{part-length}
 use Rattle.daylines.proofs.Laws.{Laying, lay-none, lay-room, lay-next, lay-more, lay-all, courses-left, courses-more, courses-none, end-is}
 use Rattle.daylines.proofs.put_courses.Statement.{statement}
 use Rattle.daylines.proofs.put_courses.Tie as tie

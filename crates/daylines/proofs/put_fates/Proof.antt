@@ -4,8 +4,8 @@ use mathlib.Core.List.{_++_}
 use native.Mathlib.Omega.{arith}
 use borrow.Author.Needs.{needs}
 use lib.ListN.{length, getD}
-use Rattle.lines.specs.Text.{fLine}
-use Rattle.lines.proofs.Laws.{part-length}
+use Rattle.lines.specs.Lines.{fLine}
+use Rattle.text.proofs.Laws.{part-length}
 use Rattle.daylines.proofs.Laws.{Laying, lay-none, lay-room, lay-next, lay-more, lay-all, fates-left, fates-more, fates-none}
 use Rattle.daylines.proofs.put_fates.Statement.{statement}
 use Rattle.daylines.proofs.put_fates.Tie as tie

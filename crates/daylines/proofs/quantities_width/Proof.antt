@@ -3,7 +3,7 @@ use mathlib.Core.Path.{_≡_, ap}
 use native.Mathlib.Omega.{arith}
 use borrow.Author.Needs.{needs}
 use lib.ListN.{length}
-use Rattle.lines.specs.Text.{qLine}
+use Rattle.lines.specs.Lines.{qLine}
 use Rattle.day.specs.Day.{quantityAt}
 use Rattle.daylines.proofs.Laws.{left-shorter, quantities-left, quantities-more, quantities-none, quantities-all}
 use Rattle.daylines.proofs.quantities_width.Statement.{statement}

@@ -2,7 +2,7 @@ use Prim.Native.Nat.{_+_, _≤_}
 use mathlib.Core.Path.{_≡_, refl}
 use native.Mathlib.Omega.{arith}
 use lib.ListN.{length}
-use Rattle.lines.proofs.Laws.{part-length}
+use Rattle.text.proofs.Laws.{part-length}
 use Rattle.passing.specs.Passing.{lastLine, Passing}
 use Rattle.following.proofs.Steps.{last-goes}
 use Rattle.following.proofs.Ending.{last-fits, ended}

@@ -2,7 +2,7 @@ use Prim.Native.Nat.{_+_, _≤_}
 use mathlib.Core.Path.{_≡_, refl}
 use native.Mathlib.Omega.{arith}
 use lib.ListN.{length, take}
-use Rattle.lines.proofs.Laws.{part-length}
+use Rattle.text.proofs.Laws.{part-length}
 use Rattle.passing.specs.Passing.{linesLeft}
 use Rattle.following.proofs.Whole.{rest-fits, settled}
 use borrow.Author.Needs.{needs}

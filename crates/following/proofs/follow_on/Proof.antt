@@ -17,7 +17,7 @@ use Rattle.profile.specs.Effects.{idle, begun}
 use Rattle.stops.specs.declared.OwnLists.{OwnLists}
 use Rattle.daylines.specs.Rest.{coursesLines}
 use Rattle.following.specs.declared.OnCourse.{OnCourse}
-use Rattle.lines.proofs.Laws.{part-length}
+use Rattle.text.proofs.Laws.{part-length}
 use Rattle.passing.specs.Passing.{Roomy, Passing}
 use Rattle.following.specs.Following.{setOut, coursesFrom, FollowedBy}
 use Rattle.following.proofs.After.{before, isIdle, next, ordered-end}

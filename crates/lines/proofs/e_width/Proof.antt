@@ -1,11 +1,11 @@
 use native.Mathlib.Omega.{arith}
 use borrow.Author.Needs.{needs}
-use Rattle.lines.proofs.Laws.{e-length}
+use Rattle.lines.proofs.Widths.{e-length}
 use Rattle.lines.proofs.e_width.Statement.{statement}
 use Rattle.lines.proofs.e_width.Tie as tie
 use Rattle.lines.proofs.e_width.Reads as reads
 use Rattle.lines.proofs.e_width.Lts as lts
-use Rattle.lines.proofs.decimal_width.Reads as decimal-width-reads
+use Rattle.text.proofs.decimal_width.Reads as decimal-width-reads
 
 -- src/lib.rt:171:5
 decimal-width-requires : tie.Need-decimal-width-requires

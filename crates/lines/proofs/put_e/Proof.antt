@@ -1,12 +1,13 @@
 use native.Mathlib.Omega.{arith}
 use borrow.Author.Needs.{needs}
-use Rattle.lines.specs.Text.{eLine}
-use Rattle.lines.proofs.Laws.{line-four, e-length}
+use Rattle.lines.specs.Lines.{eLine}
+use Rattle.lines.proofs.Widths.{e-length}
+use Rattle.text.proofs.Laws.{line-four}
 use Rattle.lines.proofs.put_e.Statement.{statement}
 use Rattle.lines.proofs.put_e.Tie as tie
 use Rattle.lines.proofs.put_e.Reads as reads
 use Rattle.lines.proofs.put_e.Lts as lts
-use Rattle.lines.proofs.put_line.Reads as put-line-reads
+use Rattle.text.proofs.put_line.Reads as put-line-reads
 
 -- src/lib.rt:90:25
 slice-aggregate-put-line : tie.Need-slice-aggregate-put-line

@@ -1,12 +1,13 @@
 use native.Mathlib.Omega.{arith}
 use borrow.Author.Needs.{needs}
-use Rattle.lines.specs.Text.{fLine}
-use Rattle.lines.proofs.Laws.{line-two, f-length}
+use Rattle.lines.specs.Lines.{fLine}
+use Rattle.lines.proofs.Widths.{f-length}
+use Rattle.text.proofs.Laws.{line-two}
 use Rattle.lines.proofs.put_f.Statement.{statement}
 use Rattle.lines.proofs.put_f.Tie as tie
 use Rattle.lines.proofs.put_f.Reads as reads
 use Rattle.lines.proofs.put_f.Lts as lts
-use Rattle.lines.proofs.put_line.Reads as put-line-reads
+use Rattle.text.proofs.put_line.Reads as put-line-reads
 
 -- src/lib.rt:63:25
 slice-aggregate-put-line : tie.Need-slice-aggregate-put-line

@@ -1,12 +1,13 @@
 use native.Mathlib.Omega.{arith}
 use borrow.Author.Needs.{needs}
-use Rattle.lines.specs.Text.{qLine}
-use Rattle.lines.proofs.Laws.{line-three, q-length}
+use Rattle.lines.specs.Lines.{qLine}
+use Rattle.lines.proofs.Widths.{q-length}
+use Rattle.text.proofs.Laws.{line-three}
 use Rattle.lines.proofs.put_q.Statement.{statement}
 use Rattle.lines.proofs.put_q.Tie as tie
 use Rattle.lines.proofs.put_q.Reads as reads
 use Rattle.lines.proofs.put_q.Lts as lts
-use Rattle.lines.proofs.put_line.Reads as put-line-reads
+use Rattle.text.proofs.put_line.Reads as put-line-reads
 
 -- src/lib.rt:81:25
 slice-aggregate-put-line : tie.Need-slice-aggregate-put-line

@@ -1,12 +1,13 @@
 use native.Mathlib.Omega.{arith}
 use borrow.Author.Needs.{needs}
-use Rattle.lines.specs.Text.{sLine}
-use Rattle.lines.proofs.Laws.{line-four, s-length}
+use Rattle.lines.specs.Lines.{sLine}
+use Rattle.lines.proofs.Widths.{s-length}
+use Rattle.text.proofs.Laws.{line-four}
 use Rattle.lines.proofs.put_s.Statement.{statement}
 use Rattle.lines.proofs.put_s.Tie as tie
 use Rattle.lines.proofs.put_s.Reads as reads
 use Rattle.lines.proofs.put_s.Lts as lts
-use Rattle.lines.proofs.put_line.Reads as put-line-reads
+use Rattle.text.proofs.put_line.Reads as put-line-reads
 
 -- src/lib.rt:72:25
 slice-aggregate-put-line : tie.Need-slice-aggregate-put-line

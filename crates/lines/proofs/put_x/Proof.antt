@@ -1,12 +1,13 @@
 use native.Mathlib.Omega.{arith}
 use borrow.Author.Needs.{needs}
-use Rattle.lines.specs.Text.{xLine}
-use Rattle.lines.proofs.Laws.{line-one, x-length}
+use Rattle.lines.specs.Lines.{xLine}
+use Rattle.lines.proofs.Widths.{x-length}
+use Rattle.text.proofs.Laws.{line-one}
 use Rattle.lines.proofs.put_x.Statement.{statement}
 use Rattle.lines.proofs.put_x.Tie as tie
 use Rattle.lines.proofs.put_x.Reads as reads
 use Rattle.lines.proofs.put_x.Lts as lts
-use Rattle.lines.proofs.put_line.Reads as put-line-reads
+use Rattle.text.proofs.put_line.Reads as put-line-reads
 
 -- src/lib.rt:99:25
 slice-aggregate-put-line : tie.Need-slice-aggregate-put-line

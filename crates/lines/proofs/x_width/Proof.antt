@@ -1,11 +1,11 @@
 use native.Mathlib.Omega.{arith}
 use borrow.Author.Needs.{needs}
-use Rattle.lines.proofs.Laws.{x-length}
+use Rattle.lines.proofs.Widths.{x-length}
 use Rattle.lines.proofs.x_width.Statement.{statement}
 use Rattle.lines.proofs.x_width.Tie as tie
 use Rattle.lines.proofs.x_width.Reads as reads
 use Rattle.lines.proofs.x_width.Lts as lts
-use Rattle.lines.proofs.decimal_width.Reads as decimal-width-reads
+use Rattle.text.proofs.decimal_width.Reads as decimal-width-reads
 
 -- src/lib.rt:177:5
 decimal-width-requires : tie.Need-decimal-width-requires

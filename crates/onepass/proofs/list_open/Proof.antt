@@ -4,8 +4,8 @@ use mathlib.Core.List.{List, _++_, append-assoc}
 use native.Mathlib.Omega.{arith}
 use lib.ListN.{length, take, drop, length-append, length-take}
 use Rattle.course.specs.declared.Course.{Course}
-use Rattle.lines.specs.Text.{laid}
-use Rattle.lines.proofs.Laws.{part-length}
+use Rattle.text.specs.Text.{laid}
+use Rattle.text.proofs.Laws.{part-length}
 use Rattle.summing.proofs.Summing.{first-zeros}
 use Rattle.close.specs.declared.Fates.{Fates}
 use Rattle.daylines.specs.Rest.{fateLines, coursesLines}

@@ -2,7 +2,7 @@ use Prim.Native.Nat.{_+_, _≤_}
 use mathlib.Core.Path.{_≡_}
 use native.Mathlib.Omega.{arith}
 use lib.ListN.{length}
-use Rattle.lines.proofs.Laws.{part-length}
+use Rattle.text.proofs.Laws.{part-length}
 use Rattle.daylines.specs.Rest.{closingLine}
 use Rattle.daylines.proofs.Two.{first-room, second-room, both-laid}
 use Rattle.onepass.specs.Listing.{partLines, endLines}

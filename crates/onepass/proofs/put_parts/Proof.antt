@@ -4,8 +4,9 @@ use mathlib.Core.List.{List, _++_}
 use native.Mathlib.Omega.{arith}
 use borrow.Author.Needs.{needs}
 use lib.ListN.{length}
-use Rattle.lines.specs.Text.{qLine, laid}
-use Rattle.lines.proofs.Laws.{part-length}
+use Rattle.lines.specs.Lines.{qLine}
+use Rattle.text.specs.Text.{laid}
+use Rattle.text.proofs.Laws.{part-length}
 use Rattle.daylines.proofs.Laws.{Laying, lay-none, lay-room, lay-next, lay-more, lay-all, quantities-left, quantities-more, quantities-none}
 use Rattle.onepass.specs.Listing.{partAt}
 use Rattle.onepass.proofs.Parts.{part-low, here, parts-all}

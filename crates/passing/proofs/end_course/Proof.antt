@@ -5,7 +5,7 @@ use Prim.Native.Nat.{ℕ, _<_}
 use lib.ListN.{length}
 use Rattle.level.specs.Level.{grains}
 use Rattle.stops.specs.Ways.{headed, listsBy}
-use Rattle.lines.specs.Text.{laid}
+use Rattle.text.specs.Text.{laid}
 use Rattle.passing.proofs.Pass.{last-some, last-none, adds-nothing}
 use borrow.Author.Needs.{needs}
 use Rattle.passing.proofs.end_course.Statement.{statement}

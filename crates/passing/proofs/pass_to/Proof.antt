@@ -6,7 +6,7 @@ use lib.ListN.{length}
 use Rattle.level.specs.Level.{grains}
 use Rattle.stops.specs.Ways.{headed, listsBy}
 use Rattle.trajectory.proofs.Goes.{Goes}
-use Rattle.lines.proofs.Laws.{part-length}
+use Rattle.text.proofs.Laws.{part-length}
 use Rattle.daylines.specs.Rest.{pieceLine}
 use Rattle.passing.proofs.Pass.{goes-there, Sofar, sofar-none, sofar-length, sofar-end, sofar-goes, sofar-low, sofar-cut, sofar-room, sofar-more}
 use Rattle.passing.proofs.pass_to.Statement.{statement}

@@ -1,12 +1,12 @@
 use mathlib.Core.Path.{sym}
 use native.Mathlib.Omega.{arith}
 use borrow.Author.Needs.{needs}
-use Rattle.lines.proofs.Laws.{low-length, width-between}
-use Rattle.lines.proofs.decimal_width.Statement.{statement}
-use Rattle.lines.proofs.decimal_width.Tie as tie
-use Rattle.lines.proofs.decimal_width.Reads as reads
-use Rattle.lines.proofs.decimal_width.Lts as lts
-use Rattle.lines.proofs.counted_width.Reads as counted-width-reads
+use Rattle.text.proofs.Laws.{low-length, width-between}
+use Rattle.text.proofs.decimal_width.Statement.{statement}
+use Rattle.text.proofs.decimal_width.Tie as tie
+use Rattle.text.proofs.decimal_width.Reads as reads
+use Rattle.text.proofs.decimal_width.Lts as lts
+use Rattle.text.proofs.counted_width.Reads as counted-width-reads
 
 -- src/lib.rt:120:9
 returns : tie.Need-returns

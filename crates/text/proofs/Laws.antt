@@ -11,7 +11,7 @@ use lib.Dec.{ltb}
 use lib.ListN.{length, getD, set, take, drop, length-append, length-drop, length-take, length-set, drop-of-length-le}
 use lib.Seq.{drop-drop, drop-cons, take-suc, take-at, drop-at, set-append-seam, take-all, getD-set-same, drop-set-lt, lt-length-set}
 use borrow.Author.Tests.{lt-ltb, le-ltb, ltb-true, ltb-false}
-use Rattle.lines.specs.Text.{digits, decimal, field, fields, line, fLine, sLine, qLine, eLine, xLine, laid}
+use Rattle.text.specs.Text.{digits, decimal, field, fields, line, laid}
 
 by-bool : {P : Type 0} (b : Bool) → (b ≡ true → P) → (b ≡ false → P) → P
 by-bool true t f = t refl
@@ -47,13 +47,6 @@ decimal-high v h =
 -- ---- laid
 pub laid-length : (xs o : List ℕ) → length xs ≤ length o → length (laid xs o) ≡ length o
 laid-length xs o h = simp (length-append, length-drop) (omega arith)
-
--- the bytes laid, and those after them
-pub laid-front : (xs o : List ℕ) → take (length xs) (laid xs o) ≡ xs
-laid-front xs o = take-at xs (drop (length xs) o) (length xs) refl
-
-pub laid-rest : (xs o : List ℕ) → drop (length xs) (laid xs o) ≡ drop (length xs) o
-laid-rest xs o = drop-at xs (drop (length xs) o) (length xs) refl
 
 -- one byte more, after those laid
 pub laid-set : (xs o : List ℕ) (n a : ℕ) → n ≡ length xs → n < length o → set (laid xs o) n a ≡ laid (xs ++ (a ∷ [])) o
@@ -219,7 +212,7 @@ width-between k v h g = omega (arith, decimal-long k v h, decimal-width k v g)
 pub word-width : (v : ℕ) → v < 2 ^ 64 → length (decimal v) ≤ 20
 word-width v h = decimal-width 19 v (omega arith)
 
--- the width of a line of one to four numbers, and that of each kind of line
+-- the width of a line of one to four numbers
 pub line-one : (letter a : ℕ) → length (line letter (a ∷ [])) ≡ length (decimal a) + 3
 unfolding line fields field
 line-one letter a = simp length-append (omega arith)
@@ -235,23 +228,3 @@ line-three letter a b c = simp length-append (omega arith)
 pub line-four : (letter a b c d : ℕ) → length (line letter (a ∷ b ∷ c ∷ d ∷ [])) ≡ length (decimal a) + length (decimal b) + length (decimal c) + length (decimal d) + 6
 unfolding line fields field
 line-four letter a b c d = simp length-append (omega arith)
-
-pub f-length : (n fate : ℕ) → length (fLine n fate) ≡ length (decimal n) + length (decimal fate) + 4
-unfolding fLine
-f-length n fate = line-two 70 n fate
-
-pub s-length : (from to enter leave : ℕ) → length (sLine from to enter leave) ≡ length (decimal from) + length (decimal to) + length (decimal enter) + length (decimal leave) + 6
-unfolding sLine
-s-length from to enter leave = line-four 83 from to enter leave
-
-pub q-length : (first last kw : ℕ) → length (qLine first last kw) ≡ length (decimal first) + length (decimal last) + length (decimal kw) + 5
-unfolding qLine
-q-length first last kw = line-three 81 first last kw
-
-pub e-length : (level target heat off : ℕ) → length (eLine level target heat off) ≡ length (decimal level) + length (decimal target) + length (decimal heat) + length (decimal off) + 6
-unfolding eLine
-e-length level target heat off = line-four 69 level target heat off
-
-pub x-length : (n : ℕ) → length (xLine n) ≡ length (decimal n) + 3
-unfolding xLine
-x-length n = line-one 88 n

@@ -4,13 +4,13 @@ use mathlib.Core.Path.{_≡_, ap, sym, _∙_}
 use native.Mathlib.Omega.{arith}
 use borrow.Author.Needs.{needs}
 use lib.ListN.{length, length-set}
-use Rattle.lines.specs.Text.{decimal, laid}
-use Rattle.lines.proofs.Laws.{lastDigits, last-all, last-put, last-two, laid-length}
-use Rattle.lines.proofs.put_decimal.Statement.{statement}
-use Rattle.lines.proofs.put_decimal.Tie as tie
-use Rattle.lines.proofs.put_decimal.Reads as reads
-use Rattle.lines.proofs.put_decimal.Lts as lts
-use Rattle.lines.proofs.decimal_width.Reads as decimal-width-reads
+use Rattle.text.specs.Text.{decimal, laid}
+use Rattle.text.proofs.Laws.{lastDigits, last-all, last-put, last-two, laid-length}
+use Rattle.text.proofs.put_decimal.Statement.{statement}
+use Rattle.text.proofs.put_decimal.Tie as tie
+use Rattle.text.proofs.put_decimal.Reads as reads
+use Rattle.text.proofs.put_decimal.Lts as lts
+use Rattle.text.proofs.decimal_width.Reads as decimal-width-reads
 
 abbrev Inv-loop : tie.InvT-loop
 Inv-loop out₀ v width left₀ i₀ out left i = (i ≤ 20) × (i ≤ length out) × (laid (lastDigits i left) out ≡ laid (decimal v) out₀)

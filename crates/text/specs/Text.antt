@@ -1,8 +1,8 @@
--- Decimal numbers and the four kinds of line, as ASCII bytes.
+-- Decimal numbers and a line of any kind, as ASCII bytes.
 -- Assumes nothing.
 use Prim.Native.Nat.{ℕ, zero, suc, _+_, _/_, _%_}
 use mathlib.Core.List.{List, [], _∷_, _++_}
-use mathlib.Core.Bool.{Bool, true, false}
+use mathlib.Core.Bool.{true, false}
 use lib.ListN.{length, drop}
 use lib.Dec.{ltb}
 
@@ -26,26 +26,6 @@ fields (v ∷ vs) = field v ++ fields vs
 -- a letter, the numbers, a line feed
 unfoldable pub line : ℕ → List ℕ → List ℕ
 line letter vs = letter ∷ (fields vs ++ (10 ∷ []))
-
--- "F n fate"
-unfoldable pub fLine : ℕ → ℕ → List ℕ
-fLine n fate = line 70 (n ∷ fate ∷ [])
-
--- "S from to level level (seconds, grains)"
-unfoldable pub sLine : ℕ → ℕ → ℕ → ℕ → List ℕ
-sLine from to enter leave = line 83 (from ∷ to ∷ enter ∷ leave ∷ [])
-
--- "Q first last kW"
-unfoldable pub qLine : ℕ → ℕ → ℕ → List ℕ
-qLine first last kw = line 81 (first ∷ last ∷ kw ∷ [])
-
--- "E level target heat off (grains, kW, heat, seconds)"
-unfoldable pub eLine : ℕ → ℕ → ℕ → ℕ → List ℕ
-eLine level target heat off = line 69 (level ∷ target ∷ heat ∷ off ∷ [])
-
--- "the line X n", of the listing program
-unfoldable pub xLine : ℕ → List ℕ
-xLine n = line 88 (n ∷ [])
 
 -- the bytes xs at the front of o, and every other byte of o as it was
 abbrev pub laid : List ℕ → List ℕ → List ℕ

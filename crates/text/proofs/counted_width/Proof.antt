@@ -2,12 +2,12 @@ use Prim.Native.Nat.{_+_}
 use mathlib.Core.Path.{_≡_}
 use native.Mathlib.Omega.{arith}
 use lib.ListN.{length}
-use Rattle.lines.specs.Text.{decimal}
-use Rattle.lines.proofs.Laws.{low-length, high-length, word-width}
-use Rattle.lines.proofs.counted_width.Statement.{statement}
-use Rattle.lines.proofs.counted_width.Tie as tie
-use Rattle.lines.proofs.counted_width.Reads as reads
-use Rattle.lines.proofs.counted_width.Lts as lts
+use Rattle.text.specs.Text.{decimal}
+use Rattle.text.proofs.Laws.{low-length, high-length, word-width}
+use Rattle.text.proofs.counted_width.Statement.{statement}
+use Rattle.text.proofs.counted_width.Tie as tie
+use Rattle.text.proofs.counted_width.Reads as reads
+use Rattle.text.proofs.counted_width.Lts as lts
 
 abbrev Inv-loop : tie.InvT-loop
 Inv-loop v left₀ width₀ left width = width + length (decimal left) ≡ length (decimal v) + 1
