@@ -89,11 +89,11 @@ fn opening_step(day: Day, body: &[u8]) -> Stepped
     if !day.hasUnit {
         return refused(day, Refusal::BeforeUnit);
     }
-    let answer = records::opening_answer(body);
+    let answer = fields::opening_answer(body);
     match answer {
         Answer::Refused(r) => refused(day, r),
         Answer::Accepted => {
-            let o = records::opening_of(body);
+            let o = fields::opening_of(body);
             opening_taken(day, o)
         }
     }
@@ -109,11 +109,11 @@ fn instruction_step(day: Day, body: &[u8]) -> Stepped
     if 40 <= day.count {
         return refused(day, Refusal::TooManyInstructions);
     }
-    let answer = records::instruction_answer(86400, body);
+    let answer = fields::instruction_answer(86400, body);
     match answer {
         Answer::Refused(r) => refused(day, r),
         Answer::Accepted => {
-            let i = records::instruction_of(body);
+            let i = fields::instruction_of(body);
             let next = day::with_instruction(day, i);
             accepted(next, 22)
         }
@@ -181,7 +181,7 @@ pub fn lets_in(unit: bool, closed: bool, count: usize, input: &[u8]) -> bool
     if 40 <= count {
         return false;
     }
-    let answer = records::instruction_answer(86400, &input[1..22]);
+    let answer = fields::instruction_answer(86400, &input[1..22]);
     match answer {
         Answer::Accepted => true,
         Answer::Refused(r) => false,

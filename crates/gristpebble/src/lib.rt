@@ -23,7 +23,7 @@ pub fn run(input: &[u8]) -> Ran
         if entering::lets_in(d.hasUnit, d.closed, d.count, &input[at..]) {
             let from = at + 1;
             let to = at + 22;
-            let i = records::instruction_of(&input[from..to]);
+            let i = fields::instruction_of(&input[from..to]);
             let k = d.count;
             d.instructions[k] = i;
             d.count = k + 1;

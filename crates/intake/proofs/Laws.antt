@@ -7,7 +7,7 @@ use mathlib.Core.List.{List, [], _∷_}
 use mathlib.Core.Bool.{Bool, true, false, _||_, not}
 use lib.Dec.{ltb}
 use lib.ListN.{length, getD, take, drop, set, replicate, length-drop}
-use lib.Seq.{take-all, drop-drop, getD-drop}
+use lib.Seq.{drop-drop, getD-drop}
 use borrow.Author.Tests.{le-ltb, ltb-false}
 use Rattle.level.specs.Level.{grains}
 use Rattle.level.specs.Lists.{some, listFrom}

@@ -15,10 +15,10 @@ use Rattle.records.specs.declared.Coded.the-variants.{Means, Unknown}
 use Rattle.records.specs.declared.Opening.{Opening}
 use Rattle.records.specs.declared.Instruction.{Instruction}
 use Rattle.records.specs.declared.Answer.the-variants.{Accepted}
-use Rattle.records.specs.Codes.{meaningOf, meaningIn, isUnknown, same}
+use Rattle.records.specs.Codes.{meaningOf, meaningIn, same}
 use Rattle.records.specs.Records.{numberAt, openingOf, issueOf, instructionOf}
 use Rattle.records.specs.Fields.{openingFits, openingAnswer, figuresFit, instructionAnswer}
-use Rattle.records.proofs.Laws.{opening-taken, instruction-taken}
+use Rattle.fields.proofs.Laws.{opening-taken, instruction-taken}
 use Rattle.day.specs.Day.{daySeconds}
 use Rattle.day.proofs.Passed.{never}
 

@@ -8,7 +8,7 @@ ghost use lib.ListN.{length, take, drop};
 ghost use Rattle.level.specs.Choice.{pick};
 ghost use Rattle.records.specs.declared.Answer.the-variants.{Accepted};
 ghost use Rattle.records.specs.Fields.{instructionAnswer};
-ghost use Rattle.records.specs.Records.{openingOf, issueOf, instructionOf};
+ghost use Rattle.records.specs.Records.{openingOf, instructionOf};
 ghost use Rattle.profile.specs.Profile.{paper};
 ghost use Rattle.day.specs.Day.{daySeconds, foundIn};
 ghost use Rattle.entering.specs.Kinds.{LetsIn};
@@ -98,15 +98,6 @@ fn read_opening(unit: records::UnitData, input: &[u8]) -> Begun
     }
 }
 
-// A signed issue time as seconds above -604,800.
-fn issue_of(n: u32) -> u32
-    ensures { λ r. ⌜ r ≡ issueOf n ⌝ }
-{
-    let sum = n as u64 + 604800;
-    let seconds = sum % 4294967296;
-    seconds as u32
-}
-
 // Level and rates are what a code that carries them, or one that does not, allows.
 fn figures_fit(carries: bool, level: u32, up: u32, down: u32) -> bool
     ensures { λ r. ⌜ r ≡ pick carries (leb level 2000000 && (leb up 200000 && leb down 200000)) (eqb level 0 && (eqb up 0 && eqb down 0)) ⌝ }
@@ -124,7 +115,7 @@ fn read_body(body: &[u8]) -> Read
 {
     let code = body[8];
     let effective = records::number(body, 0);
-    let issue = issue_of(records::number(body, 4));
+    let issue = fields::issue_of(records::number(body, 4));
     let level = records::number(body, 9);
     let up = records::number(body, 13);
     let down = records::number(body, 17);

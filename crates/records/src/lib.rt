@@ -1,23 +1,11 @@
 // Records: what they hold, the answers that they get, and what a code means.
 ghost use mathlib.Core.Path.{_≡_};
-ghost use Prim.Native.Nat.{ℕ, _<_, _^_};
+ghost use Prim.Native.Nat.{_<_, _^_};
 ghost use lib.ListN.{getD};
 ghost use Rattle.records.specs.declared.Coded.the-variants.{Means};
 ghost use Rattle.records.specs.Answers.{refusalNumber, numberOf};
-ghost use Rattle.records.specs.Codes.{meaningOf, meaningIn, isUnknown, codeNumber, same};
-ghost use Rattle.records.specs.Fields.{openingFits, openingAnswer, figuresFit, instructionAnswer};
-ghost use Rattle.records.specs.Records.{sizeOf, numberAt, openingOf, issueOf, instructionOf};
-
-// The highest that a level in kW or in grains, a rate in kW a minute and the seconds off may be.
-const MOST_KW: u32 = 2000000;
-
-const MOST_GRAINS: u32 = 120000000;
-
-const MOST_RATE: u32 = 200000;
-
-const MOST_OFF: u32 = 10000000;
-// An issue time lies at most so many seconds before or after 06:00: a week.
-const WEEK: u32 = 604800;
+ghost use Rattle.records.specs.Codes.{meaningOf, codeNumber};
+ghost use Rattle.records.specs.Records.{numberAt};
 
 // A soak or dwell trigger: a level in kW, and the minutes that the unit holds there. 0 minutes: no hold.
 pub struct Trigger {
@@ -203,27 +191,8 @@ pub fn code_number(e: Effect) -> u8
     }
 }
 
-// Whether two are the same code.
-pub fn same_effect(a: Effect, b: Effect) -> bool
-    ensures { λ r. ⌜ r ≡ same a b ⌝ }
-{
-    code_number(a) == code_number(b)
-}
-
-// The bytes of a record of a kind, with the byte of kind.
-pub fn size_of(kind: u8) -> usize
-    ensures { λ n. ⌜ n ≡ sizeOf kind ⌝ }
-{
-    match kind {
-        1 => 249,
-        2 => 17,
-        3 => 22,
-        _ => 1,
-    }
-}
-
 // The byte at a place; 0 past the end.
-fn byte(s: &[u8], at: usize) -> u8
+pub fn byte(s: &[u8], at: usize) -> u8
     ensures { λ r. ⌜ r ≡ getD (now (s .entry)) at 0 ⌝ }
 {
     if at < s.len() {
@@ -256,139 +225,4 @@ pub fn number(body: &[u8], at: usize) -> u32
     let c = wide(byte(body, at + 2));
     let d = wide(byte(body, at + 3));
     a * 16777216 + b * 65536 + c * 256 + d
-}
-
-// The opening that a body holds.
-pub fn opening_of(body: &[u8]) -> Opening
-    ensures { λ r. ⌜ r ≡ openingOf (now (body .entry)) ⌝ }
-{
-    let level = number(body, 0);
-    let target = number(body, 4);
-    let heat = number(body, 8);
-    let off = number(body, 12);
-    Opening {
-        level,
-        target,
-        heat,
-        off,
-    }
-}
-
-// A signed issue time as seconds above -604,800.
-fn issue_of(n: u32) -> u32
-    ensures { λ r. ⌜ r ≡ issueOf n ⌝ }
-{
-    let sum = n as u64 + WEEK as u64;
-    let seconds = sum % 4294967296;
-    seconds as u32
-}
-
-// The code byte of an instruction's body, read.
-fn code_of(body: &[u8]) -> Coded
-    ensures { λ r. ⌜ r ≡ meaningOf (getD (now (body .entry)) 8 0) ⌝ }
-{
-    decode(byte(body, 8))
-}
-
-// What a code byte means; one outside 1 to 7 reads like the last.
-fn meaning_in(coded: Coded) -> Meaning
-    ensures { λ r. ⌜ r ≡ meaningIn coded ⌝ }
-{
-    match coded {
-        Coded::Means(m) => m,
-        Coded::Unknown => Meaning {
-            lag: 0,
-            rank: 7,
-            effect: Effect::Fail,
-        },
-    }
-}
-
-// The instruction that a body holds.
-pub fn instruction_of(body: &[u8]) -> Instruction
-    ensures { λ r. ⌜ r ≡ instructionOf (now (body .entry)) ⌝ }
-{
-    let effective = number(body, 0);
-    let issue = issue_of(number(body, 4));
-    let meaning = meaning_in(code_of(body));
-    let level = number(body, 9);
-    let up = number(body, 13);
-    let down = number(body, 17);
-    Instruction {
-        effective,
-        issue,
-        meaning,
-        level,
-        up,
-        down,
-    }
-}
-
-// An opening's fields lie in their ranges.
-fn opening_fits(o: Opening) -> bool
-    ensures { λ r. ⌜ r ≡ openingFits o ⌝ }
-{
-    let level = o.level <= MOST_GRAINS;
-    let target = o.target <= MOST_KW;
-    let heat = (1 <= o.heat) & (o.heat <= 3);
-    let off = o.off <= MOST_OFF;
-    level & (target & (heat & off))
-}
-
-// Refusal 5, of an opening's body.
-pub fn opening_answer(body: &[u8]) -> Answer
-    ensures { λ r. ⌜ r ≡ openingAnswer (now (body .entry)) ⌝ }
-{
-    let o = opening_of(body);
-    let fits = opening_fits(o);
-    if fits {
-        return Answer::Accepted;
-    }
-    Answer::Refused(Refusal::OpeningField)
-}
-
-// An instruction's level and rates are what its code allows.
-fn figures_fit(i: Instruction) -> bool
-    ensures { λ r. ⌜ r ≡ figuresFit i ⌝ }
-{
-    let m = i.meaning;
-    let effect = m.effect;
-    let mwof = Effect::Mwof;
-    let carries = same_effect(effect, mwof);
-    if carries {
-        return (i.level <= MOST_KW) & ((i.up <= MOST_RATE) & (i.down <= MOST_RATE));
-    }
-    (i.level == 0) & ((i.up == 0) & (i.down == 0))
-}
-
-// A code byte has no meaning.
-fn is_unknown(coded: Coded) -> bool
-    ensures { λ r. ⌜ r ≡ isUnknown coded ⌝ }
-{
-    match coded {
-        Coded::Means(_) => false,
-        Coded::Unknown => true,
-    }
-}
-
-// Refusals 6 to 9, of an instruction's body, in a day of so many seconds.
-pub fn instruction_answer(end: u32, body: &[u8]) -> Answer
-    ensures { λ r. ⌜ r ≡ instructionAnswer end (now (body .entry)) ⌝ }
-{
-    let unknown = is_unknown(code_of(body));
-    if unknown {
-        return Answer::Refused(Refusal::CodeField);
-    }
-    let i = instruction_of(body);
-    if end <= i.effective {
-        return Answer::Refused(Refusal::EffectiveTime);
-    }
-    if 2 * WEEK < i.issue {
-        return Answer::Refused(Refusal::IssueTime);
-    }
-    let fit = figures_fit(i);
-    if fit {
-        return Answer::Accepted;
-    }
-    Answer::Refused(Refusal::LevelOrRates)
 }

@@ -9,8 +9,8 @@ use Rattle.entering.proofs.instruction_step.Statement.{statement}
 use Rattle.entering.proofs.instruction_step.Tie as tie
 use Rattle.entering.proofs.instruction_step.Reads as reads
 use Rattle.entering.proofs.instruction_step.Lts as lts
-use Rattle.records.proofs.instruction_answer.Reads as instruction-answer-reads
-use Rattle.records.proofs.instruction_of.Reads as instruction-of-reads
+use Rattle.fields.proofs.instruction_answer.Reads as instruction-answer-reads
+use Rattle.fields.proofs.instruction_of.Reads as instruction-of-reads
 use Rattle.entering.proofs.accepted.Reads as accepted-reads
 use Rattle.entering.proofs.refused.Reads as refused-reads
 use Rattle.day.proofs.with_instruction.Reads as with-instruction-reads

@@ -7,7 +7,7 @@ use Rattle.entering.proofs.lets_in.Statement.{statement}
 use Rattle.entering.proofs.lets_in.Tie as tie
 use Rattle.entering.proofs.lets_in.Reads as reads
 use Rattle.entering.proofs.lets_in.Lts as lts
-use Rattle.records.proofs.instruction_answer.Reads as instruction-answer-reads
+use Rattle.fields.proofs.instruction_answer.Reads as instruction-answer-reads
 
 -- src/lib.rt:353:9
 returns : tie.Need-returns

@@ -6,8 +6,8 @@ use Rattle.entering.proofs.opening_step.Statement.{statement}
 use Rattle.entering.proofs.opening_step.Tie as tie
 use Rattle.entering.proofs.opening_step.Reads as reads
 use Rattle.entering.proofs.opening_step.Lts as lts
-use Rattle.records.proofs.opening_answer.Reads as opening-answer-reads
-use Rattle.records.proofs.opening_of.Reads as opening-of-reads
+use Rattle.fields.proofs.opening_answer.Reads as opening-answer-reads
+use Rattle.fields.proofs.opening_of.Reads as opening-of-reads
 use Rattle.entering.proofs.opening_taken.Reads as opening-taken-reads
 use Rattle.entering.proofs.refused.Reads as refused-reads
 

@@ -12,7 +12,7 @@ use Rattle.gristpebble.proofs.run.Statement.{statement}
 use Rattle.gristpebble.proofs.run.Tie as tie
 use Rattle.gristpebble.proofs.run.Reads as reads
 use Rattle.gristpebble.proofs.run.Lts as lts
-use Rattle.records.proofs.instruction_of.Reads as instruction-of-reads
+use Rattle.fields.proofs.instruction_of.Reads as instruction-of-reads
 use Rattle.day.proofs.empty_day.Reads as empty-day-reads
 use Rattle.entering.proofs.lets_in.Reads as lets-in-reads
 use Rattle.taking.proofs.step.Reads as step-reads

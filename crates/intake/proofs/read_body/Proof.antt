@@ -1,6 +1,4 @@
-use mathlib.Core.Path.{_≡_, sym, ap, _∙_}
-use Rattle.records.specs.declared.Coded.the-variants.{Means}
-use Rattle.records.specs.Codes.{meaningOf}
+use mathlib.Core.Path.{sym, ap, _∙_}
 use Rattle.records.specs.Records.{issueOf}
 use Rattle.day.proofs.Passed.{never}
 use Rattle.intake.proofs.Reading.{made-is, fields-fit}
@@ -10,7 +8,7 @@ use Rattle.intake.proofs.read_body.Tie as tie
 use Rattle.intake.proofs.read_body.Reads as reads
 use Rattle.intake.proofs.read_body.Lts as lts
 use Rattle.intake.proofs.figures_fit.Reads as figures-fit-reads
-use Rattle.intake.proofs.issue_of.Reads as issue-of-reads
+use Rattle.fields.proofs.issue_of.Reads as issue-of-reads
 use Rattle.day.proofs.no_instruction.Reads as no-instruction-reads
 use Rattle.records.proofs.decode.Reads as decode-reads
 use Rattle.records.proofs.number.Reads as number-reads

@@ -1,10 +1,10 @@
 use borrow.Author.Needs.{needs}
-use Rattle.records.proofs.Laws.{figures-mwof, figures-other}
-use Rattle.records.proofs.figures_fit.Statement.{statement}
-use Rattle.records.proofs.figures_fit.Tie as tie
-use Rattle.records.proofs.figures_fit.Reads as reads
-use Rattle.records.proofs.figures_fit.Lts as lts
-use Rattle.records.proofs.same_effect.Reads as same-effect-reads
+use Rattle.fields.proofs.Laws.{figures-mwof, figures-other}
+use Rattle.fields.proofs.figures_fit.Statement.{statement}
+use Rattle.fields.proofs.figures_fit.Tie as tie
+use Rattle.fields.proofs.figures_fit.Reads as reads
+use Rattle.fields.proofs.figures_fit.Lts as lts
+use Rattle.fields.proofs.same_effect.Reads as same-effect-reads
 
 same-effect-requires : tie.Need-same-effect-requires
 same-effect-requires c κs = search needs

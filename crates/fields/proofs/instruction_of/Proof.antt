@@ -1,16 +1,16 @@
 use mathlib.Core.Path.{_≡_, ap, _∙_}
 use lib.ListN.{getD}
 use borrow.Author.Needs.{needs}
 use Rattle.records.specs.Codes.{meaningOf, meaningIn}
 use Rattle.records.specs.Records.{numberAt, issueOf, instructionOf}
-use Rattle.records.proofs.instruction_of.Statement.{statement}
-use Rattle.records.proofs.instruction_of.Tie as tie
-use Rattle.records.proofs.instruction_of.Reads as reads
-use Rattle.records.proofs.instruction_of.Lts as lts
-use Rattle.records.proofs.code_of.Reads as code-of-reads
-use Rattle.records.proofs.issue_of.Reads as issue-of-reads
-use Rattle.records.proofs.meaning_in.Reads as meaning-in-reads
+use Rattle.fields.proofs.instruction_of.Statement.{statement}
+use Rattle.fields.proofs.instruction_of.Tie as tie
+use Rattle.fields.proofs.instruction_of.Reads as reads
+use Rattle.fields.proofs.instruction_of.Lts as lts
+use Rattle.fields.proofs.code_of.Reads as code-of-reads
+use Rattle.fields.proofs.issue_of.Reads as issue-of-reads
+use Rattle.fields.proofs.meaning_in.Reads as meaning-in-reads
 use Rattle.records.proofs.number.Reads as number-reads
 
 number-requires : tie.Need-number-requires
 number-requires c κs = search needs

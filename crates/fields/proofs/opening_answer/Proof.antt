@@ -1,11 +1,11 @@
 use borrow.Author.Needs.{needs}
-use Rattle.records.proofs.Laws.{opening-taken, opening-out}
-use Rattle.records.proofs.opening_answer.Statement.{statement}
-use Rattle.records.proofs.opening_answer.Tie as tie
-use Rattle.records.proofs.opening_answer.Reads as reads
-use Rattle.records.proofs.opening_answer.Lts as lts
-use Rattle.records.proofs.opening_fits.Reads as opening-fits-reads
-use Rattle.records.proofs.opening_of.Reads as opening-of-reads
+use Rattle.fields.proofs.Laws.{opening-taken, opening-out}
+use Rattle.fields.proofs.opening_answer.Statement.{statement}
+use Rattle.fields.proofs.opening_answer.Tie as tie
+use Rattle.fields.proofs.opening_answer.Reads as reads
+use Rattle.fields.proofs.opening_answer.Lts as lts
+use Rattle.fields.proofs.opening_fits.Reads as opening-fits-reads
+use Rattle.fields.proofs.opening_of.Reads as opening-of-reads
 
 opening-of-requires : tie.Need-opening-of-requires
 opening-of-requires c κs = search needs

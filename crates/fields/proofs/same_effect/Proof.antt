@@ -1,9 +1,9 @@
 use borrow.Author.Needs.{needs}
-use Rattle.records.proofs.same_effect.Statement.{statement}
-use Rattle.records.proofs.same_effect.Tie as tie
-use Rattle.records.proofs.same_effect.Reads as reads
-use Rattle.records.proofs.same_effect.Lts as lts
+use Rattle.fields.proofs.same_effect.Statement.{statement}
+use Rattle.fields.proofs.same_effect.Tie as tie
+use Rattle.fields.proofs.same_effect.Reads as reads
+use Rattle.fields.proofs.same_effect.Lts as lts
 use Rattle.records.proofs.code_number.Reads as code-number-reads
 
 code-number-requires : tie.Need-code-number-requires
 code-number-requires c κs = search needs

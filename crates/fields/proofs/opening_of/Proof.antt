@@ -1,11 +1,11 @@
 use mathlib.Core.Path.{_≡_}
 use borrow.Author.Needs.{needs}
 use Rattle.records.specs.Records.{numberAt, openingOf}
-use Rattle.records.proofs.opening_of.Statement.{statement}
-use Rattle.records.proofs.opening_of.Tie as tie
-use Rattle.records.proofs.opening_of.Reads as reads
-use Rattle.records.proofs.opening_of.Lts as lts
+use Rattle.fields.proofs.opening_of.Statement.{statement}
+use Rattle.fields.proofs.opening_of.Tie as tie
+use Rattle.fields.proofs.opening_of.Reads as reads
+use Rattle.fields.proofs.opening_of.Lts as lts
 use Rattle.records.proofs.number.Reads as number-reads
 
 number-requires : tie.Need-number-requires
 number-requires c κs = search needs

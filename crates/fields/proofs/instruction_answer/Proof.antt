@@ -1,14 +1,14 @@
 use native.Mathlib.Omega.{arith}
 use borrow.Author.Needs.{needs}
-use Rattle.records.proofs.Laws.{code-unknown, effective-late, issue-out, instruction-taken, figures-out}
-use Rattle.records.proofs.instruction_answer.Statement.{statement}
-use Rattle.records.proofs.instruction_answer.Tie as tie
-use Rattle.records.proofs.instruction_answer.Reads as reads
-use Rattle.records.proofs.instruction_answer.Lts as lts
-use Rattle.records.proofs.code_of.Reads as code-of-reads
-use Rattle.records.proofs.figures_fit.Reads as figures-fit-reads
-use Rattle.records.proofs.instruction_of.Reads as instruction-of-reads
-use Rattle.records.proofs.is_unknown.Reads as is-unknown-reads
+use Rattle.fields.proofs.Laws.{code-unknown, effective-late, issue-out, instruction-taken, figures-out}
+use Rattle.fields.proofs.instruction_answer.Statement.{statement}
+use Rattle.fields.proofs.instruction_answer.Tie as tie
+use Rattle.fields.proofs.instruction_answer.Reads as reads
+use Rattle.fields.proofs.instruction_answer.Lts as lts
+use Rattle.fields.proofs.code_of.Reads as code-of-reads
+use Rattle.fields.proofs.figures_fit.Reads as figures-fit-reads
+use Rattle.fields.proofs.instruction_of.Reads as instruction-of-reads
+use Rattle.fields.proofs.is_unknown.Reads as is-unknown-reads
 
 code-of-requires : tie.Need-code-of-requires
 code-of-requires c κs = search needs

@@ -1,12 +1,12 @@
 use mathlib.Core.Path.{ap, _∙_}
 use borrow.Author.Needs.{needs}
 use Rattle.records.specs.Codes.{meaningOf}
-use Rattle.records.proofs.code_of.Statement.{statement}
-use Rattle.records.proofs.code_of.Tie as tie
-use Rattle.records.proofs.code_of.Reads as reads
-use Rattle.records.proofs.code_of.Lts as lts
+use Rattle.fields.proofs.code_of.Statement.{statement}
+use Rattle.fields.proofs.code_of.Tie as tie
+use Rattle.fields.proofs.code_of.Reads as reads
+use Rattle.fields.proofs.code_of.Lts as lts
 use Rattle.records.proofs.byte.Reads as byte-reads
 use Rattle.records.proofs.decode.Reads as decode-reads
 
 byte-requires : tie.Need-byte-requires
 byte-requires c κs = search needs
