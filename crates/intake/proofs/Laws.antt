@@ -33,7 +33,7 @@ use Rattle.entering.specs.Kinds.{accept, LetsIn}
 use Rattle.entering.proofs.Laws.{let-in, unit-now, unit-taken, opening-now, opening-fits, taken-low, close-now, close-taken}
 use Rattle.contract.specs.Program.{runBy, ranBy}
 use Rattle.intake.specs.declared.Opened.{Opened}
-use Rattle.intake.specs.Fronts.{UnitIn, OpeningIn}
+use Rattle.reading.specs.Fronts.{UnitIn, OpeningIn}
 use Rattle.intake.specs.Opened.{dayWith, closedRun}
 
 -- ---- a step within a run

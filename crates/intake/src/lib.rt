@@ -1,22 +1,12 @@
 // The records of a day up to close, taken straight into what close needs: for days whose unit comes first and that end in
 // close with no refusal. Any other input is left to the steps of `taking`.
 ghost use mathlib.Core.Path.{_≡_};
-ghost use mathlib.Core.Bool.{true, false, _&&_};
+ghost use mathlib.Core.Bool.{true, false};
 ghost use Prim.Native.Nat.{_≤_};
-ghost use lib.Dec.{leb, eqb};
-ghost use lib.ListN.{length, take, drop};
-ghost use Rattle.level.specs.Choice.{pick};
-ghost use Rattle.records.specs.declared.Answer.the-variants.{Accepted};
-ghost use Rattle.records.specs.Fields.{instructionAnswer};
-ghost use Rattle.records.specs.Records.{openingOf, instructionOf};
 ghost use Rattle.profile.specs.Profile.{paper};
-ghost use Rattle.day.specs.Day.{daySeconds, foundIn};
-ghost use Rattle.entering.specs.Kinds.{LetsIn};
+ghost use Rattle.day.specs.Day.{foundIn};
 ghost use Rattle.contract.specs.Program.{ranBy};
-ghost use Rattle.intake.specs.Fronts.{UnitIn, OpeningIn};
 ghost use Rattle.intake.specs.Opened.{closedRun};
-use records::Answer;
-use records::Coded;
 
 // What was taken before close; `fits` where the input is such a day.
 pub struct Opened {
@@ -27,146 +17,12 @@ pub struct Opened {
     pub count: usize,
 }
 
-// The unit at the front of the input; `fits` where the empty day takes it.
-struct First {
-    fits: bool,
-    unit: records::UnitData,
-}
-
-// An opening; `fits` where it is taken.
-struct Begun {
-    fits: bool,
-    opening: records::Opening,
-}
-
-// An instruction; `fits` where it is taken.
-struct Read {
-    fits: bool,
-    instruction: records::Instruction,
-}
-
-// A unit read from the front of the input; zeros where there are too few bytes.
-fn read_unit(input: &[u8]) -> First
-    ensures { λ r. ⌜ (r .fits ≡ true → UnitIn (now (input .entry)) (r .unit)) ⌝ }
-{
-    if input.len() < 249 {
-        let unit = units::unit_of([0; 62]);
-        return First { fits: false, unit };
-    }
-    let ns = units::unit_numbers(&input[1..249]);
-    let unit = units::unit_of(ns);
-    if input[0] != 1 {
-        return First { fits: false, unit };
-    }
-    let answer = units::unit_answer(ns);
-    match answer {
-        Answer::Accepted => First { fits: true, unit },
-        Answer::Refused(r) => First { fits: false, unit },
-    }
-}
-
-// An opening at the front of the input; `fits` where a day with this unit and no opening takes it.
-fn read_opening(unit: records::UnitData, input: &[u8]) -> Begun
-    ensures { λ r. ⌜ (r .fits ≡ true → OpeningIn unit (now (input .entry)) × (r .opening ≡ openingOf (take 16 (drop 1 (now (input .entry)))))) ⌝ }
-{
-    let none = Begun {
-        fits: false,
-        opening: day::no_opening(),
-    };
-    if input.len() < 17 {
-        return none;
-    }
-    if input[0] != 2 {
-        return none;
-    }
-    let level = records::number(&input[1..17], 0);
-    let target = records::number(&input[1..17], 4);
-    let heat = records::number(&input[1..17], 8);
-    let off = records::number(&input[1..17], 12);
-    let ranges = (level <= 120000000)
-        & ((target <= 2000000) & (((1 <= heat) & (heat <= 3)) & (off <= 10000000)));
-    let opening = records::Opening {
-        level,
-        target,
-        heat,
-        off,
-    };
-    let high = entering::too_high(unit, opening);
-    Begun {
-        fits: ranges & !high,
-        opening,
-    }
-}
-
-// Level and rates are what a code that carries them, or one that does not, allows.
-fn figures_fit(carries: bool, level: u32, up: u32, down: u32) -> bool
-    ensures { λ r. ⌜ r ≡ pick carries (leb level 2000000 && (leb up 200000 && leb down 200000)) (eqb level 0 && (eqb up 0 && eqb down 0)) ⌝ }
-{
-    if carries {
-        return (level <= 2000000) & ((up <= 200000) & (down <= 200000));
-    }
-    (level == 0) & ((up == 0) & (down == 0))
-}
-
-// An instruction's body, its fields read once; `fits` where they are not refused.
-fn read_body(body: &[u8]) -> Read
-    requires { ⌜ 9 ≤ length (now body) ⌝ }
-    ensures { λ r. ⌜ (r .fits ≡ true → (instructionAnswer daySeconds (now (body .entry)) ≡ Accepted) × (r .instruction ≡ instructionOf (now (body .entry)))) ⌝ }
-{
-    let code = body[8];
-    let effective = records::number(body, 0);
-    let issue = fields::issue_of(records::number(body, 4));
-    let level = records::number(body, 9);
-    let up = records::number(body, 13);
-    let down = records::number(body, 17);
-    let figures = figures_fit(code == 2, level, up, down);
-    let fits = (effective < 86400) & ((issue <= 1209600) & figures);
-    let coded = records::decode(code);
-    match coded {
-        Coded::Means(meaning) => {
-            let instruction = records::Instruction {
-                effective,
-                issue,
-                meaning,
-                level,
-                up,
-                down,
-            };
-            Read { fits, instruction }
-        }
-        Coded::Unknown => Read {
-            fits: false,
-            instruction: day::no_instruction(),
-        },
-    }
-}
-
-// An instruction at the front of the input; `fits` where a day with a unit and so many instructions takes it.
-fn read_instruction(count: usize, input: &[u8]) -> Read
-    ensures { λ r. ⌜ (r .fits ≡ true → LetsIn true false count (now (input .entry)) × (r .instruction ≡ instructionOf (take 21 (drop 1 (now (input .entry)))))) ⌝ }
-{
-    let none = Read {
-        fits: false,
-        instruction: day::no_instruction(),
-    };
-    if input.len() < 22 {
-        return none;
-    }
-    if input[0] != 3 {
-        return none;
-    }
-    if 40 <= count {
-        return none;
-    }
-    read_body(&input[1..22])
-}
-
 // Records up to close, from the empty day on: a unit, then an opening and instructions in any order, then close. At anything
 // else `fits` is false.
 pub fn open_day(input: &[u8]) -> Opened
     ensures { λ r. ⌜ (r .fits ≡ true → (ranBy (foundIn paper) (now (input .entry)) ≡ closedRun r) × (r .count ≤ 40)) ⌝ }
 {
-    let first = read_unit(input);
+    let first = reading::read_unit(input);
     let unit = first.unit;
     let mut e = Opened {
         fits: false,
@@ -181,7 +37,7 @@ pub fn open_day(input: &[u8]) -> Opened
     let mut at: usize = 249;
     let mut opened = false;
     while at < input.len() {
-        let read = read_instruction(e.count, &input[at..]);
+        let read = reading::read_instruction(e.count, &input[at..]);
         if read.fits {
             let i = read.instruction;
             e.instructions[e.count] = i;
@@ -193,7 +49,7 @@ pub fn open_day(input: &[u8]) -> Opened
             e.fits = input[at] == 4;
             return e;
         }
-        let begun = read_opening(unit, &input[at..]);
+        let begun = reading::read_opening(unit, &input[at..]);
         if !begun.fits {
             return e;
         }

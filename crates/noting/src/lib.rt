@@ -11,7 +11,13 @@ ghost use Rattle.trajectory.specs.Walk.{standing, notedAt};
 // ---- going along a course
 
 // Along the course to the second n.
-pub fn walk_to(l: stops::OwnLists, c: course::Course, up: bool, from: trajectory::Place, n: u32) -> trajectory::Place
+pub fn walk_to(
+    l: stops::OwnLists,
+    c: course::Course,
+    up: bool,
+    from: trajectory::Place,
+    n: u32,
+) -> trajectory::Place
     requires { ⌜ from .second ≤ n ⌝ }
     requires { ⌜ Short (headed up) (grains (c .target)) (from .level) ⌝ }
     ensures { λ r. ⌜ (r ≡ standing (headed up) (listsBy l c) (grains (c .target)) n from)

@@ -7,7 +7,7 @@ use Rattle.gristpebble.proofs.list_run.Reads as reads
 use Rattle.gristpebble.proofs.list_run.Lts as lts
 use Rattle.gristpebble.proofs.list_day.Reads as list-day-reads
 use Rattle.gristpebble.proofs.refusal_result.Reads as refusal-result-reads
-use Rattle.gristpebble.proofs.run.Reads as run-reads
+use Rattle.running.proofs.run.Reads as run-reads
 
 -- src/lib.rt:81:9
 run-requires : tie.Need-run-requires

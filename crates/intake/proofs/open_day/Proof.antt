@@ -5,7 +5,7 @@ use Rattle.records.specs.Records.{openingOf, instructionOf}
 use Rattle.day.proofs.Passed.{never}
 use Rattle.entering.specs.Kinds.{LetsIn}
 use Rattle.entering.proofs.Laws.{not-false}
-use Rattle.intake.specs.Fronts.{OpeningIn}
+use Rattle.reading.specs.Fronts.{OpeningIn}
 use Prim.Native.Nat.{_≤_, _<_, _+_, _-_, _^_}
 use native.Mathlib.Omega.{arith}
 use lib.ListN.{length, take, drop}
@@ -17,9 +17,9 @@ use Rattle.intake.proofs.open_day.Reads as reads
 use Rattle.intake.proofs.open_day.Lts as lts
 use Rattle.day.proofs.no_instruction.Reads as no-instruction-reads
 use Rattle.day.proofs.no_opening.Reads as no-opening-reads
-use Rattle.intake.proofs.read_instruction.Reads as read-instruction-reads
-use Rattle.intake.proofs.read_opening.Reads as read-opening-reads
-use Rattle.intake.proofs.read_unit.Reads as read-unit-reads
+use Rattle.reading.proofs.read_instruction.Reads as read-instruction-reads
+use Rattle.reading.proofs.read_opening.Reads as read-opening-reads
+use Rattle.reading.proofs.read_unit.Reads as read-unit-reads
 
 abbrev Inv-loop : tie.InvT-loop
 Inv-loop input unit e₀ at₀ opened₀ e at opened = So input unit e at opened

@@ -1,13 +1,13 @@
 use mathlib.Core.Path.{sym, ap, _∙_}
 use Rattle.records.specs.Records.{issueOf}
 use Rattle.day.proofs.Passed.{never}
-use Rattle.intake.proofs.Reading.{made-is, fields-fit}
+use Rattle.reading.proofs.Reading.{made-is, fields-fit}
 use borrow.Author.Needs.{needs}
-use Rattle.intake.proofs.read_body.Statement.{statement}
-use Rattle.intake.proofs.read_body.Tie as tie
-use Rattle.intake.proofs.read_body.Reads as reads
-use Rattle.intake.proofs.read_body.Lts as lts
-use Rattle.intake.proofs.figures_fit.Reads as figures-fit-reads
+use Rattle.reading.proofs.read_body.Statement.{statement}
+use Rattle.reading.proofs.read_body.Tie as tie
+use Rattle.reading.proofs.read_body.Reads as reads
+use Rattle.reading.proofs.read_body.Lts as lts
+use Rattle.reading.proofs.figures_fit.Reads as figures-fit-reads
 use Rattle.fields.proofs.issue_of.Reads as issue-of-reads
 use Rattle.day.proofs.no_instruction.Reads as no-instruction-reads
 use Rattle.records.proofs.decode.Reads as decode-reads

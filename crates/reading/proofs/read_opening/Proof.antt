@@ -3,12 +3,12 @@ use mathlib.Core.Path.{sym, ap, _∙_}
 use Rattle.day.specs.Step.{tooHigh}
 use Rattle.day.proofs.Passed.{never}
 use Rattle.entering.proofs.Laws.{not-true}
-use Rattle.intake.proofs.Reading.{both, begun-is, opening-fit}
+use Rattle.reading.proofs.Reading.{both, begun-is, opening-fit}
 use borrow.Author.Needs.{needs}
-use Rattle.intake.proofs.read_opening.Statement.{statement}
-use Rattle.intake.proofs.read_opening.Tie as tie
-use Rattle.intake.proofs.read_opening.Reads as reads
-use Rattle.intake.proofs.read_opening.Lts as lts
+use Rattle.reading.proofs.read_opening.Statement.{statement}
+use Rattle.reading.proofs.read_opening.Tie as tie
+use Rattle.reading.proofs.read_opening.Reads as reads
+use Rattle.reading.proofs.read_opening.Lts as lts
 use Rattle.day.proofs.no_opening.Reads as no-opening-reads
 use Rattle.records.proofs.number.Reads as number-reads
 use Rattle.entering.proofs.too_high.Reads as too-high-reads

@@ -2,12 +2,12 @@ use native.Mathlib.Omega.{arith}
 use mathlib.Core.Path.{refl}
 use Rattle.day.proofs.Passed.{never}
 use borrow.Author.Needs.{needs}
-use Rattle.intake.proofs.read_instruction.Statement.{statement}
-use Rattle.intake.proofs.read_instruction.Tie as tie
-use Rattle.intake.proofs.read_instruction.Reads as reads
-use Rattle.intake.proofs.read_instruction.Lts as lts
+use Rattle.reading.proofs.read_instruction.Statement.{statement}
+use Rattle.reading.proofs.read_instruction.Tie as tie
+use Rattle.reading.proofs.read_instruction.Reads as reads
+use Rattle.reading.proofs.read_instruction.Lts as lts
 use Rattle.day.proofs.no_instruction.Reads as no-instruction-reads
-use Rattle.intake.proofs.read_body.Reads as read-body-reads
+use Rattle.reading.proofs.read_body.Reads as read-body-reads
 
 no-instruction-requires : tie.Need-no-instruction-requires
 no-instruction-requires c κs = search needs

@@ -4,10 +4,10 @@ use Rattle.records.specs.Records.{unitOf}
 use Rattle.records.specs.Fields.{unitAnswer}
 use Rattle.day.proofs.Passed.{never}
 use borrow.Author.Needs.{needs}
-use Rattle.intake.proofs.read_unit.Statement.{statement}
-use Rattle.intake.proofs.read_unit.Tie as tie
-use Rattle.intake.proofs.read_unit.Reads as reads
-use Rattle.intake.proofs.read_unit.Lts as lts
+use Rattle.reading.proofs.read_unit.Statement.{statement}
+use Rattle.reading.proofs.read_unit.Tie as tie
+use Rattle.reading.proofs.read_unit.Reads as reads
+use Rattle.reading.proofs.read_unit.Lts as lts
 use Rattle.units.proofs.unit_answer.Reads as unit-answer-reads
 use Rattle.units.proofs.unit_numbers.Reads as unit-numbers-reads
 use Rattle.units.proofs.unit_of.Reads as unit-of-reads

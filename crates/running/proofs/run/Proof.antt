@@ -6,12 +6,12 @@ use borrow.Author.Needs.{needs}
 use Rattle.profile.specs.Profile.{paper}
 use Rattle.day.specs.Day.{foundIn, withInstruction}
 use Rattle.contract.specs.Program.{ranBy}
-use Rattle.gristpebble.proofs.Laws.{rest, used-within, run-first, run-on, run-stop, run-shut, run-none, let-in-within, run-let-in}
+use Rattle.running.proofs.Runs.{rest, used-within, run-first, run-on, run-stop, run-shut, run-none, let-in-within, run-let-in}
 use Rattle.entering.specs.Kinds.{LetsIn}
-use Rattle.gristpebble.proofs.run.Statement.{statement}
-use Rattle.gristpebble.proofs.run.Tie as tie
-use Rattle.gristpebble.proofs.run.Reads as reads
-use Rattle.gristpebble.proofs.run.Lts as lts
+use Rattle.running.proofs.run.Statement.{statement}
+use Rattle.running.proofs.run.Tie as tie
+use Rattle.running.proofs.run.Reads as reads
+use Rattle.running.proofs.run.Lts as lts
 use Rattle.fields.proofs.instruction_of.Reads as instruction-of-reads
 use Rattle.day.proofs.empty_day.Reads as empty-day-reads
 use Rattle.entering.proofs.lets_in.Reads as lets-in-reads
