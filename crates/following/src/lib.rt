@@ -6,7 +6,6 @@ ghost use lib.ListN.{length, take};
 ghost use Rattle.level.specs.Choice.{pick};
 ghost use Rattle.level.specs.Level.{grains};
 ghost use Rattle.level.specs.Lists.{All};
-ghost use Rattle.course.specs.Lists.{placeOf};
 ghost use Rattle.validation.specs.Kept.{acting};
 ghost use Rattle.profile.specs.Effects.{begun};
 ghost use Rattle.daylines.specs.Rest.{coursesLines};
@@ -42,17 +41,6 @@ fn set_out(u: records::UnitData, now: profile::UnderWay) -> OnCourse
         lists,
         place,
         off,
-    }
-}
-
-// The place of a heat's column.
-fn place_of(heat: u32) -> usize
-    ensures { λ r. ⌜ (r ≡ placeOf heat) × (r < 3) ⌝ }
-{
-    match heat {
-        1 => 0,
-        2 => 1,
-        _ => 2,
     }
 }
 
@@ -126,11 +114,11 @@ fn follow_on(
             g.place = p;
             g.off = s.off;
         } else {
-            count += passing::end_course(&mut out[count..], parts, l, c, g.up, p, q);
+            count += passing::end_course(&mut out[count..], parts, g.up, p, q);
             let next = begin_next(u, now, o, q, s.later);
             fates[at] = 0;
             let d = next.course;
-            let heat = place_of(d.heat);
+            let heat = stops::place_of(d.heat);
             g.now = next;
             g.up = trajectory::is_rising(d);
             l.column = u.columns[heat];
@@ -166,7 +154,7 @@ fn end_day(out: &mut [u8], parts: &mut [u64; 49], g: OnCourse) -> Ended
     let at = s.count;
     let p = s.place;
     let q = s.ahead;
-    let w = passing::end_course(&mut out[at..], parts, l, c, g.up, p, q);
+    let w = passing::end_course(&mut out[at..], parts, g.up, p, q);
     let level = level::Level { grains: q.level };
     let closing = profile::Closing {
         level,

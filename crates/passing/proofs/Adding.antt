@@ -1,10 +1,9 @@
 -- What goes on with time, added to the half-hour in which it lies.
 -- Assumes nothing.
 use Prim.Native.Nat.{ℕ, zero, suc, _+_, _*_, _-_, min, _≤_, _<_}
-use mathlib.Core.Path.{_≡_, refl, ap, sym, _∙_}
+use mathlib.Core.Path.{_≡_, refl, ap, _∙_}
 use mathlib.Core.List.{List, [], _∷_}
 use native.Mathlib.Decide.{decLe}
-use native.Mathlib.Nat.{zero-mul, mul-le-mul-left}
 use native.Mathlib.Omega.{arith}
 use lib.ListN.{length, getD, set, length-set}
 use Rattle.summing.specs.Summing.{firstSum}
@@ -66,13 +65,3 @@ module _ (b x s to n : ℕ) (at : x ≡ 1800 * b) (day : to ≤ 86400) (begun : 
 
   pub step-next : (x + 1800 ≡ 1800 * (b + 1)) × (min (x + 1800) to ≤ n) × (n < x + 1800 + 1800)
   step-next = omega arith
-
--- a level from one second to another: nothing before, and on to n
-pub flat-none : (level from s : ℕ) → s ≤ from → (s - from) * (level + level) ≡ 0
-flat-none level from s h = ap (λ (k : ℕ). k * (level + level)) {x = s - from} {y = 0} (omega arith) ∙ zero-mul (level + level)
-
-pub flat-on : (level from s n : ℕ) → from ≤ s → s ≤ n → (s - from) * (level + level) + (n - s) * (level + level) ≡ (n - from) * (level + level)
-flat-on level from s n a b = sym (ap (λ (k : ℕ). k * (level + level)) {x = n - from} {y = s - from + (n - s)} (omega arith) ∙ omega arith)
-
-pub flat-low : (level s n : ℕ) → level < 274877906944 → (n - s) * (level + level) ≤ (n - s) * 549755813888
-flat-low level s n h = mul-le-mul-left (n - s) (omega arith)

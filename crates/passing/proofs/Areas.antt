@@ -1,26 +1,25 @@
 -- Twice the area along a course, from one second to another, and along a level piece.
 -- Assumes nothing.
 use Prim.Native.Nat.{ℕ, min, _+_, _*_, _-_, _/_, _≤_, _<_}
-use mathlib.Core.Path.{_≡_, ap, sym, _∙_}
+use mathlib.Core.Path.{_≡_, refl, ap, sym, _∙_}
 use mathlib.Core.List.{List}
-use native.Mathlib.Nat.{mul-le-mul-right}
 use native.Mathlib.Decide.{decLe}
 use native.Mathlib.Omega.{arith}
-use lib.ListN.{getD, set}
 use borrow.Author.Tests.{lt-ltb}
 use Rattle.segments.specs.Segments.{area}
-use Rattle.segments.proofs.Sums.{area-split, area-line}
+use Rattle.segments.proofs.Sums.{area-split}
 use Rattle.course.specs.Lists.{Lists}
-use Rattle.course.specs.Course.{Heading, rising, falling, Moment, after}
+use Rattle.course.specs.Course.{Heading, Moment, toward, gap, after}
 use Rattle.course.specs.Pieces.{piece}
-use Rattle.course.proofs.Pieces.{Along, Line, Traces}
+use Rattle.course.proofs.Pieces.{Line, piece-cut}
 use Rattle.trajectory.specs.declared.Place.{Place}
-use Rattle.trajectory.specs.Walk.{momentOf, standing, twiceBetween, twiceTo}
+use Rattle.trajectory.specs.Walk.{momentOf, standing, twiceTo}
 use Rattle.trajectory.proofs.Seconds.{after-add}
 use Rattle.trajectory.proofs.Goes.{Goes}
-use Rattle.trajectory.proofs.Areas.{area-from, area-same, twice-on, twice-here, twice-low}
-use Rattle.passing.specs.Passing.{AddsOn, Summed}
-use Rattle.passing.proofs.Adding.{adds-none, adds-on, summed-on, part-fits}
+use Rattle.trajectory.proofs.Areas.{area-from, area-same, twice-here}
+use Rattle.passing.specs.Passing.{lineTwice, Straight, AddsPiece, AddsOn}
+use Rattle.passing.proofs.Adding.{adds-same}
+use Rattle.passing.proofs.Lines.{line-none, along-toward, straight-rate}
 
 module _ (h : Heading) (l : Lists) (t : ℕ) (p : Place) where
   abbrev path : Place → ℕ → ℕ
@@ -57,80 +56,61 @@ module _ (h : Heading) (l : Lists) (t : ℕ) (p : Place) where
     stands-on =
         e ∙ ap (standing h l t n) there ∙ standing-twice (a .second) n from on ∙ ap (λ (i : ℕ). standing h l t i p) (sym second-on)
 
-    pub twice-more : (v : ℕ) → v ≡ twiceTo h l t n a → twiceTo h l t (a .second) p + v ≡ twiceTo h l t n p
-    twice-more v f = ap (λ (i : ℕ). twiceTo h l t (a .second) p + i) (f ∙ ap (twiceTo h l t n) there) ∙ twice-split (a .second) n from on
-
   -- nothing before p
   pub twice-none : (i : ℕ) → i ≤ p .second → twiceTo h l t i p ≡ 0
   twice-none i le = twice-here h l t i p le
 
-  -- a straight piece from p to q
-  module _ (q : Place) (g : Goes h l t (q .second) p q) where
-    pub twice-whole : twiceTo h l t (p .second) p + twiceBetween p q ≡ twiceTo h l t (q .second) p
-    twice-whole = omega (arith, twice-here h l t (p .second) p (omega arith), twice-on h l t (q .second) p q g, twice-here h l t (q .second) q (omega arith))
-
-the-line : (h : Heading) (f : ℕ → ℕ) (a b v w : ℕ) → a < b → Traces h f a b (piece a b v w) → Line h f (record { from = a; to = b; enter = v; leave = w })
-unfolding piece
-the-line h f a b v w lt t = (rw (lt-ltb a b lt) at t) .2
-
--- both ends of a line at one level: all of it is
-level-line : (h : Heading) (d r i v x w : ℕ) → i ≤ d → v ≡ w → Along h v (i * r) x → Along h v (d * r) w → x ≡ v
-level-line rising d r i v x w le e p q = omega (arith, mul-le-mul-right {m = i} {n = d} r le)
-level-line falling d r i v x w le e p q = omega (arith, mul-le-mul-right {m = i} {n = d} r le)
-
-module _ (h : Heading) (l : Lists) (t n : ℕ) (p q : Place) (g : Goes h l t n p q) (same : p .level ≡ q .level) where
+-- a straight piece of a course
+module _ (h : Heading) (l : Lists) (t n : ℕ) (p q : Place) (g : Goes h l t n p q) where
   abbrev levels : ℕ → ℕ
   levels k = after h l t (k - p .second) (momentOf p) .level
 
-  abbrev straight : Line h levels (record { from = p .second; to = q .second; enter = p .level; leave = q .level })
-  straight = the-line h levels (p .second) (q .second) (p .level) (q .level) (g .later) (g .straight)
+  pub goes-line : Line h levels (record { from = p .second; to = q .second; enter = p .level; leave = q .level })
+  unfolding piece
+  goes-line = (rw (lt-ltb (p .second) (q .second) (g .later)) at (g .straight)) .2
 
-  level-at : (i : ℕ) → i ≤ q .second - p .second → levels (p .second + i) ≡ p .level
-  level-at i le =
+  pub goes-straight : Straight h p q
+  goes-straight =
       let d : ℕ = q .second - p .second in
-      let end : levels (p .second + d) ≡ q .level = ap levels {x = p .second + d} {y = q .second} (omega (arith, g .later)) ∙ sym (straight .ends) in
-      level-line h d (straight .rate) i (p .level) (levels (p .second + i)) (q .level) le same (straight .along i le)
-      (rw end at (straight .along d (omega arith)))
+      let end : levels (p .second + d) ≡ q .level = ap levels {x = p .second + d} {y = q .second} (omega (arith, g .later)) ∙ sym (goes-line .ends) in
+      record { rate = goes-line .rate; along = rw end at (goes-line .along d (omega arith)) }
 
-  path-at : (i : ℕ) → i ≤ q .second - p .second → after h l t (0 + i) (momentOf p) .level ≡ p .level + i * 0
-  path-at i le =
-      ap (λ (k : ℕ). after h l t k (momentOf p) .level) {x = 0 + i} {y = p .second + i - p .second} (omega arith) ∙ level-at i le ∙ omega arith
+  abbrev rate : ℕ
+  rate = gap (p .level) (q .level) / (q .second - p .second)
 
-  -- a piece at one level
-  pub level-area : (s : ℕ) → s ≤ q .second → (s - p .second) * (p .level + p .level) ≡ twiceTo h l t s p
-  unfolding twiceTo
-  level-area s le =
-      let d : ℕ = s - p .second in
-      sym (area-line (λ k. after h l t k (momentOf p) .level) 0 (p .level) 0 d (λ i k. path-at i (omega (arith, g .later))) ∙ omega arith)
+  -- where the line is at the second s
+  line-there : (s : ℕ) → p .second ≤ s → s ≤ q .second → levels s ≡ toward h (p .level) ((s - p .second) * rate)
+  unfolding goes-straight
+  line-there s lo hi =
+      let i : ℕ = s - p .second in
+      ap levels {x = s} {y = p .second + i} (omega arith)
+      ∙ along-toward h (p .level) (i * goes-line .rate) (levels (p .second + i)) (goes-line .along i (omega arith))
+      ∙ ap (λ (r : ℕ). toward h (p .level) (i * r)) (sym (straight-rate h p q (g .later) goes-straight))
 
--- the straight piece from p to q, if it lies in one half-hour
-module _ (h : Heading) (l : Lists) (t : ℕ) (p q : Place) (xs : List ℕ) (g : Goes h l t (q .second) p q)
-    (day : q .second ≤ 86400) (low : p .level < 274877906944) (low-too : q .level < 274877906944)
-    (one : q .second ≤ (p .second / 1800 + 1) * 1800) (sums : Summed (p .second) xs) where
-  abbrev half : ℕ
-  half = p .second / 1800
+  -- twice its area up to the second s
+  pub line-area : (s : ℕ) → s ≤ q .second → lineTwice h (p .level) rate (s - p .second) ≡ twiceTo h l t s p
+  unfolding lineTwice twiceTo after
+  line-area s hi = elim (decLe (p .second) s) [
+    | yes lo ↦
+        let i : ℕ = s - p .second in
+        let begins : levels (p .second) ≡ p .level = ap (λ (k : ℕ). after h l t k (momentOf p) .level) {x = p .second - p .second} {y = 0} (omega arith) ∙ refl in
+        sym (sym (area-from levels (p .second) i ∙ area-same (λ j. levels (p .second + j)) (λ k. after h l t k (momentOf p) .level) (λ j. ap (λ (k : ℕ). after h l t k (momentOf p) .level) {x = p .second + j - p .second} {y = j} (omega arith)) 0 i)
+        ∙ piece-cut levels (record { from = p .second; to = q .second; enter = p .level; leave = q .level }) (p .second) s (omega arith) lo hi h goes-line
+        ∙ ap (λ (v : ℕ). i * (v + levels s)) begins ∙ ap (λ (v : ℕ). i * (p .level + v)) (line-there s lo hi))
+    | no lt ↦ line-none h (p .level) rate (s - p .second) (omega arith) ∙ sym (twice-here h l t s p (omega arith))
+  ]
 
-  abbrev more : ℕ
-  more = (q .second - p .second) * (p .level + q .level)
-
-  place : (half ≤ 47) × (1800 * half ≤ p .second) × (p .second ≤ q .second) × (q .second ≤ 1800 * half + 1800)
-  place = omega (arith, g .later)
-
-  more-low : more ≤ (q .second - p .second) * 549755813888
-  unfolding twiceBetween
-  more-low = twice-low p q low low-too
-
-  pub piece-fits : getD xs (half + 1) 0 + more < 18446744073709551616
-  piece-fits = part-fits half (p .second) (q .second) more xs (place .1) (place .2) (place .3) (place .0) day more-low sums
-
-  pub piece-adds : AddsOn h l t p (q .second) xs (set xs (half + 1) (getD xs (half + 1) 0 + more))
-      × Summed (q .second) (set xs (half + 1) (getD xs (half + 1) 0 + more))
-  unfolding twiceBetween
-  piece-adds = (
-    adds-on half (p .second) (q .second) more xs (place .1) (place .2) (place .3) (λ (i : ℕ). twiceTo h l t i p) xs (omega (arith, place .0, sums .0))
-        (twice-whole h l t p q g) (adds-none (λ (i : ℕ). twiceTo h l t i p) (p .second) xs (twice-none h l t p)),
-    summed-on half (p .second) (q .second) more xs (place .1) (place .2) (place .3) (place .0) more-low sums,
-  )
+-- what a piece adds is what the course does there
+pub piece-on : (h : Heading) (l : Lists) (t n : ℕ) (p q : Place) (xs ys : List ℕ) → (p .second < q .second → Goes h l t n p q) → p .second ≤ q .second →
+    AddsPiece h p q xs ys → AddsOn h l t p (q .second) xs ys
+piece-on h l t n p q xs ys go le a = elim (decLe (q .second) (p .second)) [
+  | yes same ↦
+      adds-same (λ (i : ℕ). lineTwice h (p .level) (gap (p .level) (q .level) / (q .second - p .second)) (i - p .second)) (λ (i : ℕ). twiceTo h l t i p) (q .second) xs ys
+      (λ i k. line-none h (p .level) (gap (p .level) (q .level) / (q .second - p .second)) (i - p .second) (omega arith) ∙ sym (twice-here h l t i p (omega arith))) a
+  | no lt ↦
+      adds-same (λ (i : ℕ). lineTwice h (p .level) (gap (p .level) (q .level) / (q .second - p .second)) (i - p .second)) (λ (i : ℕ). twiceTo h l t i p) (q .second) xs ys
+      (line-area h l t n p q (go (omega arith))) a
+]
 
 -- to the second n by way of a place between
 module _ (h : Heading) (l : Lists) (t : ℕ) (from p : Place) (there : p ≡ standing h l t (p .second) from) (later : from .second ≤ p .second) where

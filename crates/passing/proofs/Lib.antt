@@ -1,4 +1,5 @@
 pub mod Adding
+pub mod Lines
 pub mod Areas
 pub mod Watch
 pub mod Pass

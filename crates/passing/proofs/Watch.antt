@@ -25,6 +25,7 @@ use Rattle.trajectory.proofs.Courses.{heading-is, begins-short}
 use Rattle.effects.specs.Watching.{offStarting, offBetween}
 use Rattle.effects.proofs.Watching.{moment-on, off-on, state-there}
 use Rattle.passing.specs.Passing.{Watching}
+use Rattle.passing.proofs.Areas.{goes-line}
 
 -- a place, in the seconds of a course that began at the second a
 abbrev pub back : ℕ → Place → Place
@@ -38,9 +39,8 @@ module _ (h : Heading) (l : Lists) (t n a : ℕ) (p q : Place) (begun : a ≤ p 
   abbrev own : ℕ → ℕ
   own k = after h l t (k - (p .second - a)) (momentOf p) .level
 
-  the-line : Line h path (record { from = p .second; to = q .second; enter = p .level; leave = q .level })
-  unfolding piece
-  the-line = (rw (lt-ltb (p .second) (q .second) (g .later)) at (g .straight)) .2
+  abbrev the-line : Line h path (record { from = p .second; to = q .second; enter = p .level; leave = q .level })
+  the-line = goes-line h l t n p q g
 
   own-line : Line h own (record { from = p .second - a; to = q .second - a; enter = p .level; leave = q .level })
   own-line = record {

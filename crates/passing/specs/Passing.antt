@@ -1,6 +1,6 @@
 -- Along a course with its S lines and the areas of its half-hours, one straight piece after another.
 -- Assumes nothing.
-use Prim.Native.Nat.{ℕ, suc, _+_, _*_, _-_, min, _≤_, _<_}
+use Prim.Native.Nat.{ℕ, suc, _+_, _*_, _-_, _/_, min, _≤_, _<_}
 use mathlib.Core.Path.{_≡_}
 use mathlib.Core.Bool.{Bool}
 use mathlib.Core.List.{List, [], _++_}
@@ -11,8 +11,9 @@ use Rattle.level.specs.Level.{grains}
 use Rattle.records.specs.declared.UnitData.{UnitData}
 use Rattle.course.specs.declared.Course.{Course}
 use Rattle.course.specs.Lists.{Lists}
-use Rattle.course.specs.Course.{Heading, momentAt, trajectoryOf}
+use Rattle.course.specs.Course.{Heading, rising, falling, toward, gap, momentAt, trajectoryOf}
 use Rattle.course.proofs.Near.{Short}
+use Rattle.course.proofs.Pieces.{Along}
 use Rattle.profile.specs.State.{watch}
 use Rattle.stops.specs.declared.OwnLists.{OwnLists}
 use Rattle.trajectory.specs.declared.Place.{Place}
@@ -24,11 +25,29 @@ use Rattle.summing.specs.Summing.{firstSum}
 use Rattle.daylines.specs.Rest.{pieceLine}
 use Rattle.passing.specs.declared.Passed.{Passed}
 
--- up to each of the 49 boundaries, ys comes to what xs comes to and, from `from` to `to`, a level twice over
-abbrev pub AddsFlat : ℕ → ℕ → ℕ → List ℕ → List ℕ → Type 0
-AddsFlat level from to xs ys = (j : ℕ) → j ≤ 48 → firstSum (suc j) ys ≡ firstSum (suc j) xs + (min to (1800 * j) - from) * (level + level)
+-- twice the area of k seconds along a straight line, from the level v on by r a second
+unfoldable pub lineTwice : Heading → ℕ → ℕ → ℕ → ℕ
+lineTwice h v r k = k * (v + toward h v (k * r))
 
--- and twice the area from the place p to the second `to`
+-- up to each of the 49 boundaries, ys comes to what xs comes to and twice the area of such a line that lasts from `from` to `to`
+abbrev pub AddsLine : Heading → ℕ → ℕ → ℕ → ℕ → List ℕ → List ℕ → Type 0
+AddsLine h v r from to xs ys = (j : ℕ) → j ≤ 48 → firstSum (suc j) ys ≡ firstSum (suc j) xs + lineTwice h v r (min to (1800 * j) - from)
+
+-- all the way while it moves by m the level v is one of 32 bits of kW
+abbrev pub StaysLow : Heading → ℕ → ℕ → Type 0
+StaysLow rising v m = v + m < 274877906944
+StaysLow falling v m = (m ≤ v) × (v < 274877906944)
+
+-- from p to q the level goes straight, by so much a second
+pub record Straight (h : Heading) (p q : Place) : Type 0 where
+  pub rate : ℕ
+  pub along : Along h (p .level) ((q .second - p .second) * rate) (q .level)
+
+-- the line from p to q
+abbrev pub AddsPiece : Heading → Place → Place → List ℕ → List ℕ → Type 0
+AddsPiece h p q xs ys = AddsLine h (p .level) (gap (p .level) (q .level) / (q .second - p .second)) (p .second) (q .second) xs ys
+
+-- and twice the area of a course from the place p to the second `to`
 abbrev pub AddsOn : Heading → Lists → ℕ → Place → ℕ → List ℕ → List ℕ → Type 0
 AddsOn h l t p to xs ys = (j : ℕ) → j ≤ 48 → firstSum (suc j) ys ≡ firstSum (suc j) xs + twiceTo h l t (min to (1800 * j)) p
 

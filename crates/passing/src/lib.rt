@@ -4,92 +4,54 @@ ghost use Prim.Native.Nat.{_+_, _*_, _-_, _<_, _≤_};
 ghost use lib.ListN.{length};
 ghost use Rattle.level.specs.Level.{grains};
 ghost use Rattle.course.proofs.Near.{Short};
-ghost use Rattle.stops.specs.Ways.{headed, listsBy};
-ghost use Rattle.trajectory.proofs.Goes.{Goes};
+ghost use Rattle.stops.specs.Ways.{headed};
 ghost use Rattle.text.specs.Text.{laid};
 ghost use Rattle.daylines.specs.Rest.{pieceLine};
-ghost use Rattle.passing.specs.Passing.{AddsFlat, AddsOn, Summed, lastLine, Roomy, Passing};
+ghost use Rattle.passing.specs.Passing.{AddsLine, StaysLow, Straight, AddsPiece, Summed, lastLine, Roomy, Passing};
 
 const HALF_HOUR: u32 = 1800;
 
 // ---- areas, added half-hour by half-hour
 
-// A level from one second to another: to each half-hour what lies there.
-fn add_flat(parts: &mut [u64; 49], level: u64, from: u32, to: u32)
-    requires { ⌜ (from ≤ to) × (to ≤ 86400) × (level < 274877906944) ⌝ }
+// A level that goes straight on by `rate` a second, from one second to another: to each half-hour what lies there.
+fn add_line(parts: &mut [u64; 49], up: bool, level: u64, rate: u64, from: u32, to: u32)
+    requires { ⌜ (from ≤ to) × (to ≤ 86400) × StaysLow (headed up) level ((to - from) * rate) ⌝ }
     requires { ⌜ Summed from (now parts) ⌝ }
-    ensures { λ r. ⌜ AddsFlat level from to (now (parts .entry)) (now (parts .exit)) × Summed to (now (parts .exit)) ⌝ }
+    ensures { λ r. ⌜ AddsLine (headed up) level rate from to (now (parts .entry)) (now (parts .exit)) × Summed to (now (parts .exit)) ⌝ }
 {
-    let twice = level + level;
     let half = from / HALF_HOUR;
     let mut b = half as usize;
     let mut x = half * HALF_HOUR;
     let mut at = from;
+    let mut v = level;
     while at < to {
         b += 1;
         x += HALF_HOUR;
         let n = level::smaller(x, to);
-        let time = n - at;
-        parts[b] = parts[b] + (time as u64) * twice;
+        let time = (n - at) as u64;
+        let w = trajectory::moved(up, v, time * rate);
+        parts[b] = parts[b] + time * (v + w);
         at = n;
-    }
-}
-
-// A course from the place p to the second `to`.
-fn add_slope(
-    parts: &mut [u64; 49],
-    l: stops::OwnLists,
-    c: course::Course,
-    up: bool,
-    p: trajectory::Place,
-    to: u32,
-)
-    requires { ⌜ (p .second ≤ to) × (to ≤ 86400) × (p .level < 274877906944) ⌝ }
-    requires { ⌜ Short (headed up) (grains (c .target)) (p .level) ⌝ }
-    requires { ⌜ Summed (p .second) (now parts) ⌝ }
-    ensures { λ r. ⌜ AddsOn (headed up) (listsBy l c) (grains (c .target)) p to (now (parts .entry)) (now (parts .exit)) × Summed to (now (parts .exit)) ⌝ }
-{
-    let half = p.second / HALF_HOUR;
-    let mut b = half as usize;
-    let mut x = half * HALF_HOUR;
-    let mut at = p;
-    while at.second < to {
-        b += 1;
-        x += HALF_HOUR;
-        let n = level::smaller(x, to);
-        let s = trajectory::sum_to(l, c, up, at, n);
-        parts[b] = parts[b] + s.twice;
-        at = s.place;
+        v = w;
     }
 }
 
 // The straight piece of a course from p to q.
-fn add_piece(
-    parts: &mut [u64; 49],
-    l: stops::OwnLists,
-    c: course::Course,
-    up: bool,
-    p: trajectory::Place,
-    q: trajectory::Place,
-)
-    requires { ⌜ Goes (headed up) (listsBy l c) (grains (c .target)) (q .second) p q ⌝ }
+fn add_piece(parts: &mut [u64; 49], up: bool, p: trajectory::Place, q: trajectory::Place)
+    requires { ⌜ (p .second < q .second) × Straight (headed up) p q ⌝ }
     requires { ⌜ (q .second ≤ 86400) × (p .level < 274877906944) × (q .level < 274877906944) ⌝ }
-    requires { ⌜ Short (headed up) (grains (c .target)) (p .level) ⌝ }
     requires { ⌜ Summed (p .second) (now parts) ⌝ }
-    ensures { λ r. ⌜ AddsOn (headed up) (listsBy l c) (grains (c .target)) p (q .second) (now (parts .entry)) (now (parts .exit)) × Summed (q .second) (now (parts .exit)) ⌝ }
+    ensures { λ r. ⌜ AddsPiece (headed up) p q (now (parts .entry)) (now (parts .exit)) × Summed (q .second) (now (parts .exit)) ⌝ }
 {
-    if p.level == q.level {
-        add_flat(parts, p.level, p.second, q.second);
-        return;
-    }
     let half = p.second / HALF_HOUR + 1;
+    let time = (q.second - p.second) as u64;
     if half * HALF_HOUR < q.second {
-        add_slope(parts, l, c, up, p, q.second);
+        let way = stops::gap_between(p.level, q.level);
+        add_line(parts, up, p.level, way / time, p.second, q.second);
         return;
     }
     let b = half as usize;
-    let time = q.second - p.second;
-    parts[b] = parts[b] + (time as u64) * (p.level + q.level);
+    parts[b] = parts[b] + time * (p.level + q.level);
 }
 
 // ---- along a course
@@ -98,22 +60,18 @@ fn add_piece(
 fn lay_piece(
     out: &mut [u8],
     parts: &mut [u64; 49],
-    l: stops::OwnLists,
-    c: course::Course,
     up: bool,
     p: trajectory::Place,
     q: trajectory::Place,
 ) -> usize
-    requires { ⌜ Goes (headed up) (listsBy l c) (grains (c .target)) (q .second) p q ⌝ }
+    requires { ⌜ (p .second < q .second) × Straight (headed up) p q ⌝ }
     requires { ⌜ (q .second ≤ 86400) × (p .level < 274877906944) × (q .level < 274877906944) ⌝ }
-    requires { ⌜ Short (headed up) (grains (c .target)) (p .level) ⌝ }
     requires { ⌜ Summed (p .second) (now parts) × (length (pieceLine p q) ≤ length (now out)) ⌝ }
     ensures { λ r. ⌜ (r ≡ length (pieceLine p q)) × (now (out .exit) ≡ laid (pieceLine p q) (now (out .entry)))
-        × AddsOn (headed up) (listsBy l c) (grains (c .target)) p (q .second) (now (parts .entry)) (now (parts .exit))
-        × Summed (q .second) (now (parts .exit)) ⌝ }
+        × AddsPiece (headed up) p q (now (parts .entry)) (now (parts .exit)) × Summed (q .second) (now (parts .exit)) ⌝ }
 {
     let n = daylines::put_piece(out, p, q);
-    add_piece(parts, l, c, up, p, q);
+    add_piece(parts, up, p, q);
     n
 }
 
@@ -159,7 +117,7 @@ pub fn pass_to(
                 count,
             };
         }
-        let w = lay_piece(&mut out[count..], parts, l, c, up, p, q);
+        let w = lay_piece(&mut out[count..], parts, up, p, q);
         count += w;
         off = later;
         p = q;
@@ -177,22 +135,18 @@ pub fn pass_to(
 pub fn end_course(
     out: &mut [u8],
     parts: &mut [u64; 49],
-    l: stops::OwnLists,
-    c: course::Course,
     up: bool,
     p: trajectory::Place,
     q: trajectory::Place,
 ) -> usize
-    requires { ⌜ (p .second < q .second → Goes (headed up) (listsBy l c) (grains (c .target)) (q .second) p q) × (p .second ≤ q .second) ⌝ }
+    requires { ⌜ (p .second < q .second → Straight (headed up) p q) × (p .second ≤ q .second) ⌝ }
     requires { ⌜ (q .second ≤ 86400) × (p .level < 274877906944) × (q .level < 274877906944) ⌝ }
-    requires { ⌜ Short (headed up) (grains (c .target)) (p .level) ⌝ }
     requires { ⌜ Summed (p .second) (now parts) × (length (lastLine p q) ≤ length (now out)) ⌝ }
     ensures { λ r. ⌜ (r ≡ length (lastLine p q)) × (now (out .exit) ≡ laid (lastLine p q) (now (out .entry)))
-        × AddsOn (headed up) (listsBy l c) (grains (c .target)) p (q .second) (now (parts .entry)) (now (parts .exit))
-        × Summed (q .second) (now (parts .exit)) ⌝ }
+        × AddsPiece (headed up) p q (now (parts .entry)) (now (parts .exit)) × Summed (q .second) (now (parts .exit)) ⌝ }
 {
     if q.second <= p.second {
         return 0;
     }
-    lay_piece(out, parts, l, c, up, p, q)
+    lay_piece(out, parts, up, p, q)
 }

@@ -21,7 +21,7 @@ pub fn grains_of(kw: u32) -> u64
 }
 
 // The place of a heat's column.
-fn place_of(heat: u32) -> usize
+pub fn place_of(heat: u32) -> usize
     ensures { λ r. ⌜ (r ≡ placeOf heat) × (r < 3) ⌝ }
 {
     match heat {
@@ -406,7 +406,7 @@ pub fn next_stop(l: OwnLists, c: course::Course, up: bool, v: u64) -> u64
 // ---- segments
 
 // The unsigned difference of two levels.
-fn gap_between(v: u64, w: u64) -> u64
+pub fn gap_between(v: u64, w: u64) -> u64
     ensures { λ r. ⌜ r ≡ gap v w ⌝ }
 {
     if v < w {

@@ -22,7 +22,7 @@ pub struct Place {
 }
 
 // The level v moved by m in the heading's direction.
-fn moved(up: bool, v: u64, m: u64) -> u64
+pub fn moved(up: bool, v: u64, m: u64) -> u64
     requires { ⌜ Reaches (headed up) v m ⌝ }
     ensures { λ r. ⌜ r ≡ toward (headed up) v m ⌝ }
 {

@@ -2,6 +2,9 @@ use Prim.Native.Nat.{_+_, _≤_}
 use mathlib.Core.Path.{_≡_, refl}
 use native.Mathlib.Omega.{arith}
 use lib.ListN.{length}
+use Rattle.level.specs.Level.{grains}
+use Rattle.stops.specs.Ways.{headed, listsBy}
+use Rattle.passing.proofs.Areas.{goes-straight, piece-on}
 use Rattle.text.proofs.Laws.{part-length}
 use Rattle.passing.specs.Passing.{lastLine, Passing}
 use Rattle.following.proofs.Steps.{last-goes}
@@ -49,8 +52,11 @@ end-course-requires c κs =
     let g = a .before .before .before .before .before .before .before .before .args .g in
     let p = passing a in
     let r = a .pass-to .result in (
-      (last-goes (g .lists) (g .now .course) (g .up) 86400 (r .place) (r .ahead) (p .short) (p .there) (p .runs), omega (arith, p .within, p .there)),
-      ((omega (arith, p .there), p .low, p .ahead-low), (p .short, (p .sums, omega (arith, part-length (r .count) (a .pass-to .last .0), fits a)))),
+      (
+        λ lt. goes-straight (headed (g .up)) (listsBy (g .lists) (g .now .course)) (grains (g .now .course .target)) (r .ahead .second) (r .place) (r .ahead) (last-goes (g .lists) (g .now .course) (g .up) 86400 (r .place) (r .ahead) (p .short) (p .there) (p .runs) lt),
+        omega (arith, p .within, p .there),
+      ),
+      ((omega (arith, p .there), p .low, p .ahead-low), (p .sums, omega (arith, part-length (r .count) (a .pass-to .last .0), fits a))),
     )
 
 -- src/lib.rt:334:16
@@ -70,8 +76,13 @@ returns c =
     let a = e .before .before .before .before .before .before .before in
     let s = a .before .before .before .before .before .before .before .before in
     let x = e .end-course .ensures in
+    let g = s .args .g in
+    let p = passing a in
+    let r = a .pass-to .result in
+    let on = piece-on (headed (g .up)) (listsBy (g .lists) (g .now .course)) (grains (g .now .course .target)) (r .ahead .second) (r .place) (r .ahead) (a .pass-to .last .1 .0) (e .end-course .last .1 .0)
+    (last-goes (g .lists) (g .now .course) (g .up) 86400 (r .place) (r .ahead) (p .short) (p .there) (p .runs)) (omega (arith, p .within, p .there)) (x .2) in
     ended (s .args .g) (s .args .out .now) (a .pass-to .last .0) (s .args .parts .now) (a .pass-to .last .1 .0) (a .pass-to .result) (passing a) (s .pre .1)
-    (e .end-course .last .0) (e .end-course .last .1 .0) (e .end-course .result) (x .0) (x .1) (x .2) (x .3) _ refl refl refl refl refl
+    (e .end-course .last .0) (e .end-course .last .1 .0) (e .end-course .result) (x .0) (x .1) on (x .3) _ refl refl refl refl refl
 
 pub end-day-spec : {M : Type 1} → statement M
 end-day-spec =

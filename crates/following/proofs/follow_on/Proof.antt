@@ -17,6 +17,9 @@ use Rattle.profile.specs.Effects.{idle, begun}
 use Rattle.stops.specs.declared.OwnLists.{OwnLists}
 use Rattle.daylines.specs.Rest.{coursesLines}
 use Rattle.following.specs.declared.OnCourse.{OnCourse}
+use Rattle.level.specs.Level.{grains}
+use Rattle.stops.specs.Ways.{headed, listsBy}
+use Rattle.passing.proofs.Areas.{goes-straight, piece-on}
 use Rattle.text.proofs.Laws.{part-length}
 use Rattle.passing.specs.Passing.{Roomy, Passing}
 use Rattle.following.specs.Following.{setOut, coursesFrom, FollowedBy}
@@ -33,7 +36,7 @@ use Rattle.effects.proofs.stays_idle.Reads as stays-idle-reads
 use Rattle.following.proofs.begin_next.Reads as begin-next-reads
 use Rattle.passing.proofs.end_course.Reads as end-course-reads
 use Rattle.passing.proofs.pass_to.Reads as pass-to-reads
-use Rattle.following.proofs.place_of.Reads as place-of-reads
+use Rattle.stops.proofs.place_of.Reads as place-of-reads
 use Rattle.following.proofs.ramp_of.Reads as ramp-of-reads
 use Rattle.following.proofs.set_out.Reads as set-out-reads
 use Rattle.trajectory.proofs.begin_at.Reads as begin-at-reads
@@ -276,16 +279,16 @@ end-course-requires c κs =
     let there = p .there in
     let n = l .count + r .count in
     let out = take (l .count) (l .out) ++ (a .pass-to .last .0 ++ drop (length (l .out) - l .count) (drop (l .count) (l .out))) in (
-      (last-goes (l .l) (g .now .course) (g .up) (acting (act k)) (r .place) (r .ahead) (p .short) there (p .runs), omega (arith, p .within, there)),
+      (
+        λ lt. goes-straight (headed (g .up)) (listsBy (l .l) (g .now .course)) (grains (g .now .course .target)) (r .ahead .second) (r .place) (r .ahead) (last-goes (l .l) (g .now .course) (g .up) (acting (act k)) (r .place) (r .ahead) (p .short) there (p .runs) lt),
+        omega (arith, p .within, there),
+      ),
       (
         (omega (arith, there, ordered-end (acting (act k)) (left k) (here k .ordered .1)), p .low, p .ahead-low),
         (
-          p .short,
-          (
-            p .sums,
-            last-room (s .args .t3) (k .before .before .before .set-out .result .now) (take (s .args .n) (s .args .t5)) (s .args .out .now) (s .args .parts .now) (act k) (left k) _ _ _ (l .fates) _ (l .i)
-                (enough (k .before .before .before)) (past a) (new-one (c .before .before)) (r .ahead) there (p .runs) (take (length out - n) (drop n out)) (part-length n out),
-          ),
+          p .sums,
+          last-room (s .args .t3) (k .before .before .before .set-out .result .now) (take (s .args .n) (s .args .t5)) (s .args .out .now) (s .args .parts .now) (act k) (left k) _ _ _ (l .fates) _ (l .i)
+              (enough (k .before .before .before)) (past a) (new-one (c .before .before)) (r .ahead) there (p .runs) (take (length out - n) (drop n out)) (part-length n out),
         ),
       ),
     )
@@ -310,8 +313,10 @@ later c g out-is =
     let p = passing a in
     let r = a .pass-to .result in
     let e = c .end-course .ensures in
+    let on = piece-on (headed (l .g .up)) (listsBy (l .l) (l .g .now .course)) (grains (l .g .now .course .target)) (r .ahead .second) (r .place) (r .ahead) (a .pass-to .last .1 .0) (c .end-course .last .1 .0)
+    (last-goes (l .l) (l .g .now .course) (l .g .up) (acting (act k)) (r .place) (r .ahead) (p .short) (p .there) (p .runs)) (omega (arith, p .within, p .there)) (e .2) in
     sofar-new (s .args .t3) (k .before .before .before .set-out .result .now) (take (s .args .n) (s .args .t5)) (s .args .out .now) (s .args .parts .now) (act k) (left k) _ _ _ (l .fates) _ (l .i)
-    (enough (k .before .before .before)) (past a) (new-one (c .before .before .before)) (r .ahead) (p .there) (p .runs) (omega (arith, going k, s .pre .0 .0)) _ _ _ g out-is (e .0) (e .1) (e .2) (e .3)
+    (enough (k .before .before .before)) (past a) (new-one (c .before .before .before)) (r .ahead) (p .there) (p .runs) (omega (arith, going k, s .pre .0 .0)) _ _ _ g out-is (e .0) (e .1) on (e .3)
 
 -- src/lib.rt:289:13
 add-count-2 : tie.Need-add-count-2 Inv-loop μ-loop

@@ -8,7 +8,8 @@ use Rattle.stops.specs.Ways.{headed, listsBy}
 use Rattle.trajectory.proofs.Goes.{Goes}
 use Rattle.text.proofs.Laws.{part-length}
 use Rattle.daylines.specs.Rest.{pieceLine}
-use Rattle.passing.proofs.Pass.{goes-there, Sofar, sofar-none, sofar-length, sofar-end, sofar-goes, sofar-low, sofar-cut, sofar-room, sofar-more}
+use Rattle.passing.proofs.Areas.{goes-straight, piece-on}
+use Rattle.passing.proofs.Pass.{Sofar, sofar-none, sofar-length, sofar-end, sofar-goes, sofar-low, sofar-cut, sofar-room, sofar-more}
 use Rattle.passing.proofs.pass_to.Statement.{statement}
 use Rattle.passing.proofs.pass_to.Tie as tie
 use Rattle.passing.proofs.pass_to.Reads as reads
@@ -94,10 +95,10 @@ lay-piece-requires c κs = let w = c .before .before .before .before .before in
     let a = s .args in
     let l = w .before .before .before .loop in
     let g = gone w in (
-      goes-there (headed (a .up)) (listsBy (a .l) (a .c)) (grains (a .c .target)) (a .n) (l .p) (w .walk-on .result) g,
+      (g .later, goes-straight (headed (a .up)) (listsBy (a .l) (a .c)) (grains (a .c .target)) (a .n) (l .p) (w .walk-on .result) g),
       (
         (omega (arith, g .within, s .pre .0 .1), l .inv .low, low w),
-        (l .inv .short, (l .inv .sums, omega (arith, part-length (l .count) (l .out), room w (omega (arith, c .before .before .if2 .left))))),
+        (l .inv .sums, omega (arith, part-length (l .count) (l .out), room w (omega (arith, c .before .before .if2 .left)))),
       ),
     )
 
@@ -115,9 +116,12 @@ loop-again : tie.Need-loop-again Inv-loop μ-loop
 loop-again c = let w = c .before .before .before .before .before .before .before .before in
     let s = w .before .before .before .before .before in
     let l = w .before .before .before .loop in
+    let a = s .args in
     let r = c .before .before .lay-piece in
+    let q = w .walk-on .result in
+    let on = piece-on (headed (a .up)) (listsBy (a .l) (a .c)) (grains (a .c .target)) (a .n) (l .p) q (l .parts) (r .last .1 .0) (λ lt. gone w) (omega (arith, gone w .later)) (r .ensures .2) in
     sofar-more _ _ _ _ _ _ _ _ (s .pre .1 .1 .1) _ _ _ _ _ (l .inv) _ (target w) (w .before .if1 .taken) (w .walk-on .ensures) _ (c .before .before .before .before .before .before .before .off-between .ensures)
-    (omega (arith, c .before .before .before .before .before .if2 .left)) (r .last .0) (r .last .1 .0) (r .result) (r .ensures .0) (r .ensures .1) (r .ensures .2) (r .ensures .3)
+    (omega (arith, c .before .before .before .before .before .if2 .left)) (r .last .0) (r .last .1 .0) (r .result) (r .ensures .0) (r .ensures .1) on (r .ensures .3)
 
 -- src/lib.rt:147:1
 same-length-2 : tie.Need-same-length-2 Inv-loop μ-loop
