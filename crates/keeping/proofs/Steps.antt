@@ -9,7 +9,7 @@ use native.Mathlib.Decide.{decLe}
 use native.Mathlib.Omega.{arith}
 use lib.Dec.{leb}
 use lib.ListN.{length, take, drop, getD, set, replicate, length-append, List·getD-eq-default}
-use lib.Seq.{take-suc, take-suc-set, set-out, getD-take}
+use lib.Seq.{take-suc, take-suc-set, set-out, getD-take, length-take-le}
 use borrow.Author.Tests.{le-leb, lt-leb, eq-eqb, ne-eqb}
 use Rattle.level.specs.Choice.{pick}
 use Rattle.level.specs.Lists.{some, filled}
@@ -18,31 +18,44 @@ use Rattle.records.specs.Codes.{codeNumber}
 use Rattle.validation.specs.declared.Numbered.{Numbered}
 use Rattle.validation.specs.Kept.{effectiveOf, effectOf, numbered, Mark, mark, repeats, syncWithinHour, fromSync, beforeSync, Checked, failed, checkOne, check, acting, overtaken, lateFate, actors, lateMarks}
 use Rattle.keeping.specs.declared.Checking.{Checking}
-use Rattle.choosing.specs.Working.{noNumbered, supersededAt}
-use Rattle.keeping.specs.Working.{stackOf, between, syncPlace, withinHour, setFate, marked, withFate, voided, keeping, noChecking, noneChecked, Tracks, Follows, settleFate, settled, earliestActing, lateAt, fatesTo}
+use Rattle.choosing.specs.Working.{noNumbered, supersededAt, issueOf}
+use Rattle.keeping.specs.Working.{stackOf, between, syncPlace, withinHour, setFate, marked, withFate, voided, keeping, noChecking, noneChecked, Tracks, Follows, settleFate, settled, earliestActing, lateAt, fatesTo, Entered}
 use Rattle.choosing.proofs.Laws.{left-cons, filled-push}
 use Rattle.keeping.proofs.Stack.{stack-push, hour-none, hour-some, before-sync, from-sync}
 
--- ---- numbers
-pub number-next : (is : List Instruction) (n k i : ℕ) (d : Instruction) → i < n → n ≤ length is →
-    numbered k (drop i (take n is)) ≡ record { number = k; instruction = getD is i d } ∷ numbered (k + 1) (drop (i + 1) (take n is))
+-- ---- the instructions as entered
+number-last : (k : ℕ) (is : List Instruction) (x : Instruction) → numbered k (is ++ (x ∷ [])) ≡ numbered k is ++ (record { number = k + length is; instruction = x } ∷ [])
 unfolding numbered
-number-next is n k i d h f = rw (left-cons is n i d h f, add-one k)
+number-last k [] x = let e : k ≡ k + 0 = omega arith in λ j. record { number = e j; instruction = x } ∷ []
+number-last k (y ∷ ys) x =
+    let e : suc k + length ys ≡ k + suc (length ys) = omega arith in
+    ap (λ (l : List Numbered). record { number = k; instruction = y } ∷ l) (number-last (suc k) ys x ∙ (λ j. numbered (suc k) ys ++ (record { number = e j; instruction = x } ∷ [])))
 
-pub number-none : {is : List Instruction} (k : ℕ) → is ≡ [] → numbered k is ≡ []
-unfolding numbered
-number-none k e = rw e
-
--- ---- times
 map-last : (f : Numbered → ℕ) (xs : List Numbered) (x : Numbered) → map f (xs ++ (x ∷ [])) ≡ map f xs ++ (f x ∷ [])
 map-last f [] x = refl
 map-last f (y ∷ ys) x = ap (λ (l : List ℕ). f y ∷ l) (map-last f ys x)
 
--- one more of the times
-pub map-more : (f : Numbered → ℕ) (os : List Numbered) (ts : List ℕ) (i : ℕ) → i < length os → i < length ts → take i ts ≡ map f (take i os) →
-    take (i + 1) (set ts i (f (getD os i noNumbered))) ≡ map f (take (i + 1) os)
-map-more f os ts i h k e =
-    rw (add-one, take-suc-set ts i (f (getD os i noNumbered)) k, take-suc os i noNumbered h, e) (sym (map-last f (take i os) (getD os i noNumbered)))
+pub entered-none : (is : List Instruction) (os : List Numbered) (times issues : List ℕ) → Entered is os times issues 0
+unfolding numbered
+entered-none is os times issues = record { listed = refl; timed = record { effective = refl; issued = refl } }
+
+-- one more of them
+module _ (is : List Instruction) (os : List Numbered) (times issues : List ℕ) (i : ℕ) (o : Numbered) (in-is : i < length is) (in-os : i < length os) where
+  stored : take (i + 1) (set os i o) ≡ take i os ++ (o ∷ [])
+  stored = rw (add-one, take-suc-set os i o in-os)
+
+  times-more : (f : Numbered → ℕ) (ts : List ℕ) → i < length ts → take i ts ≡ map f (take i os) → take (i + 1) (set ts i (f o)) ≡ map f (take (i + 1) (set os i o))
+  times-more f ts h e = rw (stored, map-last f (take i os) o, add-one, take-suc-set ts i (f o) h, e)
+
+  pub entered-more : i < length times → i < length issues → o ≡ record { number = i + 1; instruction = getD is i (noNumbered .instruction) } → Entered is os times issues i →
+      Entered is (set os i o) (set times i (effectiveOf o)) (set issues i (issueOf o)) (i + 1)
+  entered-more in-times in-issues e r = record {
+    listed = rw (stored, add-one, take-suc is i (noNumbered .instruction) in-is, number-last 1 (take i is) (getD is i (noNumbered .instruction)), r .listed, e, length-take-le i is (omega arith)) same;
+    timed = record { effective = times-more effectiveOf times in-times (r .timed .effective); issued = times-more issueOf issues in-issues (r .timed .issued) };
+  }
+    where
+      same : numbered 1 (take i is) ++ (record { number = i + 1; instruction = getD is i (noNumbered .instruction) } ∷ []) ≡ numbered 1 (take i is) ++ (record { number = 1 + i; instruction = getD is i (noNumbered .instruction) } ∷ [])
+      same = let k : i + 1 ≡ 1 + i = omega arith in λ j. numbered 1 (take i is) ++ (record { number = k j; instruction = getD is i (noNumbered .instruction) } ∷ [])
 
 -- ---- fates in an array
 module _ (fates : List ℕ) (number fate : ℕ) where

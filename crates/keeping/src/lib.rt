@@ -1,14 +1,13 @@
 // Which instructions are kept, steps 1 to 4: over up to forty instructions with their numbers. Steps 1 and 2 are in `choosing`.
 ghost use mathlib.Core.Path.{_≡_};
 ghost use Prim.Native.Nat.{ℕ, _-_, _<_, _≤_, min};
-ghost use mathlib.Core.List.{map};
 ghost use lib.ListN.{length, take};
 ghost use Rattle.level.specs.Lists.{filled};
 ghost use Rattle.level.specs.Choice.{pick};
-ghost use Rattle.validation.specs.Kept.{effectiveOf, numbered, used, Checked, failed, check, acting, actors, lateMarks};
-ghost use Rattle.choosing.specs.Working.{holding, issueOf, Timed};
+ghost use Rattle.validation.specs.Kept.{Checked, failed, check, acting, actors, lateMarks};
+ghost use Rattle.choosing.specs.Working.{holding};
 ghost use Rattle.keeping.specs.Outcome.{validationOf};
-ghost use Rattle.keeping.specs.Working.{topCode, repeatsCode, syncPlace, setFate, settled, lateAt, LateFates, voided, withFate, withinHour, noChecking, noneChecked, Tracks, Follows, fatesTo};
+ghost use Rattle.keeping.specs.Working.{topCode, repeatsCode, syncPlace, setFate, settled, lateAt, LateFates, voided, withFate, withinHour, noChecking, noneChecked, Tracks, Follows, fatesTo, Entered};
 
 // What steps 1 to 4 come to: the fates by number, those that act in time order, and how many these are.
 pub struct Validation {
@@ -181,16 +180,17 @@ fn fail_one(s: Checking, o: validation::Numbered) -> Checking
     }
 }
 
-// Step 3 over the first n of those used: each against the code of the last kept one.
-fn check_all(os: [validation::Numbered; 40], n: usize) -> Checking
-    requires { ⌜ n ≤ 40 ⌝ }
-    ensures { λ r. ⌜ (r .height ≤ 40) × Tracks r (check noneChecked (take n os)) ⌝ }
+// Step 3 over those used: each against the code of the last kept one.
+fn check_all(used: choosing::Sequence) -> Checking
+    requires { ⌜ used .count ≤ 40 ⌝ }
+    ensures { λ r. ⌜ (r .height ≤ 40) × Tracks r (check noneChecked (take (used .count) (used .items))) ⌝ }
 {
+    let n = used.count;
     let mut s = no_checking();
     let mut last: u8 = 0;
     let mut i: usize = 0;
     while i < n {
-        let o = os[i];
+        let o = used.items[i];
         i += 1;
         let code = choosing::code_of(o);
         if code == FAIL {
@@ -210,22 +210,6 @@ fn check_all(os: [validation::Numbered; 40], n: usize) -> Checking
         last = code;
     }
     s
-}
-
-// Steps 1 to 3 over the first n.
-fn checked_in(
-    os: [validation::Numbered; 40],
-    times: &[u32; 40],
-    issues: &[u32; 40],
-    n: usize,
-    end: u32,
-) -> Checking
-    requires { ⌜ (n ≤ 40) × Timed (take n os) (take n (now times)) (take n (now issues)) ⌝ }
-    ensures { λ r. ⌜ (r .height ≤ 40) × Tracks r (check noneChecked (used end (take n os))) ⌝ }
-{
-    let s = choosing::used_in(os, times, issues, n, end);
-    let items = s.items;
-    check_all(items, s.count)
 }
 
 // ---- step 4: by acting time
@@ -380,54 +364,29 @@ fn fates_of(times: &[u32; 40], issues: &[u32; 40], n: usize, later: [u8; 40]) ->
     out
 }
 
-// The instructions with their numbers, from 1 as entered.
-fn number_all(instructions: [records::Instruction; 40], n: usize) -> choosing::Sequence
-    requires { ⌜ n ≤ 40 ⌝ }
-    ensures { λ r. ⌜ r ≡ holding (numbered 1 (take n instructions)) ⌝ }
+// The first n instructions with their numbers, from 1 as entered; their effective times and issue times.
+fn number_all(
+    instructions: [records::Instruction; 40],
+    n: usize,
+    times: &mut [u32; 40],
+    issues: &mut [u32; 40],
+) -> [validation::Numbered; 40]
+    requires { ⌜ (n ≤ 40) × (n ≤ length (now times)) × (n ≤ length (now issues)) ⌝ }
+    ensures { λ r. ⌜ Entered instructions r (now (times .exit)) (now (issues .exit)) n ⌝ }
 {
-    let mut out = choosing::empty();
+    let none = choosing::no_one();
+    let mut out = [none; 40];
     let mut i: usize = 0;
     while i < n {
         let instruction = instructions[i];
+        times[i] = instruction.effective;
+        issues[i] = instruction.issue;
         let number = i as u32 + 1;
         let o = validation::Numbered {
             number,
             instruction,
         };
-        out.items[i] = o;
-        i += 1;
-        out.count = i;
-    }
-    out
-}
-
-// The effective times of the first n.
-fn times_of(os: [validation::Numbered; 40], n: usize) -> [u32; 40]
-    requires { ⌜ n ≤ 40 ⌝ }
-    ensures { λ r. ⌜ take n r ≡ map effectiveOf (take n os) ⌝ }
-{
-    let mut out = [0u32; 40];
-    let mut i: usize = 0;
-    while i < n {
-        let o = os[i];
-        let instruction = o.instruction;
-        out[i] = instruction.effective;
-        i += 1;
-    }
-    out
-}
-
-// The issue times of the first n.
-fn issues_of(os: [validation::Numbered; 40], n: usize) -> [u32; 40]
-    requires { ⌜ n ≤ 40 ⌝ }
-    ensures { λ r. ⌜ take n r ≡ map issueOf (take n os) ⌝ }
-{
-    let mut out = [0u32; 40];
-    let mut i: usize = 0;
-    while i < n {
-        let o = os[i];
-        let instruction = o.instruction;
-        out[i] = instruction.issue;
+        out[i] = o;
         i += 1;
     }
     out
@@ -448,11 +407,11 @@ pub fn validate(instructions: [records::Instruction; 40], count: usize, end: u32
     ensures { λ r. ⌜ r ≡ validationOf instructions count end ⌝ }
 {
     let n = at_most_forty(count);
-    let numbered = number_all(instructions, n);
-    let os = numbered.items;
-    let times = times_of(os, n);
-    let issues = issues_of(os, n);
-    let s = checked_in(os, &times, &issues, n, end);
+    let mut times = [0u32; 40];
+    let mut issues = [0u32; 40];
+    let os = number_all(instructions, n, &mut times, &mut issues);
+    let used = choosing::used_in(os, &times, &issues, n, end);
+    let s = check_all(used);
     let kept = s.kept;
     let height = s.height;
     let late = late_fates(kept, height, end);
