@@ -19,12 +19,11 @@ use Rattle.records.specs.Codes.{same}
 use Rattle.validation.specs.declared.Numbered.{Numbered}
 use Rattle.validation.specs.Kept.{effectiveOf, effectOf, numbered, Mark, mark, superseded, repeats, syncWithinHour, fromSync, beforeSync, Checked, failed, checkOne, check, usedFrom, used, acting, overtaken, lateFate, actors, lateMarks, turned, keptOf, validated, fateAmong, fatesOf}
 use Rattle.validation.proofs.Few.{numbered-length}
-use Rattle.keeping.specs.declared.Checking.{Checking}
 use Rattle.choosing.specs.declared.Sequence.{Sequence}
 use Rattle.keeping.specs.declared.Validation.{Validation}
 use Rattle.choosing.specs.Working.{noNumbered, holding, Timed, supersededAt}
 use Rattle.keeping.specs.Outcome.{outcomeOf, validationOf}
-use Rattle.keeping.specs.Working.{setFate, marked, noneChecked, Tracks, settleFate, settled, fatesTo, Entered}
+use Rattle.keeping.specs.Working.{Checking, setFate, marked, noneChecked, Tracks, settleFate, settled, fatesTo, Entered}
 use Rattle.choosing.proofs.Laws.{held, superseded-at}
 use Rattle.keeping.proofs.Stack.{stack-turned}
 use Rattle.keeping.proofs.Steps.{set-zero, set-some, settle-zero, settle-done, settle-some}

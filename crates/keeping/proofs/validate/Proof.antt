@@ -1,12 +1,12 @@
 use mathlib.Core.Path.{_≡_, ap, _∙_}
 use mathlib.Core.List.{List}
-use Prim.Native.Nat.{ℕ}
+use Prim.Native.Nat.{ℕ, _≤_}
 use native.Mathlib.Omega.{arith}
 use lib.ListN.{length, take}
 use Rattle.level.specs.Lists.{filled}
-use Rattle.validation.specs.Kept.{effectiveOf}
+use Rattle.validation.specs.Kept.{effectiveOf, actors}
 use Rattle.choosing.specs.Working.{issueOf}
-use Rattle.keeping.specs.Working.{fatesTo}
+use Rattle.keeping.specs.Working.{checking, fatesTo, actingWith}
 use Rattle.choosing.proofs.Laws.{map-length, time-fits}
 use Rattle.keeping.proofs.Whole.{result, validation-is}
 use borrow.Author.Needs.{needs}
@@ -33,32 +33,35 @@ settle-late-requires c κs = search needs
 
 fates-of-requires : tie.Need-fates-of-requires
 fates-of-requires c κs =
-    let n = c .before .before .before .before .before .before .before .before .before .before .before .before .before .at-most-forty .result in
-    let q = c .before .before .before .before .before .before .before .before .before .before .number-all in
+    let n = c .before .before .before .before .before .before .before .before .before .before .before .before .before .before .before .before .at-most-forty in
+    let q = c .before .before .before .before .before .before .before .before .before .before .before .before .before .number-all in
     let t = q .ensures .timed in
-    let g = q .ok .1 .0 .1 in
-    (omega arith, time-fits effectiveOf (q .result) (q .last .1 .1 .0) n (t .effective) (omega arith), time-fits issueOf (q .result) (q .last .1 .1 .1 .0) n (t .issued) (omega arith))
+    let g : n .result ≤ length (q .result) = omega (arith, n .ensures, q .ok .1 .0 .1) in
+    (omega (arith, n .ensures), time-fits effectiveOf (q .result) (q .last .1 .1 .0) (n .result) (t .effective) g, time-fits issueOf (q .result) (q .last .1 .1 .1 .0) (n .result) (t .issued) g)
 
 acts-of-requires : tie.Need-acts-of-requires
 acts-of-requires c κs = search needs
 
 returns : tie.Need-returns
 returns c =
-    let a = c .before .before .before .before .before .before .before .before .before .before .before .before .before .before .before .before .before in
+    let a = c .before .before .before .before .before .before .before .before .before .before .before .before .before .before .before .before .before .before .before in
     let end = a .args .end in
-    let n = c .before .before .before .before .before .before .before .before .before .before .before .before .before .before .before .before .at-most-forty in
-    let q = c .before .before .before .before .before .before .before .before .before .before .before .before .before .number-all in
+    let n = c .before .before .before .before .before .before .before .before .before .before .before .before .before .before .before .before .before .before .at-most-forty in
+    let q = c .before .before .before .before .before .before .before .before .before .before .before .before .before .before .before .number-all in
     let times = q .last .1 .1 .0 in
     let issues = q .last .1 .1 .1 .0 in
-    let u = c .before .before .before .before .before .before .before .before .before .before .used-in in
-    let s = c .before .before .before .before .before .before .before .before .before .check-all in
-    let late = c .before .before .before .before .before .before .before .late-fates .ensures in
-    let g : length (s .result .kept) ≡ 40 = simp map-length at (s .ok .1 .1 .0 .1 .0 .1) in
-    let f = c .before .before .fates-of .ensures ∙ ap (λ (l : List ℕ). filled 40 0 (fatesTo (take (n .result) times) (take (n .result) issues) l (n .result))) (c .before .before .before .before .before .settle-late .ensures end late) in
-    let t = c .before .acts-of .ensures end late in
-    let e : record { fates = c .before .before .fates-of .result; acts = c .before .acts-of .result .items; acting = c .before .acts-of .result .count } ≡ result end (take (n .result) times) (take (n .result) issues) (s .result) (n .result) =
-    λ j. record { fates = f j; acts = t j .items; acting = t j .count } in
-    e ∙ validation-is (a .args .instructions) (a .args .count) end (n .result) (a .good .0 .1 .0 .1) (n .ensures) (q .result) times issues (q .ensures) (u .result) (u .ensures .0) (u .ensures .1) (s .result) (s .ensures .1) (omega (arith, s .ensures .0))
+    let u = c .before .before .before .before .before .before .before .before .before .before .before .before .used-in in
+    let k = c .before .before .before .before .before .before .before .before .check-all in
+    let kept = k .result in
+    let step = k .ensures in
+    let g : length (kept .items) ≡ 40 = simp map-length at (k .ok .1 .1 .0 .1 .0 .1) in
+    let fits : kept .count ≤ length (kept .items) = omega (arith, step .few) in
+    let late = c .before .before .before .before .before .before .late-fates .ensures (kept .items) fits (step .timed) in
+    let later = c .before .before .before .before .settle-late .ensures end (kept .items) fits (step .named) late in
+    let f = c .before .fates-of .ensures ∙ ap (λ (l : List ℕ). filled 40 0 (fatesTo (take (n .result) times) (take (n .result) issues) l (n .result))) later in
+    c .acts-of .ensures end late
+    ∙ (ap (λ (l : List ℕ). actingWith l (actors end (take (kept .count) (kept .items)))) f
+    ∙ validation-is (a .args .instructions) (a .args .count) end (n .result) (a .good .0 .1 .0 .1) (n .ensures) (q .result) times issues (q .ensures) (u .result) (u .ensures .0) (u .ensures .1) (checking (kept .items) (kept .count) (k .last .1 .0)) (step .tracks) fits)
 
 pub validate-spec : {M : Type 1} → statement M
 validate-spec =
