@@ -288,8 +288,12 @@ fn acts_of(kept: choosing::Sequence, late: [u8; 40], fates: [u8; 40]) -> Validat
 {
     let n = kept.count;
     let none = choosing::no_one();
-    let mut acts = [none; 40];
-    let mut acting: usize = 0;
+    let acts = [none; 40];
+    let mut out = Validation {
+        fates,
+        acts,
+        acting: 0,
+    };
     let mut i: usize = 0;
     while i < n {
         let at = i;
@@ -298,14 +302,11 @@ fn acts_of(kept: choosing::Sequence, late: [u8; 40], fates: [u8; 40]) -> Validat
             continue;
         }
         let o = kept.items[at];
-        acts[acting] = o;
-        acting += 1;
+        let k = out.acting;
+        out.acts[k] = o;
+        out.acting = k + 1;
     }
-    Validation {
-        fates,
-        acts,
-        acting,
-    }
+    out
 }
 
 // ---- the four steps together
