@@ -11,7 +11,7 @@ use Rattle.level.specs.Choice.{pick}
 use Rattle.records.specs.declared.Effect.the-variants.{Trip}
 use Rattle.records.specs.Codes.{codeNumber}
 use Rattle.validation.specs.declared.Numbered.{Numbered}
-use Rattle.validation.specs.Kept.{effectiveOf, effectOf, firstOne}
+use Rattle.validation.specs.Kept.{effectiveOf, effectOf, highest, firstOne}
 use Rattle.choosing.specs.declared.Sequence.{Sequence}
 use Rattle.choosing.specs.declared.Found.{Found}
 use Rattle.choosing.specs.declared.Found.the-variants.{One, Nothing}
@@ -38,6 +38,12 @@ foundList Nothing = []
 unfoldable pub joined : Sequence → Found → Sequence
 joined s (One o) = pushed s o
 joined s Nothing = s
+
+-- the highest ranked of these, where it is known of those before them
+unfoldable pub bestFrom : List Numbered → List Numbered → List Numbered
+bestFrom [] [] = []
+bestFrom [] (x ∷ xs) = highest x xs ∷ []
+bestFrom (b ∷ bs) xs = highest b xs ∷ []
 
 -- the earliest entered of the code with this number, where it is present
 unfoldable pub earliest : ℕ → List Numbered → List Numbered

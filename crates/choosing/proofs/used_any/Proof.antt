@@ -5,7 +5,7 @@ use lib.ListN.{take}
 use Rattle.validation.specs.declared.Numbered.{Numbered}
 use Rattle.validation.specs.Kept.{effectiveOf, used, usedFrom, usedOf, group, nextTime}
 use Rattle.choosing.specs.Working.{foundList}
-use Rattle.choosing.proofs.Laws.{Begun, begun-none, begun-found, begun-all, joined-count, held, next-is, time-fits, used-stop, used-more, used-zero, used-begins}
+use Rattle.choosing.proofs.Laws.{Begun, begun-none, begun-found, begun-all, joined-count, next-is, time-fits, used-stop, used-more, used-zero, used-begins}
 use native.Mathlib.Omega.{arith}
 use borrow.Author.Needs.{needs}
 use Rattle.choosing.proofs.used_any.Statement.{statement}
@@ -38,11 +38,8 @@ returns c =
     let t = c .before .next-time .ensures ∙ next-is (s .pre .1) (a .end) (l .t) in
     (begun-all (rw (used-stop (a .end) (take (a .n) (a .os)) (a .n - l .i) (l .t) (omega (arith, t))) at (l .inv .2)), omega arith)
 
-group-at-requires : tie.Need-group-at-requires Inv-loop μ-loop
-group-at-requires c κs = search needs
-
-used-of-requires : tie.Need-used-of-requires Inv-loop μ-loop
-used-of-requires c κs = search needs
+used-at-requires : tie.Need-used-at-requires Inv-loop μ-loop
+used-at-requires c κs = search needs
 
 push-found-requires : tie.Need-push-found-requires Inv-loop μ-loop
 push-found-requires c κs = search needs
@@ -58,14 +55,14 @@ loop-less c = omega arith
 
 loop-again : tie.Need-loop-again Inv-loop μ-loop
 loop-again c =
-    let z = c .before .before .before .before .before .before .before .before .before in
+    let z = c .before .before .before .before .before .before .before in
     let s = z .args in
-    let l = c .before .before .before .before .before .before .before .loop in
+    let l = c .before .before .before .before .before .loop in
     let os = take (s .n) (s .os) in
-    let next = c .before .before .before .before .before .next-time .result in
-    let t : next ≡ nextTime (s .end) os (l .t) = c .before .before .before .before .before .next-time .ensures ∙ next-is (z .pre .1) (s .end) (l .t) in
-    let u = c .before .used-of .result in
-    let g : foundList u ≡ usedOf (group os next) = c .before .used-of .ensures ∙ ap usedOf (held (c .before .before .before .group-at .ensures .0) (c .before .before .before .group-at .ensures .1)) in
+    let next = c .before .before .before .next-time .result in
+    let t : next ≡ nextTime (s .end) os (l .t) = c .before .before .before .next-time .ensures ∙ next-is (z .pre .1) (s .end) (l .t) in
+    let u = c .before .used-at .result in
+    let g : foundList u ≡ usedOf (group os next) = c .before .used-at .ensures in
     let m : s .n - (l .i + 1) ≡ s .n - l .i - 1 = omega arith in
     let q : usedFrom (s .end) os (s .n - l .i) (l .t) ≡ foundList u ++ usedFrom (s .end) os (s .n - (l .i + 1)) (next + 1) =
     used-more (s .end) os (s .n - l .i) (l .t) (omega arith) (omega arith)
@@ -93,8 +90,7 @@ used-any-spec =
     loop-holds
     next-time-requires
     returns
-    group-at-requires
-    used-of-requires
+    used-at-requires
     push-found-requires
     add-t
     add-i

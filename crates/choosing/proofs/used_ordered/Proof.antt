@@ -7,7 +7,7 @@ use Rattle.validation.specs.Kept.{effectiveOf, usedOf, group}
 use Rattle.choosing.specs.Working.{noNumbered, pushed, foundList, joined}
 use Rattle.choosing.specs.declared.Found.the-variants.{One, Nothing}
 use Rattle.validation.specs.declared.Numbered.{Numbered}
-use Rattle.choosing.proofs.Laws.{begun-all, held, time-at}
+use Rattle.choosing.proofs.Laws.{begun-all, time-at}
 use Rattle.choosing.proofs.Order.{Reached, reached-none, reached-late, reached-all, reached-more, reached-alone}
 use native.Mathlib.Omega.{arith}
 use borrow.Author.Needs.{needs}
@@ -85,11 +85,8 @@ loop-again c =
     let e = ap (λ (o : Numbered). o ∷ []) (sym (getD-take (s .args .n) (s .args .t1) (l .i) noNumbered (omega arith))) ∙ reached-alone (s .args .end) os (s .args .times .now) (s .args .n) (long s) (at s) (s .pre .2) (l .i) (l .out) (l .inv .2) (omega arith) one in
     (run .ends, omega (arith, run .starts), reached-more (s .args .end) os (s .args .times .now) (s .args .n) (long s) (at s) (s .pre .2) (l .i) (l .out) (l .inv .2) (c .before .before .run-end .result) (One (getD (s .args .t1) (l .i) noNumbered)) (omega arith) (omega arith) (omega arith) run e)
 
-group-at-requires : tie.Need-group-at-requires Inv-loop μ-loop
-group-at-requires c κs = search needs
-
-used-of-requires : tie.Need-used-of-requires Inv-loop μ-loop
-used-of-requires c κs = search needs
+used-at-requires : tie.Need-used-at-requires Inv-loop μ-loop
+used-at-requires c κs = search needs
 
 enum-known-u : tie.Need-enum-known-u Inv-loop μ-loop
 enum-known-u c = search needs
@@ -104,19 +101,18 @@ add-out-2 : tie.Need-add-out-2 Inv-loop μ-loop
 add-out-2 c = omega arith
 
 loop-less-2 : tie.Need-loop-less-2 Inv-loop μ-loop
-loop-less-2 c = omega (arith, c .before .before .before .before .before .before .before .run-end .ensures .starts)
+loop-less-2 c = omega (arith, c .before .before .before .before .before .run-end .ensures .starts)
 
 loop-again-2 : tie.Need-loop-again-2 Inv-loop μ-loop
 unfolding pushed joined
 loop-again-2 c =
-    let s = c .before .before .before .before .before .before .before .before .before .before .before .before .before in
-    let l = c .before .before .before .before .before .before .before .before .before .before .before .loop in
+    let s = c .before .before .before .before .before .before .before .before .before .before .before in
+    let l = c .before .before .before .before .before .before .before .before .before .loop in
     let os = take (s .args .n) (s .args .t1) in
-    let run = c .before .before .before .before .before .before .before .run-end .ensures in
-    let g = c .before .before .before .before .before .group-at .ensures in
-    let u = c .before .before .before .used-of .result in
-    let e : foundList u ≡ usedOf (group os (getD (s .args .times .now) (l .i) 0)) = c .before .before .before .used-of .ensures ∙ ap usedOf (held (g .0) (g .1)) in
-    let r = reached-more (s .args .end) os (s .args .times .now) (s .args .n) (long s) (at s) (s .pre .2) (l .i) (l .out) (l .inv .2) (c .before .before .before .before .before .before .before .run-end .result) u (omega arith) (omega arith) (omega arith) run e in
+    let run = c .before .before .before .before .before .run-end .ensures in
+    let u = c .before .before .before .used-at .result in
+    let e : foundList u ≡ usedOf (group os (getD (s .args .times .now) (l .i) 0)) = c .before .before .before .used-at .ensures in
+    let r = reached-more (s .args .end) os (s .args .times .now) (s .args .n) (long s) (at s) (s .pre .2) (l .i) (l .out) (l .inv .2) (c .before .before .before .before .before .run-end .result) u (omega arith) (omega arith) (omega arith) run e in
     (run .ends, omega (arith, run .starts), rw (c .before .u .given .1) at r)
 
 enum-told : tie.Need-enum-told Inv-loop μ-loop
@@ -128,14 +124,13 @@ loop-less-3 c = omega arith
 loop-again-3 : tie.Need-loop-again-3 Inv-loop μ-loop
 unfolding pushed joined
 loop-again-3 c =
-    let s = c .before .before .before .before .before .before .before .before .before .before .before .before in
-    let l = c .before .before .before .before .before .before .before .before .before .before .loop in
+    let s = c .before .before .before .before .before .before .before .before .before .before in
+    let l = c .before .before .before .before .before .before .before .before .loop in
     let os = take (s .args .n) (s .args .t1) in
-    let run = c .before .before .before .before .before .before .run-end .ensures in
-    let g = c .before .before .before .before .group-at .ensures in
-    let u = c .before .before .used-of .result in
-    let e : foundList u ≡ usedOf (group os (getD (s .args .times .now) (l .i) 0)) = c .before .before .used-of .ensures ∙ ap usedOf (held (g .0) (g .1)) in
-    let r = reached-more (s .args .end) os (s .args .times .now) (s .args .n) (long s) (at s) (s .pre .2) (l .i) (l .out) (l .inv .2) (c .before .before .before .before .before .before .run-end .result) u (omega arith) (omega arith) (omega arith) run e in
+    let run = c .before .before .before .before .run-end .ensures in
+    let u = c .before .before .used-at .result in
+    let e : foundList u ≡ usedOf (group os (getD (s .args .times .now) (l .i) 0)) = c .before .before .used-at .ensures in
+    let r = reached-more (s .args .end) os (s .args .times .now) (s .args .n) (long s) (at s) (s .pre .2) (l .i) (l .out) (l .inv .2) (c .before .before .before .before .run-end .result) u (omega arith) (omega arith) (omega arith) run e in
     (run .ends, omega (arith, run .starts), rw (c .enum-told .given .1) at r)
 
 returns-2 : tie.Need-returns-2 Inv-loop μ-loop
@@ -165,8 +160,7 @@ used-ordered-spec =
     add-out
     loop-less
     loop-again
-    group-at-requires
-    used-of-requires
+    used-at-requires
     enum-known-u
     mul-o-3
     element-set-from-o-2

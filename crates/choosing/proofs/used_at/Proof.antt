@@ -1,30 +1,26 @@
 use Prim.Native.Nat.{ℕ, _≤_, _<_, _-_}
-use mathlib.Core.Path.{_≡_, refl, sym, _∙_}
+use mathlib.Core.Path.{_≡_, refl, sym, ap, _∙_}
 use mathlib.Core.Bool.{true, false}
 use lib.ListN.{length, take, drop, getD}
 use Rattle.level.specs.Lists.{those}
-use Rattle.validation.specs.Kept.{effectiveOf, superseded, group}
-use Rattle.choosing.specs.Working.{noNumbered, issueOf, supersededAt}
-use Rattle.choosing.proofs.Laws.{Begun, inGroup, left-none, those-none, those-skip, those-keep, begun-none, begun-store, begun-all, time-fits, time-at, superseded-is, group-other, group-gone, group-left}
+use Rattle.validation.specs.Kept.{effectiveOf, superseded, group, orElse}
+use Rattle.choosing.specs.Working.{noNumbered, foundList, issueOf, supersededAt}
+use Rattle.choosing.proofs.Laws.{Walked, inGroup, left-none, those-none, those-skip, those-keep, walked-none, walked-more, walked-best, walked-sync, walked-desy, time-fits, time-at, superseded-is, group-other, group-gone, group-left}
 use native.Mathlib.Omega.{arith}
 use borrow.Author.Needs.{needs}
-use Rattle.choosing.proofs.group_at.Statement.{statement}
-use Rattle.choosing.proofs.group_at.Tie as tie
+use Rattle.choosing.proofs.used_at.Statement.{statement}
+use Rattle.choosing.proofs.used_at.Tie as tie
 
 abbrev Inv-loop : tie.InvT-loop
-Inv-loop times issues n t os out₀ i₀ out i = (i ≤ n) × (out .count ≤ i) × Begun out (those (inGroup (take n os) t) (drop i (take n os))) (those (inGroup (take n os) t) (take n os))
+Inv-loop times issues n t os best₀ sync₀ desy₀ i₀ best sync desy i = (i ≤ n) × Walked best sync desy (those (inGroup (take n os) t) (drop i (take n os))) (those (inGroup (take n os) t) (take n os))
 
 abbrev μ-loop : tie.MeasureT-loop
-μ-loop times issues n t os out₀ i₀ out i = n - i
-
-empty-requires : tie.Need-empty-requires Inv-loop μ-loop
-empty-requires c κs = search needs
+μ-loop times issues n t os best₀ sync₀ desy₀ i₀ best sync desy i = n - i
 
 loop-holds : tie.Need-loop-holds Inv-loop μ-loop
 loop-holds c =
-    let s = c .before .args in
-    let whole = those (inGroup (take (s .n) (s .t1)) (s .t)) (take (s .n) (s .t1)) in
-    (omega arith, rw (c .empty .ensures) (omega arith), rw (c .empty .ensures) (begun-none whole))
+    let s = c .args in
+    (omega arith, walked-none (those (inGroup (take (s .n) (s .t1)) (s .t)) (take (s .n) (s .t1))))
 
 add-i : tie.Need-add-i Inv-loop μ-loop
 add-i c = omega arith
@@ -48,13 +44,13 @@ left-is s i h q =
 
 loop-again : tie.Need-loop-again Inv-loop μ-loop
 loop-again c =
-    let s = c .before .before .before .before .before in
+    let s = c .before .before .before .before in
     let l = c .before .before .before .loop in
     let os = s .args .t1 in
     let n = s .args .n in
     let at : getD (s .args .times .now) (l .i) 0 ≡ effectiveOf (getD os (l .i) noNumbered) = time-at effectiveOf os (s .args .times .now) n (l .i) (s .pre .1 .effective) (omega arith) in
     let e : inGroup (take n os) (s .args .t) (getD os (l .i) noNumbered) ≡ false = group-other (take n os) (s .args .t) (getD os (l .i) noNumbered) (λ q. c .if1 .taken (at ∙ q)) in
-    (omega arith, omega arith, rw (those-skip os n (inGroup (take n os) (s .args .t)) (l .i) noNumbered (omega arith) (omega (arith, s .good .0 .1 .0 .1)) e) at (l .inv .2))
+    (omega arith, rw (those-skip os n (inGroup (take n os) (s .args .t)) (l .i) noNumbered (omega arith) (omega (arith, s .good .0 .1 .0 .1)) e) at (l .inv .1))
 
 mul-issue : tie.Need-mul-issue Inv-loop μ-loop
 mul-issue c = omega arith
@@ -64,7 +60,7 @@ element-copy-out-issue c = omega arith
 
 is-superseded-requires : tie.Need-is-superseded-requires Inv-loop μ-loop
 is-superseded-requires c κs =
-    let s = c .before .before .before .before .before .before in
+    let s = c .before .before .before .before .before in
     let g : s .args .n ≤ length (s .args .t1) = omega (arith, s .good .0 .1 .0 .1) in
     (omega arith, time-fits effectiveOf (s .args .t1) (s .args .times .now) (s .args .n) (s .pre .1 .effective) g, time-fits issueOf (s .args .t1) (s .args .issues .now) (s .args .n) (s .pre .1 .issued) g)
 
@@ -73,13 +69,13 @@ loop-less-2 c = omega arith
 
 loop-again-2 : tie.Need-loop-again-2 Inv-loop μ-loop
 loop-again-2 c =
-    let s = c .before .before .before .before .before .before .before .before in
+    let s = c .before .before .before .before .before .before .before in
     let l = c .before .before .before .before .before .before .loop in
     let os = s .args .t1 in
     let n = s .args .n in
     let o = getD os (l .i) noNumbered in
     let u : superseded (take n os) o ≡ true = sym (left-is s (l .i) (omega arith) (c .before .before .before .if1 .left)) ∙ (sym (c .before .is-superseded .ensures) ∙ c .if2 .taken) in
-    (omega arith, omega arith, rw (those-skip os n (inGroup (take n os) (s .args .t)) (l .i) noNumbered (omega arith) (omega (arith, s .good .0 .1 .0 .1)) (group-gone (take n os) (s .args .t) o u)) at (l .inv .2))
+    (omega arith, rw (those-skip os n (inGroup (take n os) (s .args .t)) (l .i) noNumbered (omega arith) (omega (arith, s .good .0 .1 .0 .1)) (group-gone (take n os) (s .args .t) o u)) at (l .inv .1))
 
 mul-o : tie.Need-mul-o Inv-loop μ-loop
 mul-o c = omega arith
@@ -87,45 +83,55 @@ mul-o c = omega arith
 array-copy-out-o : tie.Need-array-copy-out-o Inv-loop μ-loop
 array-copy-out-o c = omega arith
 
-mul-o-2 : tie.Need-mul-o-2 Inv-loop μ-loop
-mul-o-2 c = omega arith
+better-requires : tie.Need-better-requires Inv-loop μ-loop
+better-requires c κs = search needs
 
-element-set-from-o : tie.Need-element-set-from-o Inv-loop μ-loop
-element-set-from-o c = omega arith
+of-code-requires : tie.Need-of-code-requires Inv-loop μ-loop
+of-code-requires c κs = search needs
 
-add-out : tie.Need-add-out Inv-loop μ-loop
-add-out c = omega arith
+or-else-requires : tie.Need-or-else-requires Inv-loop μ-loop
+or-else-requires c κs = search needs
+
+of-code-requires-2 : tie.Need-of-code-requires-2 Inv-loop μ-loop
+of-code-requires-2 c κs = search needs
+
+or-else-requires-2 : tie.Need-or-else-requires-2 Inv-loop μ-loop
+or-else-requires-2 c κs = search needs
 
 loop-less-3 : tie.Need-loop-less-3 Inv-loop μ-loop
 loop-less-3 c = omega arith
 
 loop-again-3 : tie.Need-loop-again-3 Inv-loop μ-loop
 loop-again-3 c =
-    let s = c .before .before .before .before .before .before .before .before .before in
-    let l = c .before .before .before .before .before .before .before .loop in
+    let s = c .before .before .before .before .before .before .before .before .before .before .before .before .before in
+    let l = c .before .before .before .before .before .before .before .before .before .before .before .before .loop in
     let os = s .args .t1 in
     let n = s .args .n in
     let o = getD os (l .i) noNumbered in
-    let q = c .before .before .before .before .if1 .left in
-    let u : superseded (take n os) o ≡ false = sym (left-is s (l .i) (omega arith) q) ∙ (sym (c .before .before .is-superseded .ensures) ∙ c .before .if2 .left) in
+    let q = c .before .before .before .before .before .before .before .before .before .if1 .left in
+    let u : superseded (take n os) o ≡ false = sym (left-is s (l .i) (omega arith) q) ∙ (sym (c .before .before .before .before .before .before .before .is-superseded .ensures) ∙ c .before .before .before .before .before .before .if2 .left) in
     let at : getD (s .args .times .now) (l .i) 0 ≡ effectiveOf o = time-at effectiveOf os (s .args .times .now) n (l .i) (s .pre .1 .effective) (omega arith) in
     let e = group-left (take n os) (s .args .t) o (sym at ∙ q) u in
-    (omega arith, omega arith, begun-store (l .out .count) o refl (omega arith) (rw (those-keep os n (inGroup (take n os) (s .args .t)) (l .i) noNumbered (omega arith) (omega (arith, s .good .0 .1 .0 .1)) e) at (l .inv .2)))
+    let w = rw (those-keep os n (inGroup (take n os) (s .args .t)) (l .i) noNumbered (omega arith) (omega (arith, s .good .0 .1 .0 .1)) e) at (l .inv .1) in
+    (omega arith, walked-more o (c .before .before .before .before .better .ensures) (c .before .before .or-else .ensures ∙ ap (orElse (foundList (l .sync))) (c .before .before .before .of-code .ensures)) (c .or-else2 .ensures ∙ ap (orElse (foundList (l .desy))) (c .before .of-code2 .ensures)) w)
+
+used-of-requires : tie.Need-used-of-requires Inv-loop μ-loop
+used-of-requires c κs = search needs
 
 returns : tie.Need-returns Inv-loop μ-loop
 unfolding group inGroup
 returns c =
     let s = c .before .before .before in
-    let l = c .before .loop in
-    (begun-all (rw (those-none (inGroup (take (s .args .n) (s .args .t1)) (s .args .t)) (left-none (s .args .t1) (s .args .n) (l .i) (omega arith))) at (l .inv .2)), omega arith)
+    let l = c .before .before .loop in
+    let w = rw (those-none (inGroup (take (s .args .n) (s .args .t1)) (s .args .t)) (left-none (s .args .t1) (s .args .n) (l .i) (omega arith))) at (l .inv .1) in
+    c .used-of .ensures (group (take (s .args .n) (s .args .t1)) (s .args .t)) (walked-best w) (walked-sync w) (walked-desy w)
 
-pub group-at-spec : {M : Type 1} → statement M
-group-at-spec =
+pub used-at-spec : {M : Type 1} → statement M
+used-at-spec =
     tie.close
     (tie.spec
     Inv-loop
     μ-loop
-    empty-requires
     loop-holds
     add-i
     mul-if1
@@ -139,9 +145,12 @@ group-at-spec =
     loop-again-2
     mul-o
     array-copy-out-o
-    mul-o-2
-    element-set-from-o
-    add-out
+    better-requires
+    of-code-requires
+    or-else-requires
+    of-code-requires-2
+    or-else-requires-2
     loop-less-3
     loop-again-3
+    used-of-requires
     returns)
