@@ -2,7 +2,7 @@
 -- Assumes nothing.
 use Prim.Native.Nat.{ℕ, zero, suc, _+_, _-_, _<_, _≤_, min}
 use mathlib.Core.Path.{_≡_}
-use mathlib.Core.List.{List, [], _∷_, _++_, map}
+use mathlib.Core.List.{List, [], _∷_, _++_}
 use mathlib.Core.Bool.{Bool, _&&_, _||_}
 use lib.Dec.{leb, eqb}
 use lib.ListN.{length, take, drop, set, getD, replicate}
@@ -12,7 +12,7 @@ use Rattle.records.specs.declared.Effect.the-variants.{Sync}
 use Rattle.records.specs.declared.Instruction.{Instruction}
 use Rattle.records.specs.Codes.{codeNumber, same}
 use Rattle.validation.specs.declared.Numbered.{Numbered}
-use Rattle.validation.specs.Kept.{effectiveOf, effectOf, numbered, Mark, mark, Checked, acting, lateFate}
+use Rattle.validation.specs.Kept.{effectiveOf, effectOf, numbered, Mark, Checked, acting, lateFate}
 use Rattle.choosing.specs.Working.{noNumbered, supersededAt, Timed}
 use Rattle.keeping.specs.declared.Validation.{Validation}
 

@@ -5,7 +5,7 @@ use lib.ListN.{length, take, getD}
 use lib.Seq.{length-take-le, getD-take}
 use Rattle.validation.specs.Kept.{effectiveOf, usedOf, group}
 use Rattle.choosing.specs.Working.{noNumbered, pushed, foundList, joined}
-use Rattle.choosing.specs.declared.Found.the-variants.{One, Nothing}
+use Rattle.choosing.specs.declared.Found.the-variants.{One}
 use Rattle.validation.specs.declared.Numbered.{Numbered}
 use Rattle.choosing.proofs.Laws.{begun-all, time-at}
 use Rattle.choosing.proofs.Order.{Reached, reached-none, reached-late, reached-all, reached-more, reached-alone}

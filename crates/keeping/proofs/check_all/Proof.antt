@@ -5,7 +5,7 @@ use lib.ListN.{length, take, getD, length-set}
 use lib.Seq.{getD-set-other}
 use Rattle.validation.specs.Kept.{check, checkOne}
 use Rattle.choosing.specs.Working.{noNumbered}
-use Rattle.keeping.specs.Working.{codeOf, Noted, checking, noneChecked, topCode, withFate, Stepped}
+use Rattle.keeping.specs.Working.{codeOf, Noted, checking, noneChecked, withFate, Stepped}
 use Rattle.choosing.proofs.Laws.{map-length}
 use Rattle.keeping.proofs.Stack.{repeats-told}
 use Rattle.keeping.proofs.Steps.{set-length, check-fail, check-repeat, check-keep, check-more, check-none, noted-push, stepped-on, stepped-keep}

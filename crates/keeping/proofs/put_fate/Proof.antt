@@ -1,5 +1,4 @@
 use Rattle.keeping.proofs.Steps.{set-zero, set-large, set-some}
-use native.Mathlib.Omega.{arith}
 use borrow.Author.Needs.{needs}
 use Rattle.keeping.proofs.put_fate.Statement.{statement}
 use Rattle.keeping.proofs.put_fate.Tie as tie

@@ -4,7 +4,6 @@ use mathlib.Core.List.{List}
 use lib.ListN.{length, take, drop, getD, length-set}
 use Rattle.validation.specs.declared.Numbered.{Numbered}
 use Rattle.validation.specs.Kept.{lateMarks}
-use Rattle.choosing.specs.Working.{noNumbered}
 use Rattle.keeping.specs.Working.{numberOf, Noted, settleFate, settled, LateFates}
 use Rattle.choosing.proofs.Laws.{left-none}
 use Rattle.keeping.proofs.Steps.{settle-zero, settle-large, settle-done, settle-some, settled-more, settled-none}

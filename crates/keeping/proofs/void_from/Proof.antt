@@ -1,11 +1,10 @@
-use mathlib.Core.Path.{_≡_, refl, sym, ap, _∙_}
+use mathlib.Core.Path.{_≡_, sym, ap, _∙_}
 use mathlib.Core.List.{List, map}
 use native.Mathlib.Omega.{arith}
 use Prim.Native.Nat.{ℕ, suc, _≤_, _-_, _+_}
 use lib.ListN.{length, getD}
 use Rattle.validation.specs.declared.Numbered.{Numbered}
 use Rattle.validation.specs.Kept.{mark}
-use Rattle.choosing.specs.Working.{noNumbered}
 use Rattle.keeping.specs.Working.{numberOf, Noted, setFate, marked, between}
 use Rattle.keeping.proofs.Steps.{set-length, voided-more, voided-none}
 use borrow.Author.Needs.{needs}
