@@ -160,36 +160,33 @@ fn check_all(
     ensures { λ r. ⌜ Stepped (r .items) (r .count) (now (fates .exit)) (now (numbers .exit)) (now (times .exit)) (check noneChecked (take (used .count) (used .items))) ⌝ }
 {
     let n = used.count;
-    let mut kept = used.items;
+    let mut items = used.items;
     let mut codes = [0u8; 40];
-    let mut height: usize = 0;
+    let mut count: usize = 0;
     let mut i: usize = 0;
     while i < n {
-        let o = kept[i];
+        let o = items[i];
         i += 1;
         let code = choosing::code_of(o);
         if code == FAIL {
-            let place = latest_sync(&codes, height);
+            let place = latest_sync(&codes, count);
             let at = place_before(place);
-            let sync = kept[at];
-            height = fail_one(numbers, height, place, sync, o, fates);
+            let sync = items[at];
+            count = fail_one(numbers, count, place, sync, o, fates);
             continue;
         }
-        let last = last_code(&codes, height);
+        let last = last_code(&codes, count);
         if is_repeat(code, last) {
             put_fate(fates, o.number, 3);
             continue;
         }
-        kept[height] = o;
-        codes[height] = code;
-        numbers[height] = o.number;
-        times[height] = acting_time(o);
-        height += 1;
+        items[count] = o;
+        codes[count] = code;
+        numbers[count] = o.number;
+        times[count] = acting_time(o);
+        count += 1;
     }
-    choosing::Sequence {
-        items: kept,
-        count: height,
-    }
+    choosing::Sequence { items, count }
 }
 
 // ---- step 4: by acting time
@@ -392,6 +389,7 @@ pub fn validate(instructions: [records::Instruction; 40], count: usize, end: u32
     let mut issues = [0u32; 40];
     let os = number_all(instructions, n, &mut times, &mut issues);
     let used = choosing::used_in(os, &times, &issues, n, end);
+    // fate 2, until a later step settles it
     let mut marks = [2u8; 40];
     let mut numbers = [0u32; 40];
     let mut acting = [0u64; 40];

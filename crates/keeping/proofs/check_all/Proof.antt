@@ -15,12 +15,12 @@ use Rattle.keeping.proofs.check_all.Statement.{statement}
 use Rattle.keeping.proofs.check_all.Tie as tie
 
 abbrev Inv-loop : tie.InvT-loop
-Inv-loop fates₀ numbers₀ times₀ n kept₀ codes₀ height₀ i₀ fates numbers times kept codes height i =
-    (i ≤ n) × (height ≤ i) × (length kept ≡ 40) × (length codes ≡ 40) × (length fates ≡ 40) × (length numbers ≡ 40) × (length times ≡ 40)
-    × ((j : ℕ) → i ≤ j → getD kept j noNumbered ≡ getD kept₀ j noNumbered) × Noted codeOf codes kept height × Stepped kept height fates numbers times (check noneChecked (take i kept₀))
+Inv-loop fates₀ numbers₀ times₀ n items₀ codes₀ count₀ i₀ fates numbers times items codes count i =
+    (i ≤ n) × (count ≤ i) × (length items ≡ 40) × (length codes ≡ 40) × (length fates ≡ 40) × (length numbers ≡ 40) × (length times ≡ 40)
+    × ((j : ℕ) → i ≤ j → getD items j noNumbered ≡ getD items₀ j noNumbered) × Noted codeOf codes items count × Stepped items count fates numbers times (check noneChecked (take i items₀))
 
 abbrev μ-loop : tie.MeasureT-loop
-μ-loop fates₀ numbers₀ times₀ n kept₀ codes₀ height₀ i₀ fates numbers times kept codes height i = n - i
+μ-loop fates₀ numbers₀ times₀ n items₀ codes₀ count₀ i₀ fates numbers times items codes count i = n - i
 
 -- forty places
 used-long : (s : tie.Start Inv-loop μ-loop) → length (s .args .used .items) ≡ 40
@@ -75,7 +75,7 @@ loop-less c = omega arith
 -- one more of those used is checked: o, which is still at its place
 next : (x : tie.In-loop Inv-loop μ-loop) →
     check noneChecked (take (x .before .loop .i + 1) (x .before .before .before .args .used .items))
-    ≡ checkOne (check noneChecked (take (x .before .loop .i) (x .before .before .before .args .used .items))) (getD (x .before .loop .kept) (x .before .loop .i) noNumbered)
+    ≡ checkOne (check noneChecked (take (x .before .loop .i) (x .before .before .before .args .used .items))) (getD (x .before .loop .items) (x .before .loop .i) noNumbered)
 next x =
     let s = x .before .before .before in
     let l = x .before .loop in
@@ -85,12 +85,12 @@ loop-again : tie.Need-loop-again Inv-loop μ-loop
 loop-again c =
     let x = c .before .before .before .before .before .before .before .before .before .before in
     let l = x .before .loop in
-    let o = getD (l .kept) (l .i) noNumbered in
+    let o = getD (l .items) (l .i) noNumbered in
     let code = c .before .before .before .before .before .before .before .before .code-of in
     let place = c .before .before .before .before .before .latest-sync in
-    let sync = ap (λ (k : ℕ). getD (l .kept) k noNumbered) (c .before .before .before .before .place-before .ensures) in
+    let sync = ap (λ (k : ℕ). getD (l .items) k noNumbered) (c .before .before .before .before .place-before .ensures) in
     let r = c .fail-one in
-    let f = check-fail (checking (l .kept) (l .height) (l .fates)) o (sym (code .ensures) ∙ c .before .before .before .before .before .before .before .if1 .taken) (r .ensures .2 (l .kept) (l .inv .9 .named) (place .ensures .1 (l .kept) (l .inv .8)) sync) in (
+    let f = check-fail (checking (l .items) (l .count) (l .fates)) o (sym (code .ensures) ∙ c .before .before .before .before .before .before .before .if1 .taken) (r .ensures .2 (l .items) (l .inv .9 .named) (place .ensures .1 (l .items) (l .inv .8)) sync) in (
       omega arith,
       omega (arith, r .ensures .0),
       l .inv .2,
@@ -120,13 +120,13 @@ unfolding withFate
 loop-again-2 c =
     let x = c .before .before .before .before .before .before .before .before .before in
     let l = x .before .loop in
-    let o = getD (l .kept) (l .i) noNumbered in
+    let o = getD (l .items) (l .i) noNumbered in
     let code = c .before .before .before .before .before .before .before .code-of in
     let last = c .before .before .before .before .last-code in
     let told = c .before .before .before .is-repeat in
     let e = c .put-fate .ensures in
-    let r = repeats-told o (l .kept) (l .height) (code .result) (last .result) (told .result) true (code .ensures) (last .ensures (l .kept) (l .inv .8)) (told .ensures) (c .before .before .if2 .taken) in
-    let f = check-repeat (checking (l .kept) (l .height) (l .fates)) o (λ q. c .before .before .before .before .before .before .if1 .left (code .ensures ∙ q)) r in (
+    let r = repeats-told o (l .items) (l .count) (code .result) (last .result) (told .result) true (code .ensures) (last .ensures (l .items) (l .inv .8)) (told .ensures) (c .before .before .if2 .taken) in
+    let f = check-repeat (checking (l .items) (l .count) (l .fates)) o (λ q. c .before .before .before .before .before .before .if1 .left (code .ensures ∙ q)) r in (
       omega arith,
       omega arith,
       l .inv .2,
@@ -136,14 +136,14 @@ loop-again-2 c =
       l .inv .6,
       λ j p. l .inv .7 j (omega arith),
       l .inv .8,
-      rw (next x, e) (stepped-on (l .inv .9) o (l .height) _ (omega arith) f),
+      rw (next x, e) (stepped-on (l .inv .9) o (l .count) _ (omega arith) f),
     )
 
-mul-kept : tie.Need-mul-kept Inv-loop μ-loop
-mul-kept c = omega arith
+mul-items : tie.Need-mul-items Inv-loop μ-loop
+mul-items c = omega arith
 
-array-set-from-kept : tie.Need-array-set-from-kept Inv-loop μ-loop
-array-set-from-kept c = omega arith
+array-set-from-items : tie.Need-array-set-from-items Inv-loop μ-loop
+array-set-from-items c = omega arith
 
 array-write-codes : tie.Need-array-write-codes Inv-loop μ-loop
 array-write-codes c = omega arith
@@ -163,8 +163,8 @@ mul-times c = omega arith
 element-write-times : tie.Need-element-write-times Inv-loop μ-loop
 element-write-times c = omega arith
 
-add-height : tie.Need-add-height Inv-loop μ-loop
-add-height c = omega arith
+add-count : tie.Need-add-count Inv-loop μ-loop
+add-count c = omega arith
 
 loop-less-3 : tie.Need-loop-less-3 Inv-loop μ-loop
 loop-less-3 c = omega arith
@@ -173,22 +173,22 @@ loop-again-3 : tie.Need-loop-again-3 Inv-loop μ-loop
 loop-again-3 c =
     let x = c .before .before .before .before .before .before .before .before in
     let l = x .before .loop in
-    let o = getD (l .kept) (l .i) noNumbered in
+    let o = getD (l .items) (l .i) noNumbered in
     let code = c .before .before .before .before .before .before .code-of in
     let last = c .before .before .before .last-code in
     let told = c .before .before .is-repeat in
     let time = c .acting-time in
-    let r = repeats-told o (l .kept) (l .height) (code .result) (last .result) (told .result) false (code .ensures) (last .ensures (l .kept) (l .inv .8)) (told .ensures) (c .before .if2 .left) in
-    let f = check-keep (checking (l .kept) (l .height) (l .fates)) o (omega arith) (λ q. c .before .before .before .before .before .if1 .left (code .ensures ∙ q)) r in (
+    let r = repeats-told o (l .items) (l .count) (code .result) (last .result) (told .result) false (code .ensures) (last .ensures (l .items) (l .inv .8)) (told .ensures) (c .before .if2 .left) in
+    let f = check-keep (checking (l .items) (l .count) (l .fates)) o (omega arith) (λ q. c .before .before .before .before .before .if1 .left (code .ensures ∙ q)) r in (
       omega arith,
       omega arith,
-      length-set (l .kept) (l .height) o ∙ l .inv .2,
-      length-set (l .codes) (l .height) _ ∙ l .inv .3,
+      length-set (l .items) (l .count) o ∙ l .inv .2,
+      length-set (l .codes) (l .count) _ ∙ l .inv .3,
       l .inv .4,
-      length-set (l .numbers) (l .height) _ ∙ l .inv .5,
-      length-set (l .times) (l .height) _ ∙ l .inv .6,
-      λ j p. getD-set-other (l .kept) (l .height) j o noNumbered (λ q. omega arith) ∙ l .inv .7 j (omega arith),
-      noted-push codeOf (l .codes) (l .kept) (l .height) (code .result) o (code .ensures) (omega arith) (omega arith) (l .inv .8),
+      length-set (l .numbers) (l .count) _ ∙ l .inv .5,
+      length-set (l .times) (l .count) _ ∙ l .inv .6,
+      λ j p. getD-set-other (l .items) (l .count) j o noNumbered (λ q. omega arith) ∙ l .inv .7 j (omega arith),
+      noted-push codeOf (l .codes) (l .items) (l .count) (code .result) o (code .ensures) (omega arith) (omega arith) (l .inv .8),
       rw (next x) (stepped-keep (l .inv .9) o (time .result) (time .ensures .0) (time .ensures .1) (omega arith) (l .inv .2) (l .inv .5) (l .inv .6) f),
     )
 
@@ -222,15 +222,15 @@ check-all-spec =
     put-fate-requires
     loop-less-2
     loop-again-2
-    mul-kept
-    array-set-from-kept
+    mul-items
+    array-set-from-items
     array-write-codes
     mul-numbers
     element-write-numbers
     acting-time-requires
     mul-times
     element-write-times
-    add-height
+    add-count
     loop-less-3
     loop-again-3
     returns)
