@@ -8,15 +8,17 @@ use native.Mathlib.Numerals.{add-one}
 use native.Mathlib.Omega.{arith}
 use lib.Dec.{leb, ltb, eqb}
 use lib.ListN.{length, take, drop, getD, set, replicate, length-take, length-append, length-replicate, replicate-append-replicate, drop-of-length-le}
-use lib.Seq.{drop-cons, getD-take, length-take-le, take-take, take-append-seam, take-append-le, take-set-lt, set-append-seam}
+use lib.Seq.{drop-cons, getD-take, length-take-le, take-all, take-take, take-append-seam, take-append-le, take-set-lt, set-append-seam}
 use borrow.Author.Tests.{lt-ltb, le-ltb, le-leb, lt-leb, eq-eqb, ne-eqb}
 use Rattle.level.specs.Choice.{pick}
 use Rattle.level.specs.Lists.{some, those, filled}
 use Rattle.records.specs.declared.Effect.the-variants.{Sync, Desy}
 use Rattle.records.specs.Codes.{codeNumber}
 use Rattle.validation.specs.declared.Numbered.{Numbered}
-use Rattle.validation.specs.Kept.{effectiveOf, effectOf, levelOf, superseded, group, goesBefore, highest, firstOne, orElse, present, carrying, merged, usedOf, nextTime, usedFrom, used}
-use Rattle.choosing.specs.Working.{noNumbered, holding, pushed, foundList, joined, bestFrom, earliest, issueOf, Timed, supersedesAt, supersededAt, earlierOf, nextAt}
+use Rattle.records.specs.declared.Instruction.{Instruction}
+use Rattle.validation.proofs.Few.{numbered-length}
+use Rattle.validation.specs.Kept.{numbered, effectiveOf, effectOf, levelOf, superseded, group, goesBefore, highest, firstOne, orElse, present, carrying, merged, usedOf, nextTime, usedFrom, used}
+use Rattle.choosing.specs.Working.{noNumbered, entered, holding, pushed, foundList, joined, bestFrom, earliest, issueOf, Timed, supersedesAt, supersededAt, earlierOf, nextAt}
 use Rattle.choosing.specs.declared.Sequence.{Sequence}
 use Rattle.choosing.specs.declared.Found.{Found}
 use Rattle.choosing.specs.declared.Found.the-variants.{One, Nothing}
@@ -359,8 +361,33 @@ pub used-zero : (end : ℕ) (os : List Numbered) (t : ℕ) → usedFrom end os 0
 unfolding usedFrom
 used-zero end os t = refl
 
-pub used-begins : (end : ℕ) (os : List Numbered) (n : ℕ) → n ≤ length os → usedFrom end (take n os) (n - 0) 0 ≡ used end (take n os)
+pub used-begins : (end : ℕ) (os : List Numbered) (n : ℕ) → length os ≡ n → usedFrom end os (n - 0) 0 ≡ used end os
 unfolding used
 used-begins end os n h =
-    let e : n - 0 ≡ length (take n os) = omega (arith, length-take-le n os h) in
-    ap (λ (k : ℕ). usedFrom end (take n os) k 0) e
+    let e : n - 0 ≡ length os = omega arith in
+    ap (λ (k : ℕ). usedFrom end os k 0) e
+
+-- ---- the instructions as entered
+number-from : (k : ℕ) (is : List Instruction) (i : ℕ) → i < length is → getD (numbered k is) i noNumbered ≡ record { number = k + i; instruction = getD is i (noNumbered .instruction) }
+unfolding numbered
+number-from k [] i h = absurd (omega arith)
+number-from k (x ∷ xs) zero h = let e : k ≡ k + 0 = omega arith in λ j. record { number = e j; instruction = x }
+number-from k (x ∷ xs) (suc i) h =
+    let e : suc k + i ≡ k + suc i = omega arith in
+    number-from (suc k) xs i (omega arith) ∙ (λ j. record { number = e j; instruction = getD xs i (noNumbered .instruction) })
+
+module _ (is : List Instruction) (n : ℕ) (fits : n ≤ length is) where
+  pub as-many : length (numbered 1 (take n is)) ≡ n
+  as-many = numbered-length 1 (take n is) ∙ length-take-le n is fits
+
+  pub all-numbered : take n (numbered 1 (take n is)) ≡ numbered 1 (take n is)
+  all-numbered = take-all n (numbered 1 (take n is)) (omega (arith, as-many))
+
+  pub number-here : (i : ℕ) → i < n → getD (numbered 1 (take n is)) i noNumbered ≡ entered i (getD is i (noNumbered .instruction))
+  number-here i h =
+      let e : 1 + i ≡ i + 1 = omega arith in
+      number-from 1 (take n is) i (omega (arith, length-take-le n is fits)) ∙ (λ j. record { number = e j; instruction = getD-take n is i (noNumbered .instruction) h j })
+
+  -- the times are theirs
+  pub timed-all : {ts js : List ℕ} → Timed (numbered 1 (take n is)) ts js → Timed (take n (numbered 1 (take n is))) ts js
+  timed-all t = rw all-numbered t

@@ -8,8 +8,8 @@ ghost use Rattle.level.specs.Choice.{pick};
 ghost use Rattle.records.specs.declared.Effect.the-variants.{Sync, Desy};
 ghost use Rattle.records.specs.Codes.{codeNumber};
 ghost use Rattle.validation.specs.declared.Numbered.{Numbered};
-ghost use Rattle.validation.specs.Kept.{effectOf, group, goesBefore, orElse, present, carrying, merged, usedOf, used};
-ghost use Rattle.choosing.specs.Working.{noNumbered, holding, pushed, foundList, joined, bestFrom, earliest, Timed, supersedesAt, supersededAt, earlierOf, nextAt, Rising, Run, Alone};
+ghost use Rattle.validation.specs.Kept.{numbered, effectOf, group, goesBefore, orElse, present, carrying, merged, usedOf, used};
+ghost use Rattle.choosing.specs.Working.{noNumbered, entered, holding, pushed, foundList, joined, bestFrom, earliest, Timed, supersedesAt, supersededAt, earlierOf, nextAt, Rising, Run, Alone};
 
 // Some of the instructions, in order: the first `count` places.
 pub struct Sequence {
@@ -38,6 +38,18 @@ pub fn code_of(o: validation::Numbered) -> u8
     let m = i.meaning;
     let e = m.effect;
     records::code_number(e)
+}
+
+// The instruction at a place, with its number: from 1 as entered.
+fn number_at(instruction: records::Instruction, at: usize) -> validation::Numbered
+    requires { ⌜ at < 40 ⌝ }
+    ensures { λ r. ⌜ r ≡ entered at instruction ⌝ }
+{
+    let number = at as u32 + 1;
+    validation::Numbered {
+        number,
+        instruction,
+    }
 }
 
 // ---- sequences
@@ -242,14 +254,14 @@ fn used_of(best: Found, sync: Found, desy: Found) -> Found
 
 // The one that is used of those left at the effective time t, of the first n with these times.
 fn used_at(
-    os: [validation::Numbered; 40],
+    instructions: [records::Instruction; 40],
     times: &[u32; 40],
     issues: &[u32; 40],
     n: usize,
     t: u32,
 ) -> Found
-    requires { ⌜ (n ≤ 40) × Timed (take n os) (take n (now times)) (take n (now issues)) ⌝ }
-    ensures { λ r. ⌜ foundList r ≡ usedOf (group (take n os) t) ⌝ }
+    requires { ⌜ (n ≤ 40) × Timed (numbered 1 (take n instructions)) (take n (now times)) (take n (now issues)) ⌝ }
+    ensures { λ r. ⌜ foundList r ≡ usedOf (group (numbered 1 (take n instructions)) t) ⌝ }
 {
     let mut best = Found::Nothing;
     let mut sync = Found::Nothing;
@@ -265,7 +277,8 @@ fn used_at(
         if is_superseded(times, issues, n, t, issue) {
             continue;
         }
-        let o = os[at];
+        let instruction = instructions[at];
+        let o = number_at(instruction, at);
         best = better(best, o);
         let s = of_code(o, SYNC);
         sync = or_else(sync, s);
@@ -358,14 +371,14 @@ pub fn stands_alone(times: &[u32; 40], n: usize, at: usize, ordered: bool) -> bo
 
 // Those used, where the times stand in order: those at one time stand side by side, and one alone is used as it is.
 fn used_ordered(
-    os: [validation::Numbered; 40],
+    instructions: [records::Instruction; 40],
     times: &[u32; 40],
     issues: &[u32; 40],
     n: usize,
     end: u32,
 ) -> Sequence
-    requires { ⌜ (n ≤ 40) × Timed (take n os) (take n (now times)) (take n (now issues)) × Rising (now times) n ⌝ }
-    ensures { λ r. ⌜ (r ≡ holding (used end (take n os))) × (r .count ≤ 40) ⌝ }
+    requires { ⌜ (n ≤ 40) × Timed (numbered 1 (take n instructions)) (take n (now times)) (take n (now issues)) × Rising (now times) n ⌝ }
+    ensures { λ r. ⌜ (r ≡ holding (used end (numbered 1 (take n instructions)))) × (r .count ≤ 40) ⌝ }
 {
     let mut out = empty();
     let mut i: usize = 0;
@@ -377,13 +390,14 @@ fn used_ordered(
         let from = i;
         i = run_end(times, n, t, from + 1);
         if i == from + 1 {
-            let o = os[from];
+            let instruction = instructions[from];
+            let o = number_at(instruction, from);
             let k = out.count;
             out.items[k] = o;
             out.count = k + 1;
             continue;
         }
-        let u = used_at(os, times, issues, n, t);
+        let u = used_at(instructions, times, issues, n, t);
         match u {
             Found::One(o) => {
                 let k = out.count;
@@ -398,14 +412,14 @@ fn used_ordered(
 
 // Those used, whatever the order of the times: those at the next time, one time after another.
 fn used_any(
-    os: [validation::Numbered; 40],
+    instructions: [records::Instruction; 40],
     times: &[u32; 40],
     issues: &[u32; 40],
     n: usize,
     end: u32,
 ) -> Sequence
-    requires { ⌜ (n ≤ 40) × Timed (take n os) (take n (now times)) (take n (now issues)) ⌝ }
-    ensures { λ r. ⌜ (r ≡ holding (used end (take n os))) × (r .count ≤ 40) ⌝ }
+    requires { ⌜ (n ≤ 40) × Timed (numbered 1 (take n instructions)) (take n (now times)) (take n (now issues)) ⌝ }
+    ensures { λ r. ⌜ (r ≡ holding (used end (numbered 1 (take n instructions)))) × (r .count ≤ 40) ⌝ }
 {
     let mut out = empty();
     let mut t: u32 = 0;
@@ -415,7 +429,7 @@ fn used_any(
         if end <= next {
             return out;
         }
-        let u = used_at(os, times, issues, n, next);
+        let u = used_at(instructions, times, issues, n, next);
         out = push_found(out, u);
         t = next + 1;
         i += 1;
@@ -425,17 +439,17 @@ fn used_any(
 
 // Those used, in the order of their effective times.
 pub fn used_in(
-    os: [validation::Numbered; 40],
+    instructions: [records::Instruction; 40],
     times: &[u32; 40],
     issues: &[u32; 40],
     n: usize,
     end: u32,
 ) -> Sequence
-    requires { ⌜ (n ≤ 40) × Timed (take n os) (take n (now times)) (take n (now issues)) ⌝ }
-    ensures { λ r. ⌜ (r ≡ holding (used end (take n os))) × (r .count ≤ 40) ⌝ }
+    requires { ⌜ (n ≤ 40) × Timed (numbered 1 (take n instructions)) (take n (now times)) (take n (now issues)) ⌝ }
+    ensures { λ r. ⌜ (r ≡ holding (used end (numbered 1 (take n instructions)))) × (r .count ≤ 40) ⌝ }
 {
     if in_order(times, n) {
-        return used_ordered(os, times, issues, n, end);
+        return used_ordered(instructions, times, issues, n, end);
     }
-    used_any(os, times, issues, n, end)
+    used_any(instructions, times, issues, n, end)
 }

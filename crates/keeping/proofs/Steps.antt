@@ -9,7 +9,7 @@ use native.Mathlib.Decide.{decLe, ℕ-discrete}
 use native.Mathlib.Omega.{arith}
 use lib.Dec.{leb, eqb}
 use lib.ListN.{length, take, drop, getD, set, replicate, length-set, length-append, List·getD-eq-default}
-use lib.Seq.{take-suc, take-suc-set, set-out, getD-take, length-take-le, getD-set-same, getD-set-other}
+use lib.Seq.{take-suc, take-suc-set, set-out, getD-take, getD-set-same, getD-set-other}
 use borrow.Author.Tests.{le-leb, lt-leb, eq-eqb, ne-eqb}
 use Rattle.level.specs.Choice.{pick}
 use Rattle.level.specs.Lists.{some, filled}
@@ -17,8 +17,8 @@ use Rattle.records.specs.declared.Instruction.{Instruction}
 use Rattle.records.specs.Codes.{codeNumber}
 use Rattle.validation.specs.declared.Numbered.{Numbered}
 use Rattle.validation.specs.Kept.{effectiveOf, effectOf, numbered, Mark, mark, repeats, syncWithinHour, fromSync, beforeSync, Checked, failed, checkOne, check, acting, overtaken, lateFate, actors, lateMarks}
-use Rattle.choosing.specs.Working.{noNumbered, supersededAt, issueOf}
-use Rattle.keeping.specs.Working.{Checking, checking, numberOf, Noted, Soon, Stepped, stackOf, between, syncPlace, withinHour, setFate, marked, withFate, keeping, noneChecked, Tracks, Follows, settleFate, settled, earliestActing, lateAt, fatesTo, Entered}
+use Rattle.choosing.specs.Working.{noNumbered, supersededAt, issueOf, Timed}
+use Rattle.keeping.specs.Working.{Checking, checking, numberOf, Noted, Soon, Stepped, stackOf, between, syncPlace, withinHour, setFate, marked, withFate, keeping, noneChecked, Tracks, Follows, settleFate, settled, earliestActing, lateAt, fatesTo}
 use Rattle.choosing.proofs.Laws.{left-cons, filled-push}
 use Rattle.keeping.proofs.Stack.{stack-push, hour-none, hour-some, before-sync, from-sync}
 
@@ -34,27 +34,25 @@ map-last : (f : Numbered → ℕ) (xs : List Numbered) (x : Numbered) → map f 
 map-last f [] x = refl
 map-last f (y ∷ ys) x = ap (λ (l : List ℕ). f y ∷ l) (map-last f ys x)
 
-pub entered-none : (is : List Instruction) (os : List Numbered) (times issues : List ℕ) → Entered is os times issues 0
+pub timed-none : (is : List Instruction) (times issues : List ℕ) → Timed (numbered 1 (take 0 is)) (take 0 times) (take 0 issues)
 unfolding numbered
-entered-none is os times issues = record { listed = refl; timed = record { effective = refl; issued = refl } }
+timed-none is times issues = record { effective = refl; issued = refl }
 
 -- one more of them
-module _ (is : List Instruction) (os : List Numbered) (times issues : List ℕ) (i : ℕ) (o : Numbered) (in-is : i < length is) (in-os : i < length os) where
-  stored : take (i + 1) (set os i o) ≡ take i os ++ (o ∷ [])
-  stored = rw (add-one, take-suc-set os i o in-os)
+module _ (is : List Instruction) (i : ℕ) (h : i < length is) where
+  one-more : numbered 1 (take (i + 1) is) ≡ numbered 1 (take i is) ++ (record { number = 1 + length (take i is); instruction = getD is i (noNumbered .instruction) } ∷ [])
+  one-more = rw (add-one, take-suc is i (noNumbered .instruction) h) (number-last 1 (take i is) (getD is i (noNumbered .instruction)))
 
-  times-more : (f : Numbered → ℕ) (ts : List ℕ) → i < length ts → take i ts ≡ map f (take i os) → take (i + 1) (set ts i (f o)) ≡ map f (take (i + 1) (set os i o))
-  times-more f ts h e = rw (stored, map-last f (take i os) o, add-one, take-suc-set ts i (f o) h, e)
+  time-more : (f : Numbered → ℕ) (ts : List ℕ) (v : ℕ) → i < length ts → v ≡ f (record { number = 1 + length (take i is); instruction = getD is i (noNumbered .instruction) }) → take i ts ≡ map f (numbered 1 (take i is)) →
+      take (i + 1) (set ts i v) ≡ map f (numbered 1 (take (i + 1) is))
+  time-more f ts v k e q = rw (one-more, map-last f (numbered 1 (take i is)), add-one, take-suc-set ts i v k, q, e)
 
-  pub entered-more : i < length times → i < length issues → o ≡ record { number = i + 1; instruction = getD is i (noNumbered .instruction) } → Entered is os times issues i →
-      Entered is (set os i o) (set times i (effectiveOf o)) (set issues i (issueOf o)) (i + 1)
-  entered-more in-times in-issues e r = record {
-    listed = rw (stored, add-one, take-suc is i (noNumbered .instruction) in-is, number-last 1 (take i is) (getD is i (noNumbered .instruction)), r .listed, e, length-take-le i is (omega arith)) same;
-    timed = record { effective = times-more effectiveOf times in-times (r .timed .effective); issued = times-more issueOf issues in-issues (r .timed .issued) };
+  pub timed-more : (times issues : List ℕ) → i < length times → i < length issues → Timed (numbered 1 (take i is)) (take i times) (take i issues) →
+      let x : Instruction = getD is i (noNumbered .instruction) in Timed (numbered 1 (take (i + 1) is)) (take (i + 1) (set times i (x .effective))) (take (i + 1) (set issues i (x .issue)))
+  timed-more times issues p q t = record {
+    effective = time-more effectiveOf times _ p refl (t .effective);
+    issued = time-more issueOf issues _ q refl (t .issued);
   }
-    where
-      same : numbered 1 (take i is) ++ (record { number = i + 1; instruction = getD is i (noNumbered .instruction) } ∷ []) ≡ numbered 1 (take i is) ++ (record { number = 1 + i; instruction = getD is i (noNumbered .instruction) } ∷ [])
-      same = let k : i + 1 ≡ 1 + i = omega arith in λ j. numbered 1 (take i is) ++ (record { number = k j; instruction = getD is i (noNumbered .instruction) } ∷ [])
 
 -- ---- fates in an array
 module _ (fates : List ℕ) (number fate : ℕ) where

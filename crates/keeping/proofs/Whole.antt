@@ -23,7 +23,7 @@ use Rattle.choosing.specs.declared.Sequence.{Sequence}
 use Rattle.keeping.specs.declared.Validation.{Validation}
 use Rattle.choosing.specs.Working.{noNumbered, holding, Timed, supersededAt}
 use Rattle.keeping.specs.Outcome.{outcomeOf, validationOf}
-use Rattle.keeping.specs.Working.{Checking, setFate, marked, noneChecked, Tracks, settleFate, settled, fatesTo, Entered}
+use Rattle.keeping.specs.Working.{Checking, setFate, marked, noneChecked, Tracks, settleFate, settled, fatesTo}
 use Rattle.choosing.proofs.Laws.{held, superseded-at}
 use Rattle.keeping.proofs.Stack.{stack-turned}
 use Rattle.keeping.proofs.Steps.{set-zero, set-some, settle-zero, settle-done, settle-some}
@@ -245,15 +245,14 @@ module _ (is : List Instruction) (count end n : ℕ) (all : length is ≡ 40) (m
         rw e (take-all 40 is (omega arith) ∙ sym (take-all count is (omega arith)))
   ]
 
-  pub validation-is : (os : List Numbered) (times issues : List ℕ) → Entered is os times issues n → (used-ones : Sequence) → used-ones ≡ holding (used end (take n os)) → used-ones .count ≤ 40 →
+  pub validation-is : (times issues : List ℕ) → Timed (numbered 1 (take n is)) times issues → (used-ones : Sequence) → used-ones ≡ holding (used end (numbered 1 (take n is))) → used-ones .count ≤ 40 →
       (s : Checking) → Tracks s (check noneChecked (take (used-ones .count) (used-ones .items))) → s .height ≤ length (s .kept) →
-      result end (take n times) (take n issues) s n ≡ validationOf is count end
+      result end times issues s n ≡ validationOf is count end
   unfolding validationOf
-  validation-is os times issues e u q c s t fits =
+  validation-is times issues timed u q c s t fits =
       let k : n ≡ length (take n is) = omega (arith, length-take n is) in
-      let tracks : Tracks s (check noneChecked (used end (take n os))) = rw (held q c) at t in
-      ap (result end (take n times) (take n issues) s) k
-      ∙ (outcome-is end (take n is) (omega arith) (take n times) (take n issues) (rw (e .listed) at (e .timed)) s (rw (e .listed) at tracks) fits ∙ ap (λ (l : List Instruction). outcomeOf (numbered 1 l) end) entered)
+      ap (result end times issues s) k
+      ∙ (outcome-is end (take n is) (omega arith) times issues timed s (rw (held q c) at t) fits ∙ ap (λ (l : List Instruction). outcomeOf (numbered 1 l) end) entered)
 
 -- none entered
 pub none-entered : (is : List Instruction) (count end : ℕ) → count ≡ 0 → record { fates = replicate 40 0; acts = replicate 40 noNumbered; acting = 0 } ≡ validationOf is count end

@@ -9,11 +9,10 @@ use lib.ListN.{length, take, drop, set, getD, replicate}
 use Rattle.level.specs.Choice.{pick}
 use Rattle.level.specs.Lists.{filled}
 use Rattle.records.specs.declared.Effect.the-variants.{Sync}
-use Rattle.records.specs.declared.Instruction.{Instruction}
 use Rattle.records.specs.Codes.{codeNumber, same}
 use Rattle.validation.specs.declared.Numbered.{Numbered}
-use Rattle.validation.specs.Kept.{effectiveOf, effectOf, numbered, Mark, Checked, acting, lateFate}
-use Rattle.choosing.specs.Working.{noNumbered, supersededAt, Timed}
+use Rattle.validation.specs.Kept.{effectiveOf, effectOf, Mark, Checked, acting, lateFate}
+use Rattle.choosing.specs.Working.{noNumbered, supersededAt}
 use Rattle.keeping.specs.declared.Validation.{Validation}
 
 -- ---- step 3: the kept ones stand in an array, the latest last; fates by number in another, 2 where none is settled
@@ -132,8 +131,3 @@ actingWith fates acts = record { fates = fates; acts = filled 40 noNumbered acts
 unfoldable pub fatesTo : List ℕ → List ℕ → List ℕ → ℕ → List ℕ
 fatesTo times issues later zero = []
 fatesTo times issues later (suc i) = fatesTo times issues later i ++ (pick (supersededAt times issues (getD times i 0) (getD issues i 0)) 1 (getD later i 0) ∷ [])
-
--- ---- the instructions as entered: the first i stand numbered in the one array, their times in the others
-pub record Entered (is : List Instruction) (os : List Numbered) (times issues : List ℕ) (i : ℕ) : Type 0 where
-  pub listed : take i os ≡ numbered 1 (take i is)
-  pub timed : Timed (take i os) (take i times) (take i issues)

@@ -6,10 +6,10 @@ ghost use lib.ListN.{length, take, getD, replicate};
 ghost use Rattle.level.specs.Lists.{filled};
 ghost use Rattle.level.specs.Choice.{pick};
 ghost use Rattle.validation.specs.declared.Numbered.{Numbered};
-ghost use Rattle.validation.specs.Kept.{mark, Checked, failed, check, acting, actors, lateMarks};
-ghost use Rattle.choosing.specs.Working.{noNumbered};
+ghost use Rattle.validation.specs.Kept.{numbered, mark, Checked, failed, check, acting, actors, lateMarks};
+ghost use Rattle.choosing.specs.Working.{noNumbered, Timed};
 ghost use Rattle.keeping.specs.Outcome.{validationOf};
-ghost use Rattle.keeping.specs.Working.{codeOf, numberOf, Noted, topCode, repeatsCode, between, syncPlace, withinHour, setFate, marked, checking, noneChecked, Follows, Soon, Stepped, lateAt, LateFates, settled, actingWith, fatesTo, Entered};
+ghost use Rattle.keeping.specs.Working.{codeOf, numberOf, Noted, topCode, repeatsCode, between, syncPlace, withinHour, setFate, marked, checking, noneChecked, Follows, Soon, Stepped, lateAt, LateFates, settled, actingWith, fatesTo};
 
 // What steps 1 to 4 come to: the fates by number, those that act in time order, and how many these are.
 pub struct Validation {
@@ -342,32 +342,23 @@ fn fates_of(times: &[u32; 40], issues: &[u32; 40], n: usize, later: [u8; 40]) ->
     out
 }
 
-// The first n instructions with their numbers, from 1 as entered; their effective times and issue times.
-fn number_all(
+// The effective times and the issue times of the first n instructions.
+fn time_all(
     instructions: [records::Instruction; 40],
     n: usize,
     times: &mut [u32; 40],
     issues: &mut [u32; 40],
-) -> [validation::Numbered; 40]
+)
     requires { ⌜ (n ≤ 40) × (n ≤ length (now times)) × (n ≤ length (now issues)) ⌝ }
-    ensures { λ r. ⌜ Entered instructions r (now (times .exit)) (now (issues .exit)) n ⌝ }
+    ensures { λ r. ⌜ (n ≤ length (now (times .exit))) × (n ≤ length (now (issues .exit))) × Timed (numbered 1 (take n instructions)) (take n (now (times .exit))) (take n (now (issues .exit))) ⌝ }
 {
-    let none = choosing::no_one();
-    let mut out = [none; 40];
     let mut i: usize = 0;
     while i < n {
         let instruction = instructions[i];
         times[i] = instruction.effective;
         issues[i] = instruction.issue;
-        let number = i as u32 + 1;
-        let o = validation::Numbered {
-            number,
-            instruction,
-        };
-        out[i] = o;
         i += 1;
     }
-    out
 }
 
 // A count above forty reads like forty.
@@ -387,8 +378,8 @@ pub fn validate(instructions: [records::Instruction; 40], count: usize, end: u32
     let n = at_most_forty(count);
     let mut times = [0u32; 40];
     let mut issues = [0u32; 40];
-    let os = number_all(instructions, n, &mut times, &mut issues);
-    let used = choosing::used_in(os, &times, &issues, n, end);
+    time_all(instructions, n, &mut times, &mut issues);
+    let used = choosing::used_in(instructions, &times, &issues, n, end);
     // fate 2, until a later step settles it
     let mut marks = [2u8; 40];
     let mut numbers = [0u32; 40];

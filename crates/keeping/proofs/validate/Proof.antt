@@ -4,11 +4,10 @@ use Prim.Native.Nat.{ℕ, _≤_}
 use native.Mathlib.Omega.{arith}
 use lib.ListN.{length, take}
 use Rattle.level.specs.Lists.{filled}
-use Rattle.validation.specs.Kept.{effectiveOf, actors}
-use Rattle.choosing.specs.Working.{issueOf}
+use Rattle.validation.specs.Kept.{actors}
 use Rattle.keeping.specs.Working.{checking, fatesTo, actingWith}
-use Rattle.choosing.proofs.Laws.{map-length, time-fits}
-use Rattle.keeping.proofs.Whole.{result, validation-is}
+use Rattle.choosing.proofs.Laws.{map-length}
+use Rattle.keeping.proofs.Whole.{validation-is}
 use borrow.Author.Needs.{needs}
 use Rattle.keeping.proofs.validate.Statement.{statement}
 use Rattle.keeping.proofs.validate.Tie as tie
@@ -16,8 +15,8 @@ use Rattle.keeping.proofs.validate.Tie as tie
 at-most-forty-requires : tie.Need-at-most-forty-requires
 at-most-forty-requires c κs = search needs
 
-number-all-requires : tie.Need-number-all-requires
-number-all-requires c κs = search needs
+time-all-requires : tie.Need-time-all-requires
+time-all-requires c κs = search needs
 
 used-in-requires : tie.Need-used-in-requires
 used-in-requires c κs = search needs
@@ -32,12 +31,7 @@ settle-late-requires : tie.Need-settle-late-requires
 settle-late-requires c κs = search needs
 
 fates-of-requires : tie.Need-fates-of-requires
-fates-of-requires c κs =
-    let n = c .before .before .before .before .before .before .before .before .before .before .before .before .before .before .before .before .at-most-forty in
-    let q = c .before .before .before .before .before .before .before .before .before .before .before .before .before .number-all in
-    let t = q .ensures .timed in
-    let g : n .result ≤ length (q .result) = omega (arith, n .ensures, q .ok .1 .0 .1) in
-    (omega (arith, n .ensures), time-fits effectiveOf (q .result) (q .last .1 .1 .0) (n .result) (t .effective) g, time-fits issueOf (q .result) (q .last .1 .1 .1 .0) (n .result) (t .issued) g)
+fates-of-requires c κs = search needs
 
 acts-of-requires : tie.Need-acts-of-requires
 acts-of-requires c κs = search needs
@@ -47,7 +41,7 @@ returns c =
     let a = c .before .before .before .before .before .before .before .before .before .before .before .before .before .before .before .before .before .before .before in
     let end = a .args .end in
     let n = c .before .before .before .before .before .before .before .before .before .before .before .before .before .before .before .before .before .before .at-most-forty in
-    let q = c .before .before .before .before .before .before .before .before .before .before .before .before .before .before .before .number-all in
+    let q = c .before .before .before .before .before .before .before .before .before .before .before .before .before .before .before .time-all in
     let times = q .last .1 .1 .0 in
     let issues = q .last .1 .1 .1 .0 in
     let u = c .before .before .before .before .before .before .before .before .before .before .before .before .used-in in
@@ -61,14 +55,14 @@ returns c =
     let f = c .before .fates-of .ensures ∙ ap (λ (l : List ℕ). filled 40 0 (fatesTo (take (n .result) times) (take (n .result) issues) l (n .result))) later in
     c .acts-of .ensures end late
     ∙ (ap (λ (l : List ℕ). actingWith l (actors end (take (kept .count) (kept .items)))) f
-    ∙ validation-is (a .args .instructions) (a .args .count) end (n .result) (a .good .0 .1 .0 .1) (n .ensures) (q .result) times issues (q .ensures) (u .result) (u .ensures .0) (u .ensures .1) (checking (kept .items) (kept .count) (k .last .1 .0)) (step .tracks) fits)
+    ∙ validation-is (a .args .instructions) (a .args .count) end (n .result) (a .good .0 .1 .0 .1) (n .ensures) (take (n .result) times) (take (n .result) issues) (q .ensures .2) (u .result) (u .ensures .0) (u .ensures .1) (checking (kept .items) (kept .count) (k .last .1 .0)) (step .tracks) fits)
 
 pub validate-spec : {M : Type 1} → statement M
 validate-spec =
     tie.close
     (tie.spec
     at-most-forty-requires
-    number-all-requires
+    time-all-requires
     used-in-requires
     check-all-requires
     late-fates-requires
