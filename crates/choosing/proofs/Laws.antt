@@ -8,15 +8,17 @@ use native.Mathlib.Numerals.{add-one}
 use native.Mathlib.Omega.{arith}
 use lib.Dec.{leb, ltb, eqb}
 use lib.ListN.{length, take, drop, getD, set, replicate, length-take, length-append, length-replicate, replicate-append-replicate, drop-of-length-le}
-use lib.Seq.{drop-cons, getD-take, length-take-le, take-take, take-append-seam, take-append-le, take-set-lt, set-append-seam}
+use lib.Seq.{drop-cons, getD-take, length-take-le, take-all, take-take, take-append-seam, take-append-le, take-set-lt, set-append-seam}
 use borrow.Author.Tests.{lt-ltb, le-ltb, le-leb, lt-leb, eq-eqb, ne-eqb}
 use Rattle.level.specs.Choice.{pick}
 use Rattle.level.specs.Lists.{some, those, filled}
 use Rattle.records.specs.declared.Effect.the-variants.{Sync, Desy}
 use Rattle.records.specs.Codes.{codeNumber}
 use Rattle.validation.specs.declared.Numbered.{Numbered}
-use Rattle.validation.specs.Kept.{effectiveOf, effectOf, levelOf, superseded, group, goesBefore, highest, orElse, present, carrying, merged, usedOf, nextTime, usedFrom, used}
-use Rattle.choosing.specs.Working.{noNumbered, holding, pushed, foundList, joined, earliest, issueOf, Timed, supersedesAt, supersededAt, earlierOf, nextAt}
+use Rattle.records.specs.declared.Instruction.{Instruction}
+use Rattle.validation.proofs.Few.{numbered-length}
+use Rattle.validation.specs.Kept.{numbered, effectiveOf, effectOf, levelOf, superseded, group, goesBefore, highest, firstOne, orElse, present, carrying, merged, usedOf, nextTime, usedFrom, used}
+use Rattle.choosing.specs.Working.{noNumbered, entered, holding, pushed, foundList, joined, bestFrom, earliest, issueOf, Timed, supersedesAt, supersededAt, earlierOf, nextAt}
 use Rattle.choosing.specs.declared.Sequence.{Sequence}
 use Rattle.choosing.specs.declared.Found.{Found}
 use Rattle.choosing.specs.declared.Found.the-variants.{One, Nothing}
@@ -238,14 +240,6 @@ module _ (os : List Numbered) (t : ℕ) (o : Numbered) where
 
 -- ---- the carrier, and the one that is used
 module _ (g : List Numbered) where
-  pub carrier-sync : (f : Found) (o : Numbered) → foundList f ≡ earliest 4 g → f ≡ One o → o ∷ [] ≡ orElse (present Sync g) (present Desy g)
-  unfolding earliest present
-  carrier-sync f o p q = let e : present Sync g ≡ o ∷ [] = sym p ∙ ap foundList q in rw e
-
-  pub carrier-desy : (f k : Found) → foundList f ≡ earliest 4 g → f ≡ Nothing → foundList k ≡ earliest 6 g → foundList k ≡ orElse (present Sync g) (present Desy g)
-  unfolding earliest present
-  carrier-desy f k p q r = let e : present Sync g ≡ [] = sym p ∙ ap foundList q in rw e r
-
   pub merged-other : (o : Numbered) → (codeNumber (effectOf o) ≡ 2 → ⊥) → o ∷ [] ≡ merged g o
   unfolding merged
   merged-other o h = simp (ne-eqb _ _ h)
@@ -258,45 +252,92 @@ module _ (g : List Numbered) where
   unfolding merged
   merged-alone o f h p q = let e : orElse (present Sync g) (present Desy g) ≡ [] = sym p ∙ ap foundList q in simp (eq-eqb _ _ h, e)
 
-used-first : (g : List Numbered) → 1 ≤ length g → merged g (highest (getD g 0 noNumbered) (drop 1 g)) ≡ usedOf g
-unfolding usedOf
-used-first [] h = absurd (omega arith)
-used-first (o ∷ os) h = refl
+pub used-best : (g : List Numbered) (o : Numbered) → o ∷ [] ≡ bestFrom [] g → merged g o ≡ usedOf g
+unfolding usedOf bestFrom
+used-best [] o e = absurd (omega (arith, ap length e))
+used-best (x ∷ xs) o e = ap (merged (x ∷ xs)) (ap (λ (l : List Numbered). getD l 0 noNumbered) e)
 
-pub used-some : (g : List Numbered) (n : ℕ) → 1 ≤ n → n ≤ length g → merged (take n g) (highest (getD g 0 noNumbered) (drop 1 (take n g))) ≡ usedOf (take n g)
-used-some g n h k =
-    ap (λ (o : Numbered). merged (take n g) (highest o (drop 1 (take n g)))) (sym (getD-take n g 0 noNumbered h))
-    ∙ used-first (take n g) (omega (arith, length-take-le n g k))
+pub used-none : (g : List Numbered) → [] ≡ bestFrom [] g → [] ≡ usedOf g
+unfolding usedOf bestFrom
+used-none [] e = refl
+used-none (x ∷ xs) e = absurd (omega (arith, ap length e))
 
-pub used-empty : (g : List Numbered) (n : ℕ) → n ≡ 0 → [] ≡ usedOf (take n g)
-unfolding usedOf
-used-empty g n e = rw e
+-- one more looked at
+pub better-one : (f : Found) (b o h : Numbered) → f ≡ One b → h ≡ pick (goesBefore o b) o b → h ∷ [] ≡ bestFrom (foundList f) (o ∷ [])
+unfolding bestFrom highest
+better-one f b o h e k = rw (e, k)
+
+pub better-none : (f : Found) (o : Numbered) → f ≡ Nothing → o ∷ [] ≡ bestFrom (foundList f) (o ∷ [])
+unfolding bestFrom highest
+better-none f o e = rw e
+
+module _ (o : Numbered) (code : ℕ) where
+  pub code-same : codeNumber (effectOf o) ≡ code → o ∷ [] ≡ earliest code (o ∷ [])
+  unfolding earliest those
+  code-same e = simp (eq-eqb _ _ e)
+
+  pub code-other : (codeNumber (effectOf o) ≡ code → ⊥) → [] ≡ earliest code (o ∷ [])
+  unfolding earliest those
+  code-other h = simp (ne-eqb _ _ h)
+
+-- ---- a group walked: of those before, the highest ranked, the earliest SYNC and the earliest DESY; the rest is still to come
+pub record Walked (best sync desy : Found) (rest whole : List Numbered) : Type 0 where
+  pub highest-so : bestFrom (foundList best) rest ≡ bestFrom [] whole
+  pub sync-so : orElse (foundList sync) (earliest 4 rest) ≡ earliest 4 whole
+  pub desy-so : orElse (foundList desy) (earliest 6 rest) ≡ earliest 6 whole
+
+pub walked-none : (whole : List Numbered) → Walked Nothing Nothing Nothing whole whole
+walked-none whole = record { highest-so = refl; sync-so = refl; desy-so = refl }
+
+best-more : (f : Found) (o : Numbered) (rest : List Numbered) → bestFrom (bestFrom (foundList f) (o ∷ [])) rest ≡ bestFrom (foundList f) (o ∷ rest)
+unfolding bestFrom highest
+best-more (One b) o rest = refl
+best-more Nothing o rest = refl
+
+earliest-more : (code : ℕ) (f : Found) (o : Numbered) (rest : List Numbered) → orElse (orElse (foundList f) (earliest code (o ∷ []))) (earliest code rest) ≡ orElse (foundList f) (earliest code (o ∷ rest))
+unfolding earliest those
+earliest-more code (One b) o rest = refl
+earliest-more code Nothing o rest = go (eqb (codeNumber (effectOf o)) code)
+  where
+    go : (b : Bool) →
+        orElse (firstOne (pick b (o ∷ []) [])) (firstOne (those (λ (x : Numbered). eqb (codeNumber (effectOf x)) code) rest))
+        ≡ firstOne (pick b (o ∷ those (λ (x : Numbered). eqb (codeNumber (effectOf x)) code) rest) (those (λ (x : Numbered). eqb (codeNumber (effectOf x)) code) rest))
+    go true = refl
+    go false = refl
+
+-- with o looked at
+pub walked-more : {best sync desy better s d : Found} {rest whole : List Numbered} (o : Numbered) → foundList better ≡ bestFrom (foundList best) (o ∷ []) →
+    foundList s ≡ orElse (foundList sync) (earliest 4 (o ∷ [])) → foundList d ≡ orElse (foundList desy) (earliest 6 (o ∷ [])) → Walked best sync desy (o ∷ rest) whole → Walked better s d rest whole
+walked-more {best} {sync} {desy} {better} {s} {d} {rest} o p q r w = record {
+  highest-so = ap (λ (l : List Numbered). bestFrom l rest) p ∙ (best-more best o rest ∙ w .highest-so);
+  sync-so = ap (λ (l : List Numbered). orElse l (earliest 4 rest)) q ∙ (earliest-more 4 sync o rest ∙ w .sync-so);
+  desy-so = ap (λ (l : List Numbered). orElse l (earliest 6 rest)) r ∙ (earliest-more 6 desy o rest ∙ w .desy-so);
+}
+
+best-all : (f : Found) → foundList f ≡ bestFrom (foundList f) []
+unfolding bestFrom highest
+best-all (One b) = refl
+best-all Nothing = refl
+
+earliest-all : (code : ℕ) (f : Found) → foundList f ≡ orElse (foundList f) (earliest code [])
+unfolding earliest those
+earliest-all code (One b) = refl
+earliest-all code Nothing = refl
+
+-- all of it
+module _ {best sync desy : Found} {whole : List Numbered} (w : Walked best sync desy [] whole) where
+  pub walked-best : foundList best ≡ bestFrom [] whole
+  walked-best = best-all best ∙ w .highest-so
+
+  pub walked-sync : foundList sync ≡ earliest 4 whole
+  walked-sync = earliest-all 4 sync ∙ w .sync-so
+
+  pub walked-desy : foundList desy ≡ earliest 6 whole
+  walked-desy = earliest-all 6 desy ∙ w .desy-so
 
 pub those-none : {A : Type 0} {xs : List A} (f : A → Bool) → xs ≡ [] → those f xs ≡ []
 unfolding those
 those-none f e = rw e
-
-pub highest-none : {os : List Numbered} (o : Numbered) → os ≡ [] → highest o os ≡ o
-unfolding highest
-highest-none o e = rw e
-
-pub earliest-none : {os : List Numbered} (code : ℕ) → os ≡ [] → earliest code os ≡ []
-unfolding earliest those
-earliest-none code e = rw e
-
-module _ (os : List Numbered) (n : ℕ) (d : Numbered) (fits : n ≤ length os) where
-  -- ---- a group: the highest of them, the earliest of a code
-  pub highest-next : (best : Numbered) (i : ℕ) → i < n → highest best (drop i (take n os)) ≡ highest (pick (goesBefore (getD os i d) best) (getD os i d) best) (drop (i + 1) (take n os))
-  unfolding highest
-  highest-next best i h = rw (left-cons os n i d h fits)
-
-  pub earliest-here : (code i : ℕ) → i < n → codeNumber (effectOf (getD os i d)) ≡ code → earliest code (drop i (take n os)) ≡ getD os i d ∷ []
-  unfolding earliest those
-  earliest-here code i h e = rw (left-cons os n i d h fits) (simp (eq-eqb _ _ e))
-
-  pub earliest-next : (code i : ℕ) → i < n → (codeNumber (effectOf (getD os i d)) ≡ code → ⊥) → earliest code (drop i (take n os)) ≡ earliest code (drop (i + 1) (take n os))
-  unfolding earliest those
-  earliest-next code i h e = rw (left-cons os n i d h fits) (simp (ne-eqb _ _ e))
 
 -- ---- those used
 pub used-stop : (end : ℕ) (os : List Numbered) (m t : ℕ) → end ≤ nextTime end os t → usedFrom end os m t ≡ []
@@ -320,8 +361,33 @@ pub used-zero : (end : ℕ) (os : List Numbered) (t : ℕ) → usedFrom end os 0
 unfolding usedFrom
 used-zero end os t = refl
 
-pub used-begins : (end : ℕ) (os : List Numbered) (n : ℕ) → n ≤ length os → usedFrom end (take n os) (n - 0) 0 ≡ used end (take n os)
+pub used-begins : (end : ℕ) (os : List Numbered) (n : ℕ) → length os ≡ n → usedFrom end os (n - 0) 0 ≡ used end os
 unfolding used
 used-begins end os n h =
-    let e : n - 0 ≡ length (take n os) = omega (arith, length-take-le n os h) in
-    ap (λ (k : ℕ). usedFrom end (take n os) k 0) e
+    let e : n - 0 ≡ length os = omega arith in
+    ap (λ (k : ℕ). usedFrom end os k 0) e
+
+-- ---- the instructions as entered
+number-from : (k : ℕ) (is : List Instruction) (i : ℕ) → i < length is → getD (numbered k is) i noNumbered ≡ record { number = k + i; instruction = getD is i (noNumbered .instruction) }
+unfolding numbered
+number-from k [] i h = absurd (omega arith)
+number-from k (x ∷ xs) zero h = let e : k ≡ k + 0 = omega arith in λ j. record { number = e j; instruction = x }
+number-from k (x ∷ xs) (suc i) h =
+    let e : suc k + i ≡ k + suc i = omega arith in
+    number-from (suc k) xs i (omega arith) ∙ (λ j. record { number = e j; instruction = getD xs i (noNumbered .instruction) })
+
+module _ (is : List Instruction) (n : ℕ) (fits : n ≤ length is) where
+  pub as-many : length (numbered 1 (take n is)) ≡ n
+  as-many = numbered-length 1 (take n is) ∙ length-take-le n is fits
+
+  pub all-numbered : take n (numbered 1 (take n is)) ≡ numbered 1 (take n is)
+  all-numbered = take-all n (numbered 1 (take n is)) (omega (arith, as-many))
+
+  pub number-here : (i : ℕ) → i < n → getD (numbered 1 (take n is)) i noNumbered ≡ entered i (getD is i (noNumbered .instruction))
+  number-here i h =
+      let e : 1 + i ≡ i + 1 = omega arith in
+      number-from 1 (take n is) i (omega (arith, length-take-le n is fits)) ∙ (λ j. record { number = e j; instruction = getD-take n is i (noNumbered .instruction) h j })
+
+  -- the times are theirs
+  pub timed-all : {ts js : List ℕ} → Timed (numbered 1 (take n is)) ts js → Timed (take n (numbered 1 (take n is))) ts js
+  timed-all t = rw all-numbered t

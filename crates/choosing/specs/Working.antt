@@ -9,9 +9,10 @@ use lib.ListN.{length, set, getD}
 use Rattle.level.specs.Lists.{filled, those}
 use Rattle.level.specs.Choice.{pick}
 use Rattle.records.specs.declared.Effect.the-variants.{Trip}
+use Rattle.records.specs.declared.Instruction.{Instruction}
 use Rattle.records.specs.Codes.{codeNumber}
 use Rattle.validation.specs.declared.Numbered.{Numbered}
-use Rattle.validation.specs.Kept.{effectiveOf, effectOf, firstOne}
+use Rattle.validation.specs.Kept.{effectiveOf, effectOf, highest, firstOne}
 use Rattle.choosing.specs.declared.Sequence.{Sequence}
 use Rattle.choosing.specs.declared.Found.{Found}
 use Rattle.choosing.specs.declared.Found.the-variants.{One, Nothing}
@@ -22,6 +23,10 @@ noNumbered = record {
   number = 0;
   instruction = record { effective = 0; issue = 0; meaning = record { lag = 0; rank = 0; effect = Trip }; level = 0; up = 0; down = 0 };
 }
+
+-- the one at the place i, from 0
+abbrev pub entered : ℕ → Instruction → Numbered
+entered i x = record { number = i + 1; instruction = x }
 
 -- the sequence that holds these; a sequence with one more
 abbrev pub holding : List Numbered → Sequence
@@ -38,6 +43,12 @@ foundList Nothing = []
 unfoldable pub joined : Sequence → Found → Sequence
 joined s (One o) = pushed s o
 joined s Nothing = s
+
+-- the highest ranked of these, where it is known of those before them
+unfoldable pub bestFrom : List Numbered → List Numbered → List Numbered
+bestFrom [] [] = []
+bestFrom [] (x ∷ xs) = highest x xs ∷ []
+bestFrom (b ∷ bs) xs = highest b xs ∷ []
 
 -- the earliest entered of the code with this number, where it is present
 unfoldable pub earliest : ℕ → List Numbered → List Numbered

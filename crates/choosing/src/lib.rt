@@ -2,13 +2,14 @@
 ghost use mathlib.Core.Path.{_≡_};
 ghost use Prim.Native.Nat.{_<_, _≤_};
 ghost use mathlib.Core.Bool.{true};
-ghost use mathlib.Core.List.{[], _∷_};
-ghost use lib.ListN.{length, take, drop, getD};
+ghost use mathlib.Core.List.{List, [], _∷_};
+ghost use lib.ListN.{length, take};
 ghost use Rattle.level.specs.Choice.{pick};
 ghost use Rattle.records.specs.declared.Effect.the-variants.{Sync, Desy};
 ghost use Rattle.records.specs.Codes.{codeNumber};
-ghost use Rattle.validation.specs.Kept.{effectOf, group, goesBefore, highest, orElse, present, carrying, merged, usedOf, used};
-ghost use Rattle.choosing.specs.Working.{noNumbered, holding, pushed, foundList, joined, earliest, Timed, supersedesAt, supersededAt, earlierOf, nextAt, Rising, Run, Alone};
+ghost use Rattle.validation.specs.declared.Numbered.{Numbered};
+ghost use Rattle.validation.specs.Kept.{numbered, effectOf, group, goesBefore, orElse, present, carrying, merged, usedOf, used};
+ghost use Rattle.choosing.specs.Working.{noNumbered, entered, holding, pushed, foundList, joined, bestFrom, earliest, Timed, supersedesAt, supersededAt, earlierOf, nextAt, Rising, Run, Alone};
 
 // Some of the instructions, in order: the first `count` places.
 pub struct Sequence {
@@ -37,6 +38,18 @@ pub fn code_of(o: validation::Numbered) -> u8
     let m = i.meaning;
     let e = m.effect;
     records::code_number(e)
+}
+
+// The instruction at a place, with its number: from 1 as entered.
+fn number_at(instruction: records::Instruction, at: usize) -> validation::Numbered
+    requires { ⌜ at < 40 ⌝ }
+    ensures { λ r. ⌜ r ≡ entered at instruction ⌝ }
+{
+    let number = at as u32 + 1;
+    validation::Numbered {
+        number,
+        instruction,
+    }
 }
 
 // ---- sequences
@@ -126,37 +139,6 @@ pub fn is_superseded(times: &[u32; 40], issues: &[u32; 40], n: usize, t: u32, is
     false
 }
 
-// Those left at the effective time t, of the first n with these times.
-fn group_at(
-    os: [validation::Numbered; 40],
-    times: &[u32; 40],
-    issues: &[u32; 40],
-    n: usize,
-    t: u32,
-) -> Sequence
-    requires { ⌜ (n ≤ 40) × Timed (take n os) (take n (now times)) (take n (now issues)) ⌝ }
-    ensures { λ r. ⌜ (r ≡ holding (group (take n os) t)) × (r .count ≤ 40) ⌝ }
-{
-    let mut out = empty();
-    let mut i: usize = 0;
-    while i < n {
-        let at = i;
-        i += 1;
-        if times[at] != t {
-            continue;
-        }
-        let issue = issues[at];
-        if is_superseded(times, issues, n, t, issue) {
-            continue;
-        }
-        let o = os[at];
-        let k = out.count;
-        out.items[k] = o;
-        out.count = k + 1;
-    }
-    out
-}
-
 // ---- step 2: the one that is used of those left at one effective time
 
 // x, entered after o, goes before it.
@@ -189,35 +171,37 @@ fn higher(x: validation::Numbered, o: validation::Numbered) -> validation::Numbe
     o
 }
 
-// The highest ranked of a group.
-fn highest_of(g: [validation::Numbered; 40], n: usize) -> validation::Numbered
-    requires { ⌜ (1 ≤ n) × (n ≤ 40) ⌝ }
-    ensures { λ r. ⌜ r ≡ highest (getD g 0 noNumbered) (drop 1 (take n g)) ⌝ }
+// The highest ranked so far, with o looked at.
+fn better(best: Found, o: validation::Numbered) -> Found
+    ensures { λ r. ⌜ foundList r ≡ bestFrom (foundList best) (o ∷ []) ⌝ }
 {
-    let mut best = g[0];
-    let mut i: usize = 1;
-    while i < n {
-        let x = g[i];
-        best = higher(x, best);
-        i += 1;
+    match best {
+        Found::One(b) => {
+            let h = higher(o, b);
+            Found::One(h)
+        }
+        Found::Nothing => Found::One(o),
     }
-    best
 }
 
-// The earliest entered of a code.
-fn earliest_of(g: [validation::Numbered; 40], n: usize, code: u8) -> Found
-    requires { ⌜ n ≤ 40 ⌝ }
-    ensures { λ r. ⌜ foundList r ≡ earliest code (take n g) ⌝ }
+// o, where it has this code.
+fn of_code(o: validation::Numbered, code: u8) -> Found
+    ensures { λ r. ⌜ foundList r ≡ earliest code (o ∷ []) ⌝ }
 {
-    let mut i: usize = 0;
-    while i < n {
-        let o = g[i];
-        if code_of(o) == code {
-            return Found::One(o);
-        }
-        i += 1;
+    if code_of(o) == code {
+        return Found::One(o);
     }
     Found::Nothing
+}
+
+// The first found, else the other.
+fn or_else(first: Found, other: Found) -> Found
+    ensures { λ r. ⌜ foundList r ≡ orElse (foundList first) (foundList other) ⌝ }
+{
+    match first {
+        Found::One(o) => Found::One(o),
+        Found::Nothing => other,
+    }
 }
 
 // c with the level and the rates of m.
@@ -241,48 +225,67 @@ fn carry(m: validation::Numbered, c: validation::Numbered) -> validation::Number
     }
 }
 
-// The SYNC of a group, else its DESY.
-fn carrier_of(g: [validation::Numbered; 40], n: usize) -> Found
-    requires { ⌜ n ≤ 40 ⌝ }
-    ensures { λ r. ⌜ foundList r ≡ orElse (present Sync (take n g)) (present Desy (take n g)) ⌝ }
-{
-    let sync = earliest_of(g, n, SYNC);
-    match sync {
-        Found::One(o) => Found::One(o),
-        Found::Nothing => earliest_of(g, n, DESY),
-    }
-}
-
-// The highest ranked of the group; an MWOF goes into the carrier, where there is one.
-fn merge(
-    g: [validation::Numbered; 40],
-    n: usize,
-    highest: validation::Numbered,
-) -> validation::Numbered
-    requires { ⌜ n ≤ 40 ⌝ }
-    ensures { λ r. ⌜ r ∷ [] ≡ merged (take n g) highest ⌝ }
+// The highest ranked of a group; an MWOF goes into the carrier, where there is one.
+fn merge(highest: validation::Numbered, carrier: Found) -> validation::Numbered
+    ensures { λ r. ⌜ ((g : List Numbered) → foundList carrier ≡ orElse (present Sync g) (present Desy g) → r ∷ [] ≡ merged g highest) ⌝ }
 {
     if code_of(highest) != MWOF {
         return highest;
     }
-    let carrier = carrier_of(g, n);
     match carrier {
         Found::One(c) => carry(highest, c),
         Found::Nothing => highest,
     }
 }
 
-// The one that is used of a group.
-fn used_of(g: [validation::Numbered; 40], n: usize) -> Found
-    requires { ⌜ n ≤ 40 ⌝ }
-    ensures { λ r. ⌜ foundList r ≡ usedOf (take n g) ⌝ }
+// The one that is used of a group: by its highest ranked, its earliest SYNC and its earliest DESY.
+fn used_of(best: Found, sync: Found, desy: Found) -> Found
+    ensures { λ r. ⌜ ((g : List Numbered) → foundList best ≡ bestFrom [] g → foundList sync ≡ earliest 4 g → foundList desy ≡ earliest 6 g → foundList r ≡ usedOf g) ⌝ }
 {
-    if n == 0 {
-        return Found::Nothing;
+    match best {
+        Found::One(h) => {
+            let carrier = or_else(sync, desy);
+            let u = merge(h, carrier);
+            Found::One(u)
+        }
+        Found::Nothing => Found::Nothing,
     }
-    let o = highest_of(g, n);
-    let u = merge(g, n, o);
-    Found::One(u)
+}
+
+// The one that is used of those left at the effective time t, of the first n with these times.
+fn used_at(
+    instructions: [records::Instruction; 40],
+    times: &[u32; 40],
+    issues: &[u32; 40],
+    n: usize,
+    t: u32,
+) -> Found
+    requires { ⌜ (n ≤ 40) × Timed (numbered 1 (take n instructions)) (take n (now times)) (take n (now issues)) ⌝ }
+    ensures { λ r. ⌜ foundList r ≡ usedOf (group (numbered 1 (take n instructions)) t) ⌝ }
+{
+    let mut best = Found::Nothing;
+    let mut sync = Found::Nothing;
+    let mut desy = Found::Nothing;
+    let mut i: usize = 0;
+    while i < n {
+        let at = i;
+        i += 1;
+        if times[at] != t {
+            continue;
+        }
+        let issue = issues[at];
+        if is_superseded(times, issues, n, t, issue) {
+            continue;
+        }
+        let instruction = instructions[at];
+        let o = number_at(instruction, at);
+        best = better(best, o);
+        let s = of_code(o, SYNC);
+        sync = or_else(sync, s);
+        let d = of_code(o, DESY);
+        desy = or_else(desy, d);
+    }
+    used_of(best, sync, desy)
 }
 
 // ---- those used, in time order
@@ -368,14 +371,14 @@ pub fn stands_alone(times: &[u32; 40], n: usize, at: usize, ordered: bool) -> bo
 
 // Those used, where the times stand in order: those at one time stand side by side, and one alone is used as it is.
 fn used_ordered(
-    os: [validation::Numbered; 40],
+    instructions: [records::Instruction; 40],
     times: &[u32; 40],
     issues: &[u32; 40],
     n: usize,
     end: u32,
 ) -> Sequence
-    requires { ⌜ (n ≤ 40) × Timed (take n os) (take n (now times)) (take n (now issues)) × Rising (now times) n ⌝ }
-    ensures { λ r. ⌜ (r ≡ holding (used end (take n os))) × (r .count ≤ 40) ⌝ }
+    requires { ⌜ (n ≤ 40) × Timed (numbered 1 (take n instructions)) (take n (now times)) (take n (now issues)) × Rising (now times) n ⌝ }
+    ensures { λ r. ⌜ (r ≡ holding (used end (numbered 1 (take n instructions)))) × (r .count ≤ 40) ⌝ }
 {
     let mut out = empty();
     let mut i: usize = 0;
@@ -387,15 +390,14 @@ fn used_ordered(
         let from = i;
         i = run_end(times, n, t, from + 1);
         if i == from + 1 {
-            let o = os[from];
+            let instruction = instructions[from];
+            let o = number_at(instruction, from);
             let k = out.count;
             out.items[k] = o;
             out.count = k + 1;
             continue;
         }
-        let g = group_at(os, times, issues, n, t);
-        let items = g.items;
-        let u = used_of(items, g.count);
+        let u = used_at(instructions, times, issues, n, t);
         match u {
             Found::One(o) => {
                 let k = out.count;
@@ -410,14 +412,14 @@ fn used_ordered(
 
 // Those used, whatever the order of the times: those at the next time, one time after another.
 fn used_any(
-    os: [validation::Numbered; 40],
+    instructions: [records::Instruction; 40],
     times: &[u32; 40],
     issues: &[u32; 40],
     n: usize,
     end: u32,
 ) -> Sequence
-    requires { ⌜ (n ≤ 40) × Timed (take n os) (take n (now times)) (take n (now issues)) ⌝ }
-    ensures { λ r. ⌜ (r ≡ holding (used end (take n os))) × (r .count ≤ 40) ⌝ }
+    requires { ⌜ (n ≤ 40) × Timed (numbered 1 (take n instructions)) (take n (now times)) (take n (now issues)) ⌝ }
+    ensures { λ r. ⌜ (r ≡ holding (used end (numbered 1 (take n instructions)))) × (r .count ≤ 40) ⌝ }
 {
     let mut out = empty();
     let mut t: u32 = 0;
@@ -427,9 +429,7 @@ fn used_any(
         if end <= next {
             return out;
         }
-        let g = group_at(os, times, issues, n, next);
-        let items = g.items;
-        let u = used_of(items, g.count);
+        let u = used_at(instructions, times, issues, n, next);
         out = push_found(out, u);
         t = next + 1;
         i += 1;
@@ -439,17 +439,17 @@ fn used_any(
 
 // Those used, in the order of their effective times.
 pub fn used_in(
-    os: [validation::Numbered; 40],
+    instructions: [records::Instruction; 40],
     times: &[u32; 40],
     issues: &[u32; 40],
     n: usize,
     end: u32,
 ) -> Sequence
-    requires { ⌜ (n ≤ 40) × Timed (take n os) (take n (now times)) (take n (now issues)) ⌝ }
-    ensures { λ r. ⌜ (r ≡ holding (used end (take n os))) × (r .count ≤ 40) ⌝ }
+    requires { ⌜ (n ≤ 40) × Timed (numbered 1 (take n instructions)) (take n (now times)) (take n (now issues)) ⌝ }
+    ensures { λ r. ⌜ (r ≡ holding (used end (numbered 1 (take n instructions)))) × (r .count ≤ 40) ⌝ }
 {
     if in_order(times, n) {
-        return used_ordered(os, times, issues, n, end);
+        return used_ordered(instructions, times, issues, n, end);
     }
-    used_any(os, times, issues, n, end)
+    used_any(instructions, times, issues, n, end)
 }

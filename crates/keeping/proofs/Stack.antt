@@ -73,10 +73,6 @@ unfolding topCode
 code-top ks zero p = absurd (omega arith)
 code-top ks (suc h) p = let e : suc h - 1 ≡ h = omega arith in rw e
 
-pub code-push : (ks : List Numbered) (h : ℕ) (o : Numbered) → h < length ks → codeNumber (effectOf o) ≡ topCode (set ks h o) (h + 1)
-unfolding topCode
-code-push ks h o p = rw (add-one, getD-set-same ks h o noNumbered p)
-
 module _ (code last : ℕ) where
   pub repeats-other : (code ≡ last → ⊥) → false ≡ repeatsCode code last
   unfolding repeatsCode

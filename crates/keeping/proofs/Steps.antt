@@ -5,11 +5,11 @@ use mathlib.Core.List.{List, [], _∷_, _++_, map}
 use mathlib.Core.Bool.{Bool, true, false, _||_}
 use Prim.Native.Nat.{ℕ, zero, suc, _+_, _-_, _≤_, _<_, min}
 use native.Mathlib.Numerals.{add-one}
-use native.Mathlib.Decide.{decLe}
+use native.Mathlib.Decide.{decLe, ℕ-discrete}
 use native.Mathlib.Omega.{arith}
-use lib.Dec.{leb}
-use lib.ListN.{length, take, drop, getD, set, replicate, length-append, List·getD-eq-default}
-use lib.Seq.{take-suc, take-suc-set, set-out, getD-take}
+use lib.Dec.{leb, eqb}
+use lib.ListN.{length, take, drop, getD, set, replicate, length-set, length-append, List·getD-eq-default}
+use lib.Seq.{take-suc, take-suc-set, set-out, getD-take, getD-set-same, getD-set-other}
 use borrow.Author.Tests.{le-leb, lt-leb, eq-eqb, ne-eqb}
 use Rattle.level.specs.Choice.{pick}
 use Rattle.level.specs.Lists.{some, filled}
@@ -17,32 +17,42 @@ use Rattle.records.specs.declared.Instruction.{Instruction}
 use Rattle.records.specs.Codes.{codeNumber}
 use Rattle.validation.specs.declared.Numbered.{Numbered}
 use Rattle.validation.specs.Kept.{effectiveOf, effectOf, numbered, Mark, mark, repeats, syncWithinHour, fromSync, beforeSync, Checked, failed, checkOne, check, acting, overtaken, lateFate, actors, lateMarks}
-use Rattle.keeping.specs.declared.Checking.{Checking}
-use Rattle.choosing.specs.Working.{noNumbered, supersededAt}
-use Rattle.keeping.specs.Working.{stackOf, between, syncPlace, withinHour, setFate, marked, withFate, voided, keeping, noChecking, noneChecked, Tracks, Follows, settleFate, settled, earliestActing, lateAt, fatesTo}
+use Rattle.choosing.specs.Working.{noNumbered, supersededAt, issueOf, Timed}
+use Rattle.keeping.specs.Working.{Checking, checking, numberOf, Noted, Soon, Stepped, stackOf, between, syncPlace, withinHour, setFate, marked, withFate, keeping, noneChecked, Tracks, Follows, settleFate, settled, earliestActing, lateAt, fatesTo}
 use Rattle.choosing.proofs.Laws.{left-cons, filled-push}
 use Rattle.keeping.proofs.Stack.{stack-push, hour-none, hour-some, before-sync, from-sync}
 
--- ---- numbers
-pub number-next : (is : List Instruction) (n k i : ℕ) (d : Instruction) → i < n → n ≤ length is →
-    numbered k (drop i (take n is)) ≡ record { number = k; instruction = getD is i d } ∷ numbered (k + 1) (drop (i + 1) (take n is))
+-- ---- the instructions as entered
+number-last : (k : ℕ) (is : List Instruction) (x : Instruction) → numbered k (is ++ (x ∷ [])) ≡ numbered k is ++ (record { number = k + length is; instruction = x } ∷ [])
 unfolding numbered
-number-next is n k i d h f = rw (left-cons is n i d h f, add-one k)
+number-last k [] x = let e : k ≡ k + 0 = omega arith in λ j. record { number = e j; instruction = x } ∷ []
+number-last k (y ∷ ys) x =
+    let e : suc k + length ys ≡ k + suc (length ys) = omega arith in
+    ap (λ (l : List Numbered). record { number = k; instruction = y } ∷ l) (number-last (suc k) ys x ∙ (λ j. numbered (suc k) ys ++ (record { number = e j; instruction = x } ∷ [])))
 
-pub number-none : {is : List Instruction} (k : ℕ) → is ≡ [] → numbered k is ≡ []
-unfolding numbered
-number-none k e = rw e
-
--- ---- times
 map-last : (f : Numbered → ℕ) (xs : List Numbered) (x : Numbered) → map f (xs ++ (x ∷ [])) ≡ map f xs ++ (f x ∷ [])
 map-last f [] x = refl
 map-last f (y ∷ ys) x = ap (λ (l : List ℕ). f y ∷ l) (map-last f ys x)
 
--- one more of the times
-pub map-more : (f : Numbered → ℕ) (os : List Numbered) (ts : List ℕ) (i : ℕ) → i < length os → i < length ts → take i ts ≡ map f (take i os) →
-    take (i + 1) (set ts i (f (getD os i noNumbered))) ≡ map f (take (i + 1) os)
-map-more f os ts i h k e =
-    rw (add-one, take-suc-set ts i (f (getD os i noNumbered)) k, take-suc os i noNumbered h, e) (sym (map-last f (take i os) (getD os i noNumbered)))
+pub timed-none : (is : List Instruction) (times issues : List ℕ) → Timed (numbered 1 (take 0 is)) (take 0 times) (take 0 issues)
+unfolding numbered
+timed-none is times issues = record { effective = refl; issued = refl }
+
+-- one more of them
+module _ (is : List Instruction) (i : ℕ) (h : i < length is) where
+  one-more : numbered 1 (take (i + 1) is) ≡ numbered 1 (take i is) ++ (record { number = 1 + length (take i is); instruction = getD is i (noNumbered .instruction) } ∷ [])
+  one-more = rw (add-one, take-suc is i (noNumbered .instruction) h) (number-last 1 (take i is) (getD is i (noNumbered .instruction)))
+
+  time-more : (f : Numbered → ℕ) (ts : List ℕ) (v : ℕ) → i < length ts → v ≡ f (record { number = 1 + length (take i is); instruction = getD is i (noNumbered .instruction) }) → take i ts ≡ map f (numbered 1 (take i is)) →
+      take (i + 1) (set ts i v) ≡ map f (numbered 1 (take (i + 1) is))
+  time-more f ts v k e q = rw (one-more, map-last f (numbered 1 (take i is)), add-one, take-suc-set ts i v k, q, e)
+
+  pub timed-more : (times issues : List ℕ) → i < length times → i < length issues → Timed (numbered 1 (take i is)) (take i times) (take i issues) →
+      let x : Instruction = getD is i (noNumbered .instruction) in Timed (numbered 1 (take (i + 1) is)) (take (i + 1) (set times i (x .effective))) (take (i + 1) (set issues i (x .issue)))
+  timed-more times issues p q t = record {
+    effective = time-more effectiveOf times _ p refl (t .effective);
+    issued = time-more issueOf issues _ q refl (t .issued);
+  }
 
 -- ---- fates in an array
 module _ (fates : List ℕ) (number fate : ℕ) where
@@ -57,6 +67,14 @@ module _ (fates : List ℕ) (number fate : ℕ) where
   pub set-some : (number ≡ 0 → ⊥) → set fates (number - 1) fate ≡ setFate fates number fate
   unfolding setFate
   set-some n = simp (ne-eqb _ _ n)
+
+  pub set-length : length (setFate fates number fate) ≡ length fates
+  unfolding setFate
+  set-length = go (eqb number 0)
+    where
+      go : (b : Bool) → length (pick b fates (set fates (number - 1) fate)) ≡ length fates
+      go true = refl
+      go false = length-set fates (number - 1) fate
 
   pub settle-zero : number ≡ 0 → fates ≡ settleFate fates number fate
   unfolding settleFate
@@ -81,13 +99,14 @@ unfolding marked
 marked-append fates [] ys = refl
 marked-append fates (x ∷ xs) ys = ap (λ (l : List ℕ). setFate l (x .number) (x .fate)) (marked-append fates xs ys)
 
-pub voided-more : (s : Checking) (a d : ℕ) → withFate (voided s a d) (getD (s .kept) (a + d) noNumbered) 4 ≡ voided s a (suc d)
-unfolding withFate voided marked between
-voided-more s a d = refl
+-- one more of those from the place a on
+pub voided-more : (fates : List ℕ) (ks : List Numbered) (a d : ℕ) → setFate (marked fates (map (mark 4) (between ks a d))) (getD ks (a + d) noNumbered .number) 4 ≡ marked fates (map (mark 4) (between ks a (suc d)))
+unfolding marked between
+voided-more fates ks a d = refl
 
-pub voided-none : (s : Checking) (a : ℕ) → voided s a 0 ≡ s
-unfolding voided marked between
-voided-none s a = refl
+pub voided-none : (fates : List ℕ) (ks : List Numbered) (a : ℕ) → marked fates (map (mark 4) (between ks a 0)) ≡ fates
+unfolding marked between
+voided-none fates ks a = refl
 
 -- ---- step 3
 failed-off : (m : Checked) (o : Numbered) → syncWithinHour (effectiveOf o) (m .kept) ≡ false → failed m o ≡ record { kept = m .kept; marks = mark 5 o ∷ m .marks }
@@ -120,10 +139,10 @@ module _ (s : Checking) (o : Numbered) where
       (record {
         kept = s .kept;
         height = syncPlace (s .kept) (s .height) - 1;
-        fates = withFate (voided s (syncPlace (s .kept) (s .height) - 1) (s .height - (syncPlace (s .kept) (s .height) - 1))) o 5 .fates;
+        fates = setFate (marked (s .fates) (map (mark 4) (between (s .kept) (syncPlace (s .kept) (s .height) - 1) (s .height - (syncPlace (s .kept) (s .height) - 1))))) (o .number) 5;
       })
       (λ (m : Checked). failed m o)
-  unfolding withinHour withFate voided marked
+  unfolding withinHour marked
   failed-void p w m t =
       let e : syncWithinHour (effectiveOf o) (m .kept) ≡ true = ap (syncWithinHour (effectiveOf o)) (sym (t .stack)) ∙ (hour-some (s .kept) (effectiveOf o) (s .height) p ∙ w) in
       let voids = between (s .kept) (syncPlace (s .kept) (s .height) - 1) (s .height - (syncPlace (s .kept) (s .height) - 1)) in
@@ -160,12 +179,49 @@ unfolding check
 check-last m [] x = refl
 check-last m (y ∷ ys) x = check-last (checkOne m y) ys x
 
-pub check-none : Tracks noChecking (check noneChecked [])
-unfolding noChecking check stackOf marked
-check-none = record { stack = refl; settled = refl }
+pub check-none : (ks : List Numbered) → Tracks (checking ks 0 (replicate 40 2)) (check noneChecked [])
+unfolding check stackOf marked
+check-none ks = record { stack = refl; settled = refl }
 
 pub check-more : (m : Checked) (os : List Numbered) (i : ℕ) → i < length os → check m (take (i + 1) os) ≡ checkOne (check m (take i os)) (getD os i noNumbered)
 check-more m os i h = rw (add-one, take-suc os i noNumbered) (check-last m (take i os) (getD os i noNumbered))
+
+-- ---- the arrays beside the kept ones
+pub noted-push : (f : Numbered → ℕ) (xs : List ℕ) (ks : List Numbered) (h v : ℕ) (o : Numbered) → v ≡ f o → h < length xs → h < length ks → Noted f xs ks h → Noted f (set xs h v) (set ks h o) (h + 1)
+noted-push f xs ks h v o e p q r j l = elim (ℕ-discrete j h) [
+  | yes i ↦ rw i (getD-set-same xs h v 0 p ∙ (e ∙ ap f (sym (getD-set-same ks h o noNumbered q))))
+  | no i ↦ getD-set-other xs h j v 0 i ∙ (r j (omega arith) ∙ ap f (sym (getD-set-other ks h j o noNumbered i)))
+]
+
+soon-push : (times : List ℕ) (h v : ℕ) → v < 8589934592 → h < length times → Soon times h → Soon (set times h v) (h + 1)
+soon-push times h v b p r j l = elim (ℕ-discrete j h) [
+  | yes i ↦ rw (i, getD-set-same times h v 0 p) b
+  | no i ↦ rw (getD-set-other times h j v 0 i) (r j (omega arith))
+]
+
+module _ {ks : List Numbered} {h : ℕ} {fates numbers times : List ℕ} {m : Checked} (r : Stepped ks h fates numbers times m) (o : Numbered) where
+  -- none is added
+  pub stepped-on : (k : ℕ) (next : List ℕ) → k ≤ h → Follows (checking ks h fates) (checking ks k next) (λ (c : Checked). checkOne c o) → Stepped ks k next numbers times (checkOne m o)
+  stepped-on k next p f = record {
+    few = omega (arith, r .few);
+    tracks = f m (r .tracks);
+    named = λ j l. r .named j (omega arith);
+    timed = λ j l. r .timed j (omega arith);
+    soon = λ j l. r .soon j (omega arith);
+  }
+
+  -- o is added, and acts at the time v
+  pub stepped-keep : (v : ℕ) → v ≡ acting o → v < 8589934592 → h < 40 → length ks ≡ 40 → length numbers ≡ 40 → length times ≡ 40 →
+      Follows (checking ks h fates) (keeping (checking ks h fates) o) (λ (c : Checked). checkOne c o) →
+      Stepped (set ks h o) (h + 1) fates (set numbers h (o .number)) (set times h v) (checkOne m o)
+  unfolding keeping
+  stepped-keep v e b p a1 a2 a3 f = record {
+    few = omega arith;
+    tracks = f m (r .tracks);
+    named = noted-push numberOf numbers ks h (o .number) o refl (omega arith) (omega arith) (r .named);
+    timed = noted-push acting times ks h v o e (omega arith) (omega arith) (r .timed);
+    soon = soon-push times h v b (omega arith) (r .soon);
+  }
 
 -- ---- step 4
 leb-min : (e a own : ℕ) → (leb a own || leb e own) ≡ leb (min e a) own

@@ -19,12 +19,11 @@ use Rattle.records.specs.Codes.{same}
 use Rattle.validation.specs.declared.Numbered.{Numbered}
 use Rattle.validation.specs.Kept.{effectiveOf, effectOf, numbered, Mark, mark, superseded, repeats, syncWithinHour, fromSync, beforeSync, Checked, failed, checkOne, check, usedFrom, used, acting, overtaken, lateFate, actors, lateMarks, turned, keptOf, validated, fateAmong, fatesOf}
 use Rattle.validation.proofs.Few.{numbered-length}
-use Rattle.keeping.specs.declared.Checking.{Checking}
 use Rattle.choosing.specs.declared.Sequence.{Sequence}
 use Rattle.keeping.specs.declared.Validation.{Validation}
 use Rattle.choosing.specs.Working.{noNumbered, holding, Timed, supersededAt}
 use Rattle.keeping.specs.Outcome.{outcomeOf, validationOf}
-use Rattle.keeping.specs.Working.{setFate, marked, noneChecked, Tracks, settleFate, settled, fatesTo}
+use Rattle.keeping.specs.Working.{Checking, setFate, marked, noneChecked, Tracks, settleFate, settled, fatesTo}
 use Rattle.choosing.proofs.Laws.{held, superseded-at}
 use Rattle.keeping.proofs.Stack.{stack-turned}
 use Rattle.keeping.proofs.Steps.{set-zero, set-some, settle-zero, settle-done, settle-some}
@@ -246,19 +245,14 @@ module _ (is : List Instruction) (count end n : ℕ) (all : length is ≡ 40) (m
         rw e (take-all 40 is (omega arith) ∙ sym (take-all count is (omega arith)))
   ]
 
-  numbers : (q : Sequence) → q ≡ holding (numbered 1 (take n is)) → take n (q .items) ≡ numbered 1 (take n is)
-  numbers q e =
-      let k : q .count ≡ n = omega (arith, ap (λ (p : Sequence). p .count) e, numbered-length 1 (take n is), length-take n is) in
-      ap (λ (j : ℕ). take j (q .items)) (sym k) ∙ held e (omega arith)
-
-  pub validation-is : (q : Sequence) → q ≡ holding (numbered 1 (take n is)) → (times issues : List ℕ) → Timed (take n (q .items)) times issues →
-      (s : Checking) → Tracks s (check noneChecked (used end (take n (q .items)))) → s .height ≤ length (s .kept) →
+  pub validation-is : (times issues : List ℕ) → Timed (numbered 1 (take n is)) times issues → (used-ones : Sequence) → used-ones ≡ holding (used end (numbered 1 (take n is))) → used-ones .count ≤ 40 →
+      (s : Checking) → Tracks s (check noneChecked (take (used-ones .count) (used-ones .items))) → s .height ≤ length (s .kept) →
       result end times issues s n ≡ validationOf is count end
   unfolding validationOf
-  validation-is q e times issues timed s t fits =
+  validation-is times issues timed u q c s t fits =
       let k : n ≡ length (take n is) = omega (arith, length-take n is) in
       ap (result end times issues s) k
-      ∙ (outcome-is end (take n is) (omega arith) times issues (rw (numbers q e) at timed) s (rw (numbers q e) at t) fits ∙ ap (λ (l : List Instruction). outcomeOf (numbered 1 l) end) entered)
+      ∙ (outcome-is end (take n is) (omega arith) times issues timed s (rw (held q c) at t) fits ∙ ap (λ (l : List Instruction). outcomeOf (numbered 1 l) end) entered)
 
 -- none entered
 pub none-entered : (is : List Instruction) (count end : ℕ) → count ≡ 0 → record { fates = replicate 40 0; acts = replicate 40 noNumbered; acting = 0 } ≡ validationOf is count end

@@ -1,20 +1,40 @@
 -- What the code of steps 3 and 4 works with, beside the definitions.
 -- Assumes nothing.
-use Prim.Native.Nat.{ℕ, zero, suc, _+_, _-_, _<_, min}
+use Prim.Native.Nat.{ℕ, zero, suc, _+_, _-_, _<_, _≤_, min}
 use mathlib.Core.Path.{_≡_}
-use mathlib.Core.List.{List, [], _∷_, _++_, map}
+use mathlib.Core.List.{List, [], _∷_, _++_}
 use mathlib.Core.Bool.{Bool, _&&_, _||_}
 use lib.Dec.{leb, eqb}
-use lib.ListN.{take, drop, set, getD, replicate}
+use lib.ListN.{length, take, drop, set, getD, replicate}
 use Rattle.level.specs.Choice.{pick}
+use Rattle.level.specs.Lists.{filled}
 use Rattle.records.specs.declared.Effect.the-variants.{Sync}
 use Rattle.records.specs.Codes.{codeNumber, same}
 use Rattle.validation.specs.declared.Numbered.{Numbered}
-use Rattle.validation.specs.Kept.{effectiveOf, effectOf, Mark, mark, Checked, acting, lateFate}
+use Rattle.validation.specs.Kept.{effectiveOf, effectOf, Mark, Checked, acting, lateFate}
 use Rattle.choosing.specs.Working.{noNumbered, supersededAt}
-use Rattle.keeping.specs.declared.Checking.{Checking}
+use Rattle.keeping.specs.declared.Validation.{Validation}
 
 -- ---- step 3: the kept ones stand in an array, the latest last; fates by number in another, 2 where none is settled
+
+-- step 3 under way: the kept ones, the first `height` places; the fates by number, 2 where none is settled
+pub record Checking : Type 0 where
+  pub kept : List Numbered
+  pub height : ℕ
+  pub fates : List ℕ
+
+abbrev pub checking : List Numbered → ℕ → List ℕ → Checking
+checking kept height fates = record { kept = kept; height = height; fates = fates }
+
+abbrev pub codeOf : Numbered → ℕ
+codeOf o = codeNumber (effectOf o)
+
+abbrev pub numberOf : Numbered → ℕ
+numberOf o = o .number
+
+-- the numbers f of the first h kept ones stand in another array, at the same places
+abbrev pub Noted : (Numbered → ℕ) → List ℕ → List Numbered → ℕ → Type 0
+Noted f xs ks h = (j : ℕ) → j < h → getD xs j 0 ≡ f (getD ks j noNumbered)
 
 -- the first h places, the latest first
 unfoldable pub stackOf : List Numbered → ℕ → List Numbered
@@ -54,15 +74,8 @@ marked fates (m ∷ ms) = setFate (marked fates ms) (m .number) (m .fate)
 unfoldable pub withFate : Checking → Numbered → ℕ → Checking
 withFate s o fate = record { kept = s .kept; height = s .height; fates = setFate (s .fates) (o .number) fate }
 
--- with fate 4 for d of those kept, from a on
-unfoldable pub voided : Checking → ℕ → ℕ → Checking
-voided s a d = record { kept = s .kept; height = s .height; fates = marked (s .fates) (map (mark 4) (between (s .kept) a d)) }
-
 unfoldable pub keeping : Checking → Numbered → Checking
 keeping s o = record { kept = set (s .kept) (s .height) o; height = s .height + 1; fates = s .fates }
-
-unfoldable pub noChecking : Checking
-noChecking = record { kept = replicate 40 noNumbered; height = 0; fates = replicate 40 2 }
 
 abbrev pub noneChecked : Checked
 noneChecked = record { kept = []; marks = [] }
@@ -74,6 +87,18 @@ pub record Tracks (s : Checking) (m : Checked) : Type 0 where
 
 abbrev pub Follows : Checking → Checking → (Checked → Checked) → Type 0
 Follows s r f = (m : Checked) → Tracks s m → Tracks r (f m)
+
+-- the first h of these acting times are such as numbers of 32 bits add up to
+abbrev pub Soon : List ℕ → ℕ → Type 0
+Soon times h = (j : ℕ) → j < h → getD times j 0 < 8589934592
+
+-- step 3 has come to this: the kept ones and the fates, and beside them the numbers and the acting times of the kept ones
+pub record Stepped (kept : List Numbered) (height : ℕ) (fates numbers times : List ℕ) (m : Checked) : Type 0 where
+  pub few : height ≤ 40
+  pub tracks : Tracks (checking kept height fates) m
+  pub named : Noted numberOf numbers kept height
+  pub timed : Noted acting times kept height
+  pub soon : Soon times height
 
 -- ---- step 4 and the fates
 
@@ -97,6 +122,10 @@ settleFate fates number fate = pick (eqb number 0) fates (pick (eqb (getD fates 
 unfoldable pub settled : List ℕ → List Mark → List ℕ
 settled fates [] = fates
 settled fates (m ∷ ms) = settled (settleFate fates (m .number) (m .fate)) ms
+
+-- those that act, with the fates of all
+abbrev pub actingWith : List ℕ → List Numbered → Validation
+actingWith fates acts = record { fates = fates; acts = filled 40 noNumbered acts; acting = length acts }
 
 -- the first i fates, by the times and by what the later steps say
 unfoldable pub fatesTo : List ℕ → List ℕ → List ℕ → ℕ → List ℕ

@@ -1,27 +1,21 @@
 // Which instructions are kept, steps 1 to 4: over up to forty instructions with their numbers. Steps 1 and 2 are in `choosing`.
 ghost use mathlib.Core.Path.{_≡_};
 ghost use Prim.Native.Nat.{ℕ, _-_, _<_, _≤_, min};
-ghost use mathlib.Core.List.{map};
-ghost use lib.ListN.{length, take};
+ghost use mathlib.Core.List.{List, map};
+ghost use lib.ListN.{length, take, getD, replicate};
 ghost use Rattle.level.specs.Lists.{filled};
 ghost use Rattle.level.specs.Choice.{pick};
-ghost use Rattle.validation.specs.Kept.{effectiveOf, numbered, used, Checked, failed, check, acting, actors, lateMarks};
-ghost use Rattle.choosing.specs.Working.{holding, issueOf, Timed};
+ghost use Rattle.validation.specs.declared.Numbered.{Numbered};
+ghost use Rattle.validation.specs.Kept.{numbered, mark, Checked, failed, check, acting, actors, lateMarks};
+ghost use Rattle.choosing.specs.Working.{noNumbered, Timed};
 ghost use Rattle.keeping.specs.Outcome.{validationOf};
-ghost use Rattle.keeping.specs.Working.{topCode, repeatsCode, syncPlace, setFate, settled, lateAt, LateFates, voided, withFate, withinHour, noChecking, noneChecked, Tracks, Follows, fatesTo};
+ghost use Rattle.keeping.specs.Working.{codeOf, numberOf, Noted, topCode, repeatsCode, between, syncPlace, withinHour, setFate, marked, checking, noneChecked, Follows, Soon, Stepped, lateAt, LateFates, settled, actingWith, fatesTo};
 
 // What steps 1 to 4 come to: the fates by number, those that act in time order, and how many these are.
 pub struct Validation {
     pub fates: [u8; 40],
     pub acts: [validation::Numbered; 40],
     pub acting: usize,
-}
-
-// Step 3 under way: the kept ones, the latest on top, the first `height` places; and the fates by number, 2 where none is settled.
-struct Checking {
-    pub kept: [validation::Numbered; 40],
-    pub height: usize,
-    pub fates: [u8; 40],
 }
 
 // The codes that the steps name.
@@ -39,60 +33,29 @@ const NEVER: u64 = 8589934592;
 // ---- step 3: in time order, against the last kept one
 
 // The fate of a number; a number that no instruction has is passed over.
-fn put_fate(fates: [u8; 40], number: u32, fate: u8) -> [u8; 40]
-    ensures { λ r. ⌜ r ≡ setFate fates number fate ⌝ }
+fn put_fate(fates: &mut [u8; 40], number: u32, fate: u8)
+    requires { ⌜ length (now fates) ≡ 40 ⌝ }
+    ensures { λ r. ⌜ now (fates .exit) ≡ setFate (now (fates .entry)) number fate ⌝ }
 {
     if number == 0 {
-        return fates;
+        return;
     }
     if 40 < number {
-        return fates;
+        return;
     }
     let at = (number - 1) as usize;
-    let mut next = fates;
-    next[at] = fate;
-    next
-}
-
-// With a fate for o.
-fn with_fate(s: Checking, o: validation::Numbered, fate: u8) -> Checking
-    ensures { λ r. ⌜ r ≡ withFate s o fate ⌝ }
-{
-    let kept = s.kept;
-    let before = s.fates;
-    let fates = put_fate(before, o.number, fate);
-    Checking {
-        kept,
-        height: s.height,
-        fates,
-    }
-}
-
-// Nothing kept, nothing settled.
-fn no_checking() -> Checking
-    ensures { λ r. ⌜ r ≡ noChecking ⌝ }
-{
-    let none = choosing::no_one();
-    let kept = [none; 40];
-    let fates = [2u8; 40];
-    Checking {
-        kept,
-        height: 0,
-        fates,
-    }
+    fates[at] = fate;
 }
 
 // The code of the last kept one; 0 where there is none.
-fn last_code(s: Checking) -> u8
-    requires { ⌜ s .height ≤ 40 ⌝ }
-    ensures { λ r. ⌜ r ≡ topCode (s .kept) (s .height) ⌝ }
+fn last_code(codes: &[u8; 40], height: usize) -> u8
+    requires { ⌜ height ≤ 40 ⌝ }
+    ensures { λ r. ⌜ ((ks : List Numbered) → Noted codeOf (now (codes .entry)) ks height → r ≡ topCode ks height) ⌝ }
 {
-    let height = s.height;
     if height == 0 {
         return 0;
     }
-    let last = s.kept[height - 1];
-    choosing::code_of(last)
+    codes[height - 1]
 }
 
 // One of this code repeats the last kept one: SYNC after SYNC, DESY after DESY, TRIP after TRIP.
@@ -112,19 +75,28 @@ fn is_repeat(code: u8, last: u8) -> bool
 }
 
 // How many are kept up to the latest kept SYNC; 0 where there is none.
-fn latest_sync(kept: [validation::Numbered; 40], height: usize) -> usize
+fn latest_sync(codes: &[u8; 40], height: usize) -> usize
     requires { ⌜ height ≤ 40 ⌝ }
-    ensures { λ r. ⌜ (r ≡ syncPlace kept height) × (r ≤ height) ⌝ }
+    ensures { λ r. ⌜ (r ≤ height) × ((ks : List Numbered) → Noted codeOf (now (codes .entry)) ks height → r ≡ syncPlace ks height) ⌝ }
 {
     let mut i = height;
     while 0 < i {
-        let k = kept[i - 1];
-        if choosing::code_of(k) == SYNC {
+        if codes[i - 1] == SYNC {
             return i;
         }
         i -= 1;
     }
     0
+}
+
+// The place before this one; the first has none.
+fn place_before(place: usize) -> usize
+    ensures { λ r. ⌜ r ≡ place - 1 ⌝ }
+{
+    if place == 0 {
+        return 0;
+    }
+    place - 1
 }
 
 // The kept one k is at most an hour before o.
@@ -139,93 +111,82 @@ fn within_hour(k: validation::Numbered, o: validation::Numbered) -> bool
 }
 
 // Fate 4 for those kept from one place on.
-fn void_from(s: Checking, from: usize) -> Checking
-    requires { ⌜ (from ≤ s .height) × (s .height ≤ 40) ⌝ }
-    ensures { λ r. ⌜ r ≡ voided s from (s .height - from) ⌝ }
+fn void_from(numbers: &[u32; 40], from: usize, height: usize, fates: &mut [u8; 40])
+    requires { ⌜ (from ≤ height) × (height ≤ 40) × (length (now fates) ≡ 40) ⌝ }
+    ensures { λ r. ⌜ (length (now (fates .exit)) ≡ 40) × ((ks : List Numbered) → Noted numberOf (now (numbers .entry)) ks height → now (fates .exit) ≡ marked (now (fates .entry)) (map (mark 4) (between ks from (height - from)))) ⌝ }
 {
-    let kept = s.kept;
-    let height = s.height;
-    let mut out = s;
     let mut i = from;
     while i < height {
-        let k = kept[i];
-        out = with_fate(out, k, 4);
+        let number = numbers[i];
+        put_fate(fates, number, 4);
         i += 1;
     }
-    out
 }
 
-// A FAIL: fate 5. Where the latest kept SYNC is within the hour, that SYNC and all kept after it get fate 4 and leave the list.
-fn fail_one(s: Checking, o: validation::Numbered) -> Checking
-    requires { ⌜ s .height ≤ 40 ⌝ }
-    ensures { λ r. ⌜ (r .height ≤ s .height) × Follows s r (λ (m : Checked). failed m o) ⌝ }
+// A FAIL: fate 5. Where the latest kept SYNC, the one before this place, is within the hour, that SYNC and all kept after it get fate 4 and leave the list.
+fn fail_one(
+    numbers: &[u32; 40],
+    height: usize,
+    place: usize,
+    sync: validation::Numbered,
+    o: validation::Numbered,
+    fates: &mut [u8; 40],
+) -> usize
+    requires { ⌜ (place ≤ height) × (height ≤ 40) × (length (now fates) ≡ 40) ⌝ }
+    ensures { λ r. ⌜ (r ≤ height) × (length (now (fates .exit)) ≡ 40) × ((ks : List Numbered) → Noted numberOf (now (numbers .entry)) ks height → place ≡ syncPlace ks height → sync ≡ getD ks (place - 1) noNumbered → Follows (checking ks height (now (fates .entry))) (checking ks r (now (fates .exit))) (λ (m : Checked). failed m o)) ⌝ }
 {
-    let kept = s.kept;
-    let height = s.height;
-    let place = latest_sync(kept, height);
     if place == 0 {
-        return with_fate(s, o, 5);
+        put_fate(fates, o.number, 5);
+        return height;
+    }
+    if !within_hour(sync, o) {
+        put_fate(fates, o.number, 5);
+        return height;
     }
     let below = place - 1;
-    let sync = kept[below];
-    if !within_hour(sync, o) {
-        return with_fate(s, o, 5);
-    }
-    let voided = void_from(s, below);
-    let next = with_fate(voided, o, 5);
-    let fates = next.fates;
-    Checking {
-        kept,
-        height: below,
-        fates,
-    }
+    void_from(numbers, below, height, fates);
+    put_fate(fates, o.number, 5);
+    below
 }
 
-// Step 3 over the first n of those used: each against the code of the last kept one.
-fn check_all(os: [validation::Numbered; 40], n: usize) -> Checking
-    requires { ⌜ n ≤ 40 ⌝ }
-    ensures { λ r. ⌜ (r .height ≤ 40) × Tracks r (check noneChecked (take n os)) ⌝ }
+// Step 3 over those used: each against the code of the last kept one. The kept ones move up to the first places; their numbers and acting times go beside them, and the fates to their numbers.
+fn check_all(
+    used: choosing::Sequence,
+    fates: &mut [u8; 40],
+    numbers: &mut [u32; 40],
+    times: &mut [u64; 40],
+) -> choosing::Sequence
+    requires { ⌜ (used .count ≤ 40) × (now fates ≡ replicate 40 2) × (length (now numbers) ≡ 40) × (length (now times) ≡ 40) ⌝ }
+    ensures { λ r. ⌜ Stepped (r .items) (r .count) (now (fates .exit)) (now (numbers .exit)) (now (times .exit)) (check noneChecked (take (used .count) (used .items))) ⌝ }
 {
-    let mut s = no_checking();
-    let mut last: u8 = 0;
+    let n = used.count;
+    let mut items = used.items;
+    let mut codes = [0u8; 40];
+    let mut count: usize = 0;
     let mut i: usize = 0;
     while i < n {
-        let o = os[i];
+        let o = items[i];
         i += 1;
         let code = choosing::code_of(o);
         if code == FAIL {
-            s = fail_one(s, o);
-            last = last_code(s);
+            let place = latest_sync(&codes, count);
+            let at = place_before(place);
+            let sync = items[at];
+            count = fail_one(numbers, count, place, sync, o, fates);
             continue;
         }
+        let last = last_code(&codes, count);
         if is_repeat(code, last) {
-            let before = s.fates;
-            let fates = put_fate(before, o.number, 3);
-            s.fates = fates;
+            put_fate(fates, o.number, 3);
             continue;
         }
-        let height = s.height;
-        s.kept[height] = o;
-        s.height = height + 1;
-        last = code;
+        items[count] = o;
+        codes[count] = code;
+        numbers[count] = o.number;
+        times[count] = acting_time(o);
+        count += 1;
     }
-    s
-}
-
-// Steps 1 to 3 over the first n.
-fn checked_in(
-    os: [validation::Numbered; 40],
-    times: &[u32; 40],
-    issues: &[u32; 40],
-    n: usize,
-    end: u32,
-) -> Checking
-    requires { ⌜ (n ≤ 40) × Timed (take n os) (take n (now times)) (take n (now issues)) ⌝ }
-    ensures { λ r. ⌜ (r .height ≤ 40) × Tracks r (check noneChecked (used end (take n os))) ⌝ }
-{
-    let s = choosing::used_in(os, times, issues, n, end);
-    let items = s.items;
-    check_all(items, s.count)
+    choosing::Sequence { items, count }
 }
 
 // ---- step 4: by acting time
@@ -274,30 +235,62 @@ fn late_fate(earliest: u64, own: u64, end: u32) -> u8
     first_fate(overtaken, 6, late, 8)
 }
 
-// The fates that step 4 gives the first n of the kept ones, by their places: from the last, with the earliest acting time of those after.
-fn late_fates(kept: [validation::Numbered; 40], n: usize, end: u32) -> [u8; 40]
-    requires { ⌜ n ≤ 40 ⌝ }
-    ensures { λ r. ⌜ LateFates end kept n r ⌝ }
+// The fates that step 4 gives n kept ones that act at these times, by their places: from the last, with the earliest acting time of those after.
+fn late_fates(times: &[u64; 40], n: usize, end: u32) -> [u8; 40]
+    requires { ⌜ (n ≤ 40) × Soon (now times) n ⌝ }
+    ensures { λ r. ⌜ ((ks : List Numbered) → n ≤ length ks → Noted acting (now (times .entry)) ks n → LateFates end ks n r) ⌝ }
 {
     let mut out = [0u8; 40];
     let mut earliest = NEVER;
     let mut i = n;
     while 0 < i {
         i -= 1;
-        let o = kept[i];
-        let own = acting_time(o);
+        let own = times[i];
         out[i] = late_fate(earliest, own, end);
         earliest = least(earliest, own);
     }
     out
 }
 
-// Those that act, in time order, by the fates of step 4.
-fn acts_of(kept: [validation::Numbered; 40], n: usize, late: [u8; 40]) -> choosing::Sequence
+// The fates with those of step 4, of n kept ones with these numbers. "The first step that settles it counts": a fate that is settled stays.
+fn settle_late(numbers: &[u32; 40], n: usize, late: [u8; 40], before: [u8; 40]) -> [u8; 40]
     requires { ⌜ n ≤ 40 ⌝ }
-    ensures { λ r. ⌜ ((end : ℕ) → LateFates end kept n late → r ≡ holding (actors end (take n kept))) ⌝ }
+    ensures { λ r. ⌜ ((end : ℕ) (ks : List Numbered) → n ≤ length ks → Noted numberOf (now (numbers .entry)) ks n → LateFates end ks n late → r ≡ settled before (lateMarks end (take n ks))) ⌝ }
 {
-    let mut out = choosing::empty();
+    let mut out = before;
+    let mut i: usize = 0;
+    while i < n {
+        let number = numbers[i];
+        let fate = late[i];
+        i += 1;
+        if number == 0 {
+            continue;
+        }
+        if 40 < number {
+            continue;
+        }
+        let at = (number - 1) as usize;
+        if out[at] != 2 {
+            continue;
+        }
+        out[at] = fate;
+    }
+    out
+}
+
+// Those of the kept ones that act, in time order, by the fates of step 4; with the fates of all.
+fn acts_of(kept: choosing::Sequence, late: [u8; 40], fates: [u8; 40]) -> Validation
+    requires { ⌜ kept .count ≤ 40 ⌝ }
+    ensures { λ r. ⌜ ((end : ℕ) → LateFates end (kept .items) (kept .count) late → r ≡ actingWith fates (actors end (take (kept .count) (kept .items)))) ⌝ }
+{
+    let n = kept.count;
+    let none = choosing::no_one();
+    let acts = [none; 40];
+    let mut out = Validation {
+        fates,
+        acts,
+        acting: 0,
+    };
     let mut i: usize = 0;
     while i < n {
         let at = i;
@@ -305,41 +298,10 @@ fn acts_of(kept: [validation::Numbered; 40], n: usize, late: [u8; 40]) -> choosi
         if late[at] != 0 {
             continue;
         }
-        let o = kept[at];
-        let k = out.count;
-        out.items[k] = o;
-        out.count = k + 1;
-    }
-    out
-}
-
-// The fates with those of step 4. "The first step that settles it counts": a fate that is settled stays.
-fn settle_late(
-    kept: [validation::Numbered; 40],
-    n: usize,
-    late: [u8; 40],
-    before: [u8; 40],
-) -> [u8; 40]
-    requires { ⌜ n ≤ 40 ⌝ }
-    ensures { λ r. ⌜ ((end : ℕ) → LateFates end kept n late → r ≡ settled before (lateMarks end (take n kept))) ⌝ }
-{
-    let mut out = before;
-    let mut i: usize = 0;
-    while i < n {
-        let o = kept[i];
-        let fate = late[i];
-        i += 1;
-        if o.number == 0 {
-            continue;
-        }
-        if 40 < o.number {
-            continue;
-        }
-        let at = (o.number - 1) as usize;
-        if out[at] != 2 {
-            continue;
-        }
-        out[at] = fate;
+        let o = kept.items[at];
+        let k = out.acting;
+        out.acts[k] = o;
+        out.acting = k + 1;
     }
     out
 }
@@ -380,57 +342,23 @@ fn fates_of(times: &[u32; 40], issues: &[u32; 40], n: usize, later: [u8; 40]) ->
     out
 }
 
-// The instructions with their numbers, from 1 as entered.
-fn number_all(instructions: [records::Instruction; 40], n: usize) -> choosing::Sequence
-    requires { ⌜ n ≤ 40 ⌝ }
-    ensures { λ r. ⌜ r ≡ holding (numbered 1 (take n instructions)) ⌝ }
+// The effective times and the issue times of the first n instructions.
+fn time_all(
+    instructions: [records::Instruction; 40],
+    n: usize,
+    times: &mut [u32; 40],
+    issues: &mut [u32; 40],
+)
+    requires { ⌜ (n ≤ 40) × (n ≤ length (now times)) × (n ≤ length (now issues)) ⌝ }
+    ensures { λ r. ⌜ (n ≤ length (now (times .exit))) × (n ≤ length (now (issues .exit))) × Timed (numbered 1 (take n instructions)) (take n (now (times .exit))) (take n (now (issues .exit))) ⌝ }
 {
-    let mut out = choosing::empty();
     let mut i: usize = 0;
     while i < n {
         let instruction = instructions[i];
-        let number = i as u32 + 1;
-        let o = validation::Numbered {
-            number,
-            instruction,
-        };
-        out.items[i] = o;
-        i += 1;
-        out.count = i;
-    }
-    out
-}
-
-// The effective times of the first n.
-fn times_of(os: [validation::Numbered; 40], n: usize) -> [u32; 40]
-    requires { ⌜ n ≤ 40 ⌝ }
-    ensures { λ r. ⌜ take n r ≡ map effectiveOf (take n os) ⌝ }
-{
-    let mut out = [0u32; 40];
-    let mut i: usize = 0;
-    while i < n {
-        let o = os[i];
-        let instruction = o.instruction;
-        out[i] = instruction.effective;
+        times[i] = instruction.effective;
+        issues[i] = instruction.issue;
         i += 1;
     }
-    out
-}
-
-// The issue times of the first n.
-fn issues_of(os: [validation::Numbered; 40], n: usize) -> [u32; 40]
-    requires { ⌜ n ≤ 40 ⌝ }
-    ensures { λ r. ⌜ take n r ≡ map issueOf (take n os) ⌝ }
-{
-    let mut out = [0u32; 40];
-    let mut i: usize = 0;
-    while i < n {
-        let o = os[i];
-        let instruction = o.instruction;
-        out[i] = instruction.issue;
-        i += 1;
-    }
-    out
 }
 
 // A count above forty reads like forty.
@@ -448,22 +376,18 @@ pub fn validate(instructions: [records::Instruction; 40], count: usize, end: u32
     ensures { λ r. ⌜ r ≡ validationOf instructions count end ⌝ }
 {
     let n = at_most_forty(count);
-    let numbered = number_all(instructions, n);
-    let os = numbered.items;
-    let times = times_of(os, n);
-    let issues = issues_of(os, n);
-    let s = checked_in(os, &times, &issues, n, end);
-    let kept = s.kept;
-    let height = s.height;
-    let late = late_fates(kept, height, end);
-    let before = s.fates;
-    let later = settle_late(kept, height, late, before);
+    let mut times = [0u32; 40];
+    let mut issues = [0u32; 40];
+    time_all(instructions, n, &mut times, &mut issues);
+    let used = choosing::used_in(instructions, &times, &issues, n, end);
+    // fate 2, until a later step settles it
+    let mut marks = [2u8; 40];
+    let mut numbers = [0u32; 40];
+    let mut acting = [0u64; 40];
+    let kept = check_all(used, &mut marks, &mut numbers, &mut acting);
+    let height = kept.count;
+    let late = late_fates(&acting, height, end);
+    let later = settle_late(&numbers, height, late, marks);
     let fates = fates_of(&times, &issues, n, later);
-    let actors = acts_of(kept, height, late);
-    let acts = actors.items;
-    Validation {
-        fates,
-        acts,
-        acting: actors.count,
-    }
+    acts_of(kept, late, fates)
 }

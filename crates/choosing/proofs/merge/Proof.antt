@@ -10,10 +10,7 @@ code-of-requires : tie.Need-code-of-requires
 code-of-requires c κs = search needs
 
 returns : tie.Need-returns
-returns c = merged-other _ _ (λ e. c .if1 .taken (c .before .code-of .ensures ∙ e))
-
-carrier-of-requires : tie.Need-carrier-of-requires
-carrier-of-requires c κs = search needs
+returns c = λ g e. merged-other _ _ (λ q. c .if1 .taken (c .before .code-of .ensures ∙ q))
 
 enum-known-carrier : tie.Need-enum-known-carrier
 enum-known-carrier c = search needs
@@ -26,13 +23,13 @@ enum-told c = search needs
 
 returns-2 : tie.Need-returns-2
 returns-2 c =
-    let s = c .before .before .before .before .before .before .before in
-    ap (λ (o : Numbered). o ∷ []) (c .carry .ensures) ∙ merged-into _ (s .args .highest) (c .before .before .before .before .carrier-of .result) _ (sym (c .before .before .before .before .before .before .code-of .ensures) ∙ c .before .before .before .before .before .if1 .left) (c .before .before .before .before .carrier-of .ensures) (c .before .before .carrier .given .1)
+    let a = c .before .before .before .before .before .before .args in
+    λ g e. ap (λ (o : Numbered). o ∷ []) (c .carry .ensures) ∙ merged-into g (a .highest) (a .carrier) _ (sym (c .before .before .before .before .before .code-of .ensures) ∙ c .before .before .before .before .if1 .left) e (c .before .before .carrier .given .1)
 
 returns-3 : tie.Need-returns-3
 returns-3 c =
-    let s = c .before .before .before .before .before in
-    merged-alone _ (s .args .highest) (c .before .before .carrier-of .result) (sym (c .before .before .before .before .code-of .ensures) ∙ c .before .before .before .if1 .left) (c .before .before .carrier-of .ensures) (c .enum-told .given .1)
+    let a = c .before .before .before .before .args in
+    λ g e. merged-alone g (a .highest) (a .carrier) (sym (c .before .before .before .code-of .ensures) ∙ c .before .before .if1 .left) e (c .enum-told .given .1)
 
 pub merge-spec : {M : Type 1} → statement M
 merge-spec =
@@ -40,7 +37,6 @@ merge-spec =
     (tie.spec
     code-of-requires
     returns
-    carrier-of-requires
     enum-known-carrier
     carry-requires
     enum-told

@@ -1,21 +1,28 @@
 use Prim.Native.Nat.{ℕ, _≤_, _-_, _+_}
 use mathlib.Core.Path.{_≡_, sym, ap, _∙_}
 use mathlib.Core.List.{List, [], _++_}
-use lib.ListN.{take}
+use lib.ListN.{length, take}
 use Rattle.validation.specs.declared.Numbered.{Numbered}
-use Rattle.validation.specs.Kept.{effectiveOf, used, usedFrom, usedOf, group, nextTime}
+use Rattle.validation.specs.Kept.{numbered, effectiveOf, used, usedFrom, usedOf, group, nextTime}
 use Rattle.choosing.specs.Working.{foundList}
-use Rattle.choosing.proofs.Laws.{Begun, begun-none, begun-found, begun-all, joined-count, held, next-is, time-fits, used-stop, used-more, used-zero, used-begins}
+use Rattle.choosing.proofs.Laws.{Begun, begun-none, begun-found, begun-all, joined-count, next-is, time-fits, used-stop, used-more, used-zero, used-begins, as-many, timed-all}
 use native.Mathlib.Omega.{arith}
 use borrow.Author.Needs.{needs}
 use Rattle.choosing.proofs.used_any.Statement.{statement}
 use Rattle.choosing.proofs.used_any.Tie as tie
 
 abbrev Inv-loop : tie.InvT-loop
-Inv-loop os times issues n end out₀ t₀ i₀ out t i = (i ≤ n) × (out .count ≤ i) × Begun out (usedFrom end (take n os) (n - i) t) (used end (take n os))
+Inv-loop instructions times issues n end out₀ t₀ i₀ out t i = (i ≤ n) × (out .count ≤ i) × Begun out (usedFrom end (numbered 1 (take n instructions)) (n - i) t) (used end (numbered 1 (take n instructions)))
 
 abbrev μ-loop : tie.MeasureT-loop
-μ-loop os times issues n end out₀ t₀ i₀ out t i = n - i
+μ-loop instructions times issues n end out₀ t₀ i₀ out t i = n - i
+
+-- as entered, with their numbers
+abbrev numbers : tie.Start Inv-loop μ-loop → List Numbered
+numbers s = numbered 1 (take (s .args .n) (s .args .instructions))
+
+room : (s : tie.Start Inv-loop μ-loop) → s .args .n ≤ length (s .args .instructions)
+room s = omega (arith, s .good .0 .1 .0 .1)
 
 empty-requires : tie.Need-empty-requires Inv-loop μ-loop
 empty-requires c κs = search needs
@@ -23,12 +30,12 @@ empty-requires c κs = search needs
 loop-holds : tie.Need-loop-holds Inv-loop μ-loop
 loop-holds c =
     let s = c .before in
-    (omega arith, rw (c .empty .ensures) (omega arith), rw (c .empty .ensures, used-begins (s .args .end) (s .args .os) (s .args .n) (omega (arith, s .good .0 .1 .0 .1))) (begun-none (used (s .args .end) (take (s .args .n) (s .args .os)))))
+    (omega arith, rw (c .empty .ensures) (omega arith), rw (c .empty .ensures, used-begins (s .args .end) (numbers s) (s .args .n) (as-many (s .args .instructions) (s .args .n) (room s))) (begun-none (used (s .args .end) (numbers s))))
 
 next-time-requires : tie.Need-next-time-requires Inv-loop μ-loop
 next-time-requires c κs =
     let s = c .before .before .before in
-    (omega arith, time-fits effectiveOf (s .args .os) (s .args .times .now) (s .args .n) (s .pre .1 .effective) (omega (arith, s .good .0 .1 .0 .1)))
+    (omega arith, time-fits effectiveOf (numbers s) (s .args .times .now) (s .args .n) (timed-all (s .args .instructions) (s .args .n) (room s) (s .pre .1) .effective) (omega (arith, as-many (s .args .instructions) (s .args .n) (room s))))
 
 returns : tie.Need-returns Inv-loop μ-loop
 returns c =
@@ -36,13 +43,10 @@ returns c =
     let l = c .before .before .before .loop in
     let a = s .args in
     let t = c .before .next-time .ensures ∙ next-is (s .pre .1) (a .end) (l .t) in
-    (begun-all (rw (used-stop (a .end) (take (a .n) (a .os)) (a .n - l .i) (l .t) (omega (arith, t))) at (l .inv .2)), omega arith)
+    (begun-all (rw (used-stop (a .end) (numbers s) (a .n - l .i) (l .t) (omega (arith, t))) at (l .inv .2)), omega arith)
 
-group-at-requires : tie.Need-group-at-requires Inv-loop μ-loop
-group-at-requires c κs = search needs
-
-used-of-requires : tie.Need-used-of-requires Inv-loop μ-loop
-used-of-requires c κs = search needs
+used-at-requires : tie.Need-used-at-requires Inv-loop μ-loop
+used-at-requires c κs = search needs
 
 push-found-requires : tie.Need-push-found-requires Inv-loop μ-loop
 push-found-requires c κs = search needs
@@ -58,14 +62,14 @@ loop-less c = omega arith
 
 loop-again : tie.Need-loop-again Inv-loop μ-loop
 loop-again c =
-    let z = c .before .before .before .before .before .before .before .before .before in
+    let z = c .before .before .before .before .before .before .before in
     let s = z .args in
-    let l = c .before .before .before .before .before .before .before .loop in
-    let os = take (s .n) (s .os) in
-    let next = c .before .before .before .before .before .next-time .result in
-    let t : next ≡ nextTime (s .end) os (l .t) = c .before .before .before .before .before .next-time .ensures ∙ next-is (z .pre .1) (s .end) (l .t) in
-    let u = c .before .used-of .result in
-    let g : foundList u ≡ usedOf (group os next) = c .before .used-of .ensures ∙ ap usedOf (held (c .before .before .before .group-at .ensures .0) (c .before .before .before .group-at .ensures .1)) in
+    let l = c .before .before .before .before .before .loop in
+    let os = numbers z in
+    let next = c .before .before .before .next-time .result in
+    let t : next ≡ nextTime (s .end) os (l .t) = c .before .before .before .next-time .ensures ∙ next-is (z .pre .1) (s .end) (l .t) in
+    let u = c .before .used-at .result in
+    let g : foundList u ≡ usedOf (group os next) = c .before .used-at .ensures in
     let m : s .n - (l .i + 1) ≡ s .n - l .i - 1 = omega arith in
     let q : usedFrom (s .end) os (s .n - l .i) (l .t) ≡ foundList u ++ usedFrom (s .end) os (s .n - (l .i + 1)) (next + 1) =
     used-more (s .end) os (s .n - l .i) (l .t) (omega arith) (omega arith)
@@ -80,7 +84,7 @@ returns-2 c =
     let s = c .before .before .before .args in
     let l = c .before .loop in
     let z : s .n - l .i ≡ 0 = omega arith in
-    let e : usedFrom (s .end) (take (s .n) (s .os)) (s .n - l .i) (l .t) ≡ [] = ap (λ (k : ℕ). usedFrom (s .end) (take (s .n) (s .os)) k (l .t)) z ∙ used-zero (s .end) (take (s .n) (s .os)) (l .t) in
+    let e : usedFrom (s .end) (numbered 1 (take (s .n) (s .instructions))) (s .n - l .i) (l .t) ≡ [] = ap (λ (k : ℕ). usedFrom (s .end) (numbered 1 (take (s .n) (s .instructions))) k (l .t)) z ∙ used-zero (s .end) (numbered 1 (take (s .n) (s .instructions))) (l .t) in
     (begun-all (rw e at (l .inv .2)), omega arith)
 
 pub used-any-spec : {M : Type 1} → statement M
@@ -93,8 +97,7 @@ used-any-spec =
     loop-holds
     next-time-requires
     returns
-    group-at-requires
-    used-of-requires
+    used-at-requires
     push-found-requires
     add-t
     add-i

@@ -1,25 +1,33 @@
-use mathlib.Core.Path.{ap, _∙_}
-use native.Mathlib.Omega.{arith}
-use lib.ListN.{take}
-use Rattle.validation.specs.Kept.{merged}
-use Rattle.choosing.proofs.Laws.{used-empty, used-some}
+use mathlib.Core.Path.{sym, ap, _∙_}
+use Rattle.validation.specs.Kept.{orElse, present}
+use Rattle.choosing.specs.Working.{foundList, earliest}
+use Rattle.choosing.proofs.Laws.{used-best, used-none}
 use borrow.Author.Needs.{needs}
 use Rattle.choosing.proofs.used_of.Statement.{statement}
 use Rattle.choosing.proofs.used_of.Tie as tie
 
-returns : tie.Need-returns
-returns c = used-empty _ _ (c .if1 .taken)
+enum-known-best : tie.Need-enum-known-best
+enum-known-best c = search needs
 
-highest-of-requires : tie.Need-highest-of-requires
-highest-of-requires c κs = search needs
+or-else-requires : tie.Need-or-else-requires
+or-else-requires c κs = search needs
 
 merge-requires : tie.Need-merge-requires
 merge-requires c κs = search needs
 
+enum-told : tie.Need-enum-told
+enum-told c = search needs
+
+returns : tie.Need-returns
+unfolding earliest present
+returns c =
+    λ g p q r. c .merge .ensures g (c .before .or-else .ensures ∙ (λ j. orElse (q j) (r j))) ∙ used-best g _ (sym (ap foundList (c .before .before .before .best .given .1)) ∙ p)
+
 returns-2 : tie.Need-returns-2
 returns-2 c =
-    let s = c .before .before .before in
-    c .merge .ensures ∙ (ap (merged (take (s .args .n) (s .args .g))) (c .before .highest-of .ensures) ∙ used-some (s .args .g) (s .args .n) (omega arith) (omega (arith, s .good .0 .1 .0 .1)))
+    λ g p q r. used-none g (sym (ap foundList (c .enum-told .given .1)) ∙ p)
 
 pub used-of-spec : {M : Type 1} → statement M
-used-of-spec = tie.close (tie.spec returns highest-of-requires merge-requires returns-2)
+used-of-spec =
+    tie.close
+    (tie.spec enum-known-best or-else-requires merge-requires enum-told returns returns-2)

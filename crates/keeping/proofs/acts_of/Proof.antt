@@ -1,11 +1,12 @@
 use Prim.Native.Nat.{ℕ, _≤_, _-_, _+_}
 use mathlib.Core.Path.{_≡_, refl, sym, _∙_}
 use mathlib.Core.List.{_∷_}
-use lib.ListN.{take, drop, getD}
+use lib.ListN.{length, take, drop, getD}
+use Rattle.level.specs.Lists.{filled}
 use Rattle.validation.specs.Kept.{actors}
 use Rattle.choosing.specs.Working.{noNumbered}
 use Rattle.keeping.specs.Working.{LateFates}
-use Rattle.choosing.proofs.Laws.{Begun, left-none, begun-none, begun-store, begun-all}
+use Rattle.choosing.proofs.Laws.{Begun, map-length, left-none, begun-none, begun-store, begun-all}
 use Rattle.keeping.proofs.Steps.{actors-skip, actors-keep, actors-none}
 use native.Mathlib.Omega.{arith}
 use borrow.Author.Needs.{needs}
@@ -13,18 +14,23 @@ use Rattle.keeping.proofs.acts_of.Statement.{statement}
 use Rattle.keeping.proofs.acts_of.Tie as tie
 
 abbrev Inv-loop : tie.InvT-loop
-Inv-loop n kept late out₀ i₀ out i = (i ≤ n) × (out .count ≤ i) × ((end : ℕ) → LateFates end kept n late → Begun out (actors end (drop i (take n kept))) (actors end (take n kept)))
+Inv-loop kept late n out₀ i₀ out i = (i ≤ n) × (out .acting ≤ i) × (out .fates ≡ out₀ .fates) × ((end : ℕ) → LateFates end (kept .items) n late → Begun (record { items = out .acts; count = out .acting }) (actors end (drop i (take n (kept .items)))) (actors end (take n (kept .items))))
 
 abbrev μ-loop : tie.MeasureT-loop
-μ-loop n kept late out₀ i₀ out i = n - i
+μ-loop kept late n out₀ i₀ out i = n - i
 
-empty-requires : tie.Need-empty-requires Inv-loop μ-loop
-empty-requires c κs = search needs
+no-one-requires : tie.Need-no-one-requires Inv-loop μ-loop
+no-one-requires c κs = search needs
+
+-- forty places
+kept-long : (s : tie.Start Inv-loop μ-loop) → length (s .args .t1 .items) ≡ 40
+kept-long s = simp map-length at (s .good .0 .1 .1 .0 .1 .0 .1)
 
 loop-holds : tie.Need-loop-holds Inv-loop μ-loop
+unfolding filled
 loop-holds c =
     let s = c .before .args in
-    (omega arith, rw (c .empty .ensures) (omega arith), λ end f. rw (c .empty .ensures) (begun-none (actors end (take (s .n) (s .t1)))))
+    (omega arith, omega arith, refl, λ end f. rw (c .no-one .ensures) (begun-none (actors end (take (s .t1 .count) (s .t1 .items)))))
 
 add-i : tie.Need-add-i Inv-loop μ-loop
 add-i c = omega arith
@@ -39,13 +45,15 @@ loop-again : tie.Need-loop-again Inv-loop μ-loop
 loop-again c =
     let s = c .before .before .before .before in
     let l = c .before .before .loop in
-    (omega arith, omega arith, λ end f. rw (actors-skip (s .args .t1) (s .args .n) (omega (arith, s .good .0 .1 .0 .1)) end (l .i) (omega arith) (λ q. c .if1 .taken (f (l .i) (omega arith) ∙ q))) at (l .inv .2 end f))
+    let ks = s .args .t1 .items in
+    let n = s .args .t1 .count in
+    (omega arith, omega arith, l .inv .2, λ end f. rw (actors-skip ks n (omega (arith, kept-long s)) end (l .i) (omega arith) (λ q. c .if1 .taken (f (l .i) (omega arith) ∙ q))) at (l .inv .3 end f))
 
 mul-o : tie.Need-mul-o Inv-loop μ-loop
 mul-o c = omega arith
 
-array-copy-out-o : tie.Need-array-copy-out-o Inv-loop μ-loop
-array-copy-out-o c = omega arith
+element-copy-out-o : tie.Need-element-copy-out-o Inv-loop μ-loop
+element-copy-out-o c = omega arith
 
 mul-o-2 : tie.Need-mul-o-2 Inv-loop μ-loop
 mul-o-2 c = omega arith
@@ -63,15 +71,19 @@ loop-again-2 : tie.Need-loop-again-2 Inv-loop μ-loop
 loop-again-2 c =
     let s = c .before .before .before .before .before in
     let l = c .before .before .before .loop in
-    let e : (end : ℕ) → LateFates end (s .args .t1) (s .args .n) (s .args .t3) → actors end (drop (l .i) (take (s .args .n) (s .args .t1))) ≡ getD (s .args .t1) (l .i) noNumbered ∷ actors end (drop (l .i + 1) (take (s .args .n) (s .args .t1))) =
-    λ end f. actors-keep (s .args .t1) (s .args .n) (omega (arith, s .good .0 .1 .0 .1)) end (l .i) (omega arith) (sym (f (l .i) (omega arith)) ∙ c .before .if1 .left) in
-    (omega arith, omega arith, λ end f. begun-store (l .out .count) (getD (s .args .t1) (l .i) noNumbered) refl (omega arith) (rw (e end f) at (l .inv .2 end f)))
+    let ks = s .args .t1 .items in
+    let n = s .args .t1 .count in
+    let o = getD ks (l .i) noNumbered in
+    let e : (end : ℕ) → LateFates end ks n (s .args .t2) → actors end (drop (l .i) (take n ks)) ≡ o ∷ actors end (drop (l .i + 1) (take n ks)) =
+    λ end f. actors-keep ks n (omega (arith, kept-long s)) end (l .i) (omega arith) (sym (f (l .i) (omega arith)) ∙ c .before .if1 .left) in
+    (omega arith, omega arith, l .inv .2, λ end f. begun-store (l .out .acting) o refl (omega arith) (rw (e end f) at (l .inv .3 end f)))
 
 returns : tie.Need-returns Inv-loop μ-loop
 returns c =
     let s = c .before .before .before in
     let l = c .before .loop in
-    λ end f. begun-all (rw (actors-none end (left-none (s .args .t1) (s .args .n) (l .i) (omega arith))) at (l .inv .2 end f))
+    λ end f. let e = begun-all (rw (actors-none end (left-none (s .args .t1 .items) (s .args .t1 .count) (l .i) (omega arith))) at (l .inv .3 end f)) in
+    λ j. record { fates = l .inv .2 j; acts = e j .items; acting = e j .count }
 
 pub acts-of-spec : {M : Type 1} → statement M
 acts-of-spec =
@@ -79,14 +91,14 @@ acts-of-spec =
     (tie.spec
     Inv-loop
     μ-loop
-    empty-requires
+    no-one-requires
     loop-holds
     add-i
     array-read-if1
     loop-less
     loop-again
     mul-o
-    array-copy-out-o
+    element-copy-out-o
     mul-o-2
     element-set-from-o
     add-out

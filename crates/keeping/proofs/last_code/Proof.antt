@@ -6,23 +6,16 @@ use Rattle.keeping.proofs.last_code.Statement.{statement}
 use Rattle.keeping.proofs.last_code.Tie as tie
 
 returns : tie.Need-returns
-returns c = code-none _ _ (c .if1 .taken)
+returns c = λ ks e. code-none _ _ (c .if1 .taken)
 
-sub-last : tie.Need-sub-last
-sub-last c = search needs
+sub-result : tie.Need-sub-result
+sub-result c = search needs
 
-mul-last : tie.Need-mul-last
-mul-last c = search needs
-
-element-copy-out-last : tie.Need-element-copy-out-last
-element-copy-out-last c = search needs
-
-code-of-requires : tie.Need-code-of-requires
-code-of-requires c κs = search needs
+element-copy-out-result : tie.Need-element-copy-out-result
+element-copy-out-result c = search needs
 
 returns-2 : tie.Need-returns-2
-returns-2 c = c .code-of .ensures ∙ code-top _ _ (omega arith)
+returns-2 c = λ ks e. e _ (omega arith) ∙ code-top _ _ (omega arith)
 
 pub last-code-spec : {M : Type 1} → statement M
-last-code-spec =
-    tie.close (tie.spec returns sub-last mul-last element-copy-out-last code-of-requires returns-2)
+last-code-spec = tie.close (tie.spec returns sub-result element-copy-out-result returns-2)

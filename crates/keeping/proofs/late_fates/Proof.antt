@@ -4,9 +4,10 @@ use mathlib.Core.List.{List}
 use native.Mathlib.Decide.{ℕ-discrete}
 use lib.ListN.{length, take, drop, getD, set, length-set}
 use lib.Seq.{getD-set-same, getD-set-other}
-use Rattle.validation.specs.Kept.{lateFate}
+use Rattle.validation.specs.declared.Numbered.{Numbered}
+use Rattle.validation.specs.Kept.{acting, lateFate}
 use Rattle.choosing.specs.Working.{noNumbered}
-use Rattle.keeping.specs.Working.{earliestActing}
+use Rattle.keeping.specs.Working.{Noted, earliestActing}
 use Rattle.choosing.proofs.Laws.{left-none}
 use Rattle.keeping.proofs.Steps.{acting-none, acting-more, late-is}
 use native.Mathlib.Omega.{arith}
@@ -15,27 +16,24 @@ use Rattle.keeping.proofs.late_fates.Statement.{statement}
 use Rattle.keeping.proofs.late_fates.Tie as tie
 
 abbrev Inv-loop : tie.InvT-loop
-Inv-loop n end kept out₀ earliest₀ i₀ out earliest i = (i ≤ n) × (length out ≡ 40) × (earliest ≡ earliestActing (drop i (take n kept))) × ((j : ℕ) → i ≤ j → j < n → getD out j 0 ≡ lateFate end (getD kept j noNumbered) (drop (j + 1) (take n kept)))
+Inv-loop times n end out₀ earliest₀ i₀ out earliest i = (i ≤ n) × (length out ≡ 40) × ((ks : List Numbered) → n ≤ length ks → Noted acting times ks n → (earliest ≡ earliestActing (drop i (take n ks))) × ((j : ℕ) → i ≤ j → j < n → getD out j 0 ≡ lateFate end (getD ks j noNumbered) (drop (j + 1) (take n ks))))
 
 abbrev μ-loop : tie.MeasureT-loop
-μ-loop n end kept out₀ earliest₀ i₀ out earliest i = i
+μ-loop times n end out₀ earliest₀ i₀ out earliest i = i
 
 loop-holds : tie.Need-loop-holds Inv-loop μ-loop
 loop-holds c =
     let a = c .args in
-    (omega arith, refl, sym (acting-none (left-none (a .t1) (a .n) (a .n) (omega arith))), λ j p q. absurd (omega arith))
+    (omega arith, refl, λ ks g t. (sym (acting-none (left-none ks (a .n) (a .n) (omega arith))), λ j p q. absurd (omega arith)))
 
 sub-i : tie.Need-sub-i Inv-loop μ-loop
 sub-i c = omega arith
 
-mul-o : tie.Need-mul-o Inv-loop μ-loop
-mul-o c = omega arith
+mul-own : tie.Need-mul-own Inv-loop μ-loop
+mul-own c = omega arith
 
-array-copy-out-o : tie.Need-array-copy-out-o Inv-loop μ-loop
-array-copy-out-o c = omega arith
-
-acting-time-requires : tie.Need-acting-time-requires Inv-loop μ-loop
-acting-time-requires c κs = search needs
+element-copy-out-own : tie.Need-element-copy-out-own Inv-loop μ-loop
+element-copy-out-own c = omega arith
 
 late-fate-requires : tie.Need-late-fate-requires Inv-loop μ-loop
 late-fate-requires c κs = search needs
@@ -58,24 +56,27 @@ set-at fates i v at h e j r = elim (ℕ-discrete j i) [
 
 loop-again : tie.Need-loop-again Inv-loop μ-loop
 loop-again c =
-    let s = c .before .before .before .before .before .before in
-    let l = c .before .before .before .before .before .loop in
-    let ks = s .args .t1 in
+    let s = c .before .before .before .before .before in
+    let l = c .before .before .before .before .loop in
     let n = s .args .n in
     let end = s .args .end in
     let i : ℕ = l .i - 1 in
     let e : i + 1 ≡ l .i = omega arith in
-    let own = c .before .before .acting-time in
-    let g : n ≤ length ks = omega (arith, s .good .0 .1 .0 .1) in
-    let k : l .earliest ≡ earliestActing (drop (i + 1) (take n ks)) = rw e (l .inv .2) in
-    let m : c .least .result ≡ earliestActing (drop i (take n ks)) = c .least .ensures ∙ ((λ q. min (k q) (own .ensures .0 q)) ∙ acting-more ks n g i (omega arith)) in
-    let f : c .before .late-fate .result ≡ lateFate end (getD ks i noNumbered) (drop (i + 1) (take n ks)) = c .before .late-fate .ensures ∙ late-is end (own .result) (l .earliest) (getD ks i noNumbered) (drop (i + 1) (take n ks)) (own .ensures .0) (own .ensures .1) k in
-    (omega arith, length-set (l .out) i _ ∙ l .inv .1, m, λ j p q. set-at (l .out) i _ (λ (x : ℕ). lateFate end (getD ks x noNumbered) (drop (x + 1) (take n ks))) (omega arith) f j (λ ne. l .inv .3 j (omega arith) q))
+    let own = getD (s .args .times .now) i 0 in
+    let k : (ks : List Numbered) → n ≤ length ks → Noted acting (s .args .times .now) ks n → l .earliest ≡ earliestActing (drop (i + 1) (take n ks)) = λ ks g t. rw e (l .inv .2 ks g t .0) in
+    let m : (ks : List Numbered) → n ≤ length ks → Noted acting (s .args .times .now) ks n → c .least .result ≡ earliestActing (drop i (take n ks)) =
+    λ ks g t. c .least .ensures ∙ ((λ q. min (k ks g t q) (t i (omega arith) q)) ∙ acting-more ks n g i (omega arith)) in
+    let f : (ks : List Numbered) → n ≤ length ks → Noted acting (s .args .times .now) ks n → c .before .late-fate .result ≡ lateFate end (getD ks i noNumbered) (drop (i + 1) (take n ks)) =
+    λ ks g t. c .before .late-fate .ensures ∙ late-is end own (l .earliest) (getD ks i noNumbered) (drop (i + 1) (take n ks)) (t i (omega arith)) (s .pre .1 i (omega arith)) (k ks g t) in (
+      omega arith,
+      length-set (l .out) i _ ∙ l .inv .1,
+      λ ks g t. (m ks g t, λ j p q. set-at (l .out) i _ (λ (x : ℕ). lateFate end (getD ks x noNumbered) (drop (x + 1) (take n ks))) (omega arith) (f ks g t) j (λ ne. l .inv .2 ks g t .1 j (omega arith) q)),
+    )
 
 returns : tie.Need-returns Inv-loop μ-loop
 returns c =
     let l = c .before .loop in
-    λ j h. l .inv .3 j (omega arith) h
+    λ ks g t j h. l .inv .2 ks g t .1 j (omega arith) h
 
 pub late-fates-spec : {M : Type 1} → statement M
 late-fates-spec =
@@ -85,9 +86,8 @@ late-fates-spec =
     μ-loop
     loop-holds
     sub-i
-    mul-o
-    array-copy-out-o
-    acting-time-requires
+    mul-own
+    element-copy-out-own
     late-fate-requires
     array-write-out
     least-requires

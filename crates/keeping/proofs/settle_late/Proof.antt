@@ -1,10 +1,10 @@
 use Prim.Native.Nat.{ℕ, _≤_, _-_, _+_}
-use mathlib.Core.Path.{_≡_, refl, sym, _∙_}
+use mathlib.Core.Path.{_≡_, refl, sym, ap, _∙_}
 use mathlib.Core.List.{List}
 use lib.ListN.{length, take, drop, getD, length-set}
+use Rattle.validation.specs.declared.Numbered.{Numbered}
 use Rattle.validation.specs.Kept.{lateMarks}
-use Rattle.choosing.specs.Working.{noNumbered}
-use Rattle.keeping.specs.Working.{settleFate, settled, LateFates}
+use Rattle.keeping.specs.Working.{numberOf, Noted, settleFate, settled, LateFates}
 use Rattle.choosing.proofs.Laws.{left-none}
 use Rattle.keeping.proofs.Steps.{settle-zero, settle-large, settle-done, settle-some, settled-more, settled-none}
 use native.Mathlib.Omega.{arith}
@@ -12,19 +12,19 @@ use Rattle.keeping.proofs.settle_late.Statement.{statement}
 use Rattle.keeping.proofs.settle_late.Tie as tie
 
 abbrev Inv-loop : tie.InvT-loop
-Inv-loop n kept late out₀ i₀ out i = (i ≤ n) × (length out ≡ 40) × ((end : ℕ) → LateFates end kept n late → settled out (lateMarks end (drop i (take n kept))) ≡ settled out₀ (lateMarks end (take n kept)))
+Inv-loop numbers n late out₀ i₀ out i = (i ≤ n) × (length out ≡ 40) × ((end : ℕ) (ks : List Numbered) → n ≤ length ks → Noted numberOf numbers ks n → LateFates end ks n late → settled out (lateMarks end (drop i (take n ks))) ≡ settled out₀ (lateMarks end (take n ks)))
 
 abbrev μ-loop : tie.MeasureT-loop
-μ-loop n kept late out₀ i₀ out i = n - i
+μ-loop numbers n late out₀ i₀ out i = n - i
 
 loop-holds : tie.Need-loop-holds Inv-loop μ-loop
-loop-holds c = (omega arith, omega (arith, c .good .1 .1 .1 .0 .1 .0 .1), λ end f. refl)
+loop-holds c = (omega arith, omega (arith, c .good .1 .1 .1 .0 .1 .0 .1), λ end ks g k f. refl)
 
-mul-o : tie.Need-mul-o Inv-loop μ-loop
-mul-o c = omega arith
+mul-number : tie.Need-mul-number Inv-loop μ-loop
+mul-number c = omega arith
 
-array-copy-out-o : tie.Need-array-copy-out-o Inv-loop μ-loop
-array-copy-out-o c = omega arith
+element-copy-out-number : tie.Need-element-copy-out-number Inv-loop μ-loop
+element-copy-out-number c = omega arith
 
 array-read-fate : tie.Need-array-read-fate Inv-loop μ-loop
 array-read-fate c = omega arith
@@ -36,25 +36,25 @@ loop-less : tie.Need-loop-less Inv-loop μ-loop
 loop-less c = omega arith
 
 -- the one at the place i has its fate
-more : (x : tie.In-loop Inv-loop μ-loop) (next : List ℕ) → next ≡ settleFate (x .before .loop .out) (getD (x .before .before .args .t1) (x .before .loop .i) noNumbered .number) (getD (x .before .before .args .t3) (x .before .loop .i) 0) →
-    (end : ℕ) → LateFates end (x .before .before .args .t1) (x .before .before .args .n) (x .before .before .args .t3) →
-    settled next (lateMarks end (drop (x .before .loop .i + 1) (take (x .before .before .args .n) (x .before .before .args .t1)))) ≡ settled (x .before .before .args .before) (lateMarks end (take (x .before .before .args .n) (x .before .before .args .t1)))
-more x next q end f =
+more : (x : tie.In-loop Inv-loop μ-loop) (next : List ℕ) → next ≡ settleFate (x .before .loop .out) (getD (x .before .before .args .numbers .now) (x .before .loop .i) 0) (getD (x .before .before .args .t3) (x .before .loop .i) 0) →
+    (end : ℕ) (ks : List Numbered) → x .before .before .args .n ≤ length ks → Noted numberOf (x .before .before .args .numbers .now) ks (x .before .before .args .n) → LateFates end ks (x .before .before .args .n) (x .before .before .args .t3) →
+    settled next (lateMarks end (drop (x .before .loop .i + 1) (take (x .before .before .args .n) ks))) ≡ settled (x .before .before .args .before) (lateMarks end (take (x .before .before .args .n) ks))
+more x next q end ks g k f =
     let s = x .before .before in
     let l = x .before .loop in
     let fate = getD (s .args .t3) (l .i) 0 in
-    settled-more (s .args .t1) (s .args .n) (omega (arith, s .good .0 .1 .0 .1)) end (l .i) (l .out) next fate (omega arith) (f (l .i) (omega arith)) q ∙ l .inv .2 end f
+    settled-more ks (s .args .n) g end (l .i) (l .out) next fate (omega arith) (f (l .i) (omega arith)) (q ∙ ap (λ (j : ℕ). settleFate (l .out) j fate) (k (l .i) (omega arith))) ∙ l .inv .2 end ks g k f
 
 loop-again : tie.Need-loop-again Inv-loop μ-loop
 loop-again c =
-    (omega arith, c .before .before .before .before .loop .inv .1, more (c .before .before .before) _ (settle-zero _ _ _ (c .if1 .taken)))
+    (omega arith, c .before .before .before .loop .inv .1, more (c .before .before) _ (settle-zero _ _ _ (c .if1 .taken)))
 
 loop-less-2 : tie.Need-loop-less-2 Inv-loop μ-loop
 loop-less-2 c = omega arith
 
 loop-again-2 : tie.Need-loop-again-2 Inv-loop μ-loop
 loop-again-2 c =
-    (omega arith, c .before .before .before .before .before .before .loop .inv .1, more (c .before .before .before .before .before) _ (settle-large _ _ _ (c .before .before .before .before .before .before .loop .inv .1) (c .if2 .taken)))
+    (omega arith, c .before .before .before .before .loop .inv .1, more (c .before .before .before) _ (settle-large _ _ _ (c .before .before .before .before .loop .inv .1) (c .if2 .taken)))
 
 sub-at : tie.Need-sub-at Inv-loop μ-loop
 sub-at c = omega arith
@@ -70,7 +70,7 @@ loop-less-3 c = omega arith
 
 loop-again-3 : tie.Need-loop-again-3 Inv-loop μ-loop
 loop-again-3 c =
-    (omega arith, c .before .before .before .before .before .before .before .before .loop .inv .1, more (c .before .before .before .before .before .before .before) _ (settle-done _ _ _ (omega arith) (c .if3 .taken)))
+    (omega arith, c .before .before .before .before .before .loop .inv .1, more (c .before .before .before .before) _ (settle-done _ _ _ (omega arith) (c .if3 .taken)))
 
 array-write-out : tie.Need-array-write-out Inv-loop μ-loop
 array-write-out c = omega arith
@@ -80,14 +80,14 @@ loop-less-4 c = omega arith
 
 loop-again-4 : tie.Need-loop-again-4 Inv-loop μ-loop
 loop-again-4 c =
-    let l = c .before .before .before .before .before .before .before .before .loop in
-    (omega arith, length-set (l .out) _ _ ∙ l .inv .1, more (c .before .before .before .before .before .before .before) _ (settle-some _ _ _ (omega arith) (c .if3 .left)))
+    let l = c .before .before .before .before .before .loop in
+    (omega arith, length-set (l .out) _ _ ∙ l .inv .1, more (c .before .before .before .before) _ (settle-some _ _ _ (omega arith) (c .if3 .left)))
 
 returns : tie.Need-returns Inv-loop μ-loop
 returns c =
     let s = c .before .before in
     let l = c .before .loop in
-    λ end f. sym (settled-none end (l .out) (left-none (s .args .t1) (s .args .n) (l .i) (omega arith))) ∙ l .inv .2 end f
+    λ end ks g k f. sym (settled-none end (l .out) (left-none ks (s .args .n) (l .i) (omega arith))) ∙ l .inv .2 end ks g k f
 
 pub settle-late-spec : {M : Type 1} → statement M
 settle-late-spec =
@@ -96,8 +96,8 @@ settle-late-spec =
     Inv-loop
     μ-loop
     loop-holds
-    mul-o
-    array-copy-out-o
+    mul-number
+    element-copy-out-number
     array-read-fate
     add-i
     loop-less

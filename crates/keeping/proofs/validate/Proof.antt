@@ -1,13 +1,13 @@
 use mathlib.Core.Path.{_≡_, ap, _∙_}
 use mathlib.Core.List.{List}
-use Prim.Native.Nat.{ℕ}
+use Prim.Native.Nat.{ℕ, _≤_}
 use native.Mathlib.Omega.{arith}
 use lib.ListN.{length, take}
 use Rattle.level.specs.Lists.{filled}
-use Rattle.choosing.specs.Working.{Timed}
-use Rattle.keeping.specs.Working.{fatesTo}
+use Rattle.validation.specs.Kept.{actors}
+use Rattle.keeping.specs.Working.{checking, fatesTo, actingWith}
 use Rattle.choosing.proofs.Laws.{map-length}
-use Rattle.keeping.proofs.Whole.{result, validation-is}
+use Rattle.keeping.proofs.Whole.{validation-is}
 use borrow.Author.Needs.{needs}
 use Rattle.keeping.proofs.validate.Statement.{statement}
 use Rattle.keeping.proofs.validate.Tie as tie
@@ -15,17 +15,14 @@ use Rattle.keeping.proofs.validate.Tie as tie
 at-most-forty-requires : tie.Need-at-most-forty-requires
 at-most-forty-requires c κs = search needs
 
-number-all-requires : tie.Need-number-all-requires
-number-all-requires c κs = search needs
+time-all-requires : tie.Need-time-all-requires
+time-all-requires c κs = search needs
 
-times-of-requires : tie.Need-times-of-requires
-times-of-requires c κs = search needs
+used-in-requires : tie.Need-used-in-requires
+used-in-requires c κs = search needs
 
-issues-of-requires : tie.Need-issues-of-requires
-issues-of-requires c κs = search needs
-
-checked-in-requires : tie.Need-checked-in-requires
-checked-in-requires c κs = search needs
+check-all-requires : tie.Need-check-all-requires
+check-all-requires c κs = search needs
 
 late-fates-requires : tie.Need-late-fates-requires
 late-fates-requires c κs = search needs
@@ -41,31 +38,33 @@ acts-of-requires c κs = search needs
 
 returns : tie.Need-returns
 returns c =
-    let a = c .before .before .before .before .before .before .before .before .before .before .before .before .before .before .before .before .before in
+    let a = c .before .before .before .before .before .before .before .before .before .before .before .before .before .before .before .before .before .before .before in
     let end = a .args .end in
-    let n = c .before .before .before .before .before .before .before .before .before .before .before .before .before .before .before .before .at-most-forty .result in
-    let q = c .before .before .before .before .before .before .before .before .before .before .before .before .before .before .before .number-all in
-    let times = take n (c .before .before .before .before .before .before .before .before .before .before .before .before .before .times-of .result) in
-    let issues = take n (c .before .before .before .before .before .before .before .before .before .before .before .before .issues-of .result) in
-    let timed : Timed (take n (q .result .items)) times issues = record { effective = c .before .before .before .before .before .before .before .before .before .before .before .before .before .times-of .ensures; issued = c .before .before .before .before .before .before .before .before .before .before .before .before .issues-of .ensures } in
-    let s = c .before .before .before .before .before .before .before .before .before .checked-in in
-    let late = c .before .before .before .before .before .before .before .late-fates .ensures in
-    let g : length (s .result .kept) ≡ 40 = simp map-length at (s .ok .1 .1 .0 .1 .0 .1) in
-    let f = c .before .before .fates-of .ensures ∙ ap (λ (l : List ℕ). filled 40 0 (fatesTo times issues l n)) (c .before .before .before .before .before .settle-late .ensures end late) in
-    let t = c .before .acts-of .ensures end late in
-    let e : record { fates = c .before .before .fates-of .result; acts = c .before .acts-of .result .items; acting = c .before .acts-of .result .count } ≡ result end times issues (s .result) n =
-    λ j. record { fates = f j; acts = t j .items; acting = t j .count } in
-    e ∙ validation-is (a .args .instructions) (a .args .count) end n (a .good .0 .1 .0 .1) (c .before .before .before .before .before .before .before .before .before .before .before .before .before .before .before .before .at-most-forty .ensures) (q .result) (q .ensures) times issues timed (s .result) (s .ensures .1) (omega (arith, s .ensures .0))
+    let n = c .before .before .before .before .before .before .before .before .before .before .before .before .before .before .before .before .before .before .at-most-forty in
+    let q = c .before .before .before .before .before .before .before .before .before .before .before .before .before .before .before .time-all in
+    let times = q .last .1 .1 .0 in
+    let issues = q .last .1 .1 .1 .0 in
+    let u = c .before .before .before .before .before .before .before .before .before .before .before .before .used-in in
+    let k = c .before .before .before .before .before .before .before .before .check-all in
+    let kept = k .result in
+    let step = k .ensures in
+    let g : length (kept .items) ≡ 40 = simp map-length at (k .ok .1 .1 .0 .1 .0 .1) in
+    let fits : kept .count ≤ length (kept .items) = omega (arith, step .few) in
+    let late = c .before .before .before .before .before .before .late-fates .ensures (kept .items) fits (step .timed) in
+    let later = c .before .before .before .before .settle-late .ensures end (kept .items) fits (step .named) late in
+    let f = c .before .fates-of .ensures ∙ ap (λ (l : List ℕ). filled 40 0 (fatesTo (take (n .result) times) (take (n .result) issues) l (n .result))) later in
+    c .acts-of .ensures end late
+    ∙ (ap (λ (l : List ℕ). actingWith l (actors end (take (kept .count) (kept .items)))) f
+    ∙ validation-is (a .args .instructions) (a .args .count) end (n .result) (a .good .0 .1 .0 .1) (n .ensures) (take (n .result) times) (take (n .result) issues) (q .ensures .2) (u .result) (u .ensures .0) (u .ensures .1) (checking (kept .items) (kept .count) (k .last .1 .0)) (step .tracks) fits)
 
 pub validate-spec : {M : Type 1} → statement M
 validate-spec =
     tie.close
     (tie.spec
     at-most-forty-requires
-    number-all-requires
-    times-of-requires
-    issues-of-requires
-    checked-in-requires
+    time-all-requires
+    used-in-requires
+    check-all-requires
     late-fates-requires
     settle-late-requires
     fates-of-requires

@@ -1,35 +1,36 @@
 use mathlib.Core.Path.{_≡_, sym, ap, _∙_}
+use mathlib.Core.List.{List, map}
 use native.Mathlib.Omega.{arith}
 use Prim.Native.Nat.{ℕ, suc, _≤_, _-_, _+_}
-use lib.ListN.{getD}
+use lib.ListN.{length, getD}
+use Rattle.validation.specs.declared.Numbered.{Numbered}
+use Rattle.validation.specs.Kept.{mark}
+use Rattle.keeping.specs.Working.{numberOf, Noted, setFate, marked, between}
+use Rattle.keeping.proofs.Steps.{set-length, voided-more, voided-none}
 use borrow.Author.Needs.{needs}
-use Rattle.choosing.specs.Working.{noNumbered}
-use Rattle.keeping.specs.Working.{withFate, voided}
-use Rattle.keeping.specs.declared.Checking.{Checking}
-use Rattle.keeping.proofs.Steps.{voided-more, voided-none}
 use Rattle.keeping.proofs.void_from.Statement.{statement}
 use Rattle.keeping.proofs.void_from.Tie as tie
 
 abbrev Inv-loop : tie.InvT-loop
-Inv-loop from kept height out₀ i₀ out i = (from ≤ i) × (i ≤ height) × (out ≡ voided out₀ from (i - from))
+Inv-loop numbers from height fates₀ i₀ fates i = (from ≤ i) × (i ≤ height) × (length fates ≡ 40) × ((ks : List Numbered) → Noted numberOf numbers ks height → fates ≡ marked fates₀ (map (mark 4) (between ks from (i - from))))
 
 abbrev μ-loop : tie.MeasureT-loop
-μ-loop from kept height out₀ i₀ out i = height - i
+μ-loop numbers from height fates₀ i₀ fates i = height - i
 
 loop-holds : tie.Need-loop-holds Inv-loop μ-loop
 loop-holds c =
-    let a = c .before .args in
-    let e : a .from - a .from ≡ 0 = omega arith in
-    (omega arith, omega arith, sym (ap (voided (a .s) (a .from)) e ∙ voided-none (a .s) (a .from)))
+    let a = c .args in
+    let z : a .from - a .from ≡ 0 = omega arith in
+    (omega arith, omega arith, omega arith, λ ks e. sym (ap (λ (k : ℕ). marked (a .fates .now) (map (mark 4) (between ks (a .from) k))) z ∙ voided-none (a .fates .now) ks (a .from)))
 
-mul-k : tie.Need-mul-k Inv-loop μ-loop
-mul-k c = omega arith
+mul-number : tie.Need-mul-number Inv-loop μ-loop
+mul-number c = omega arith
 
-array-copy-out-k : tie.Need-array-copy-out-k Inv-loop μ-loop
-array-copy-out-k c = omega arith
+element-copy-out-number : tie.Need-element-copy-out-number Inv-loop μ-loop
+element-copy-out-number c = omega arith
 
-with-fate-requires : tie.Need-with-fate-requires Inv-loop μ-loop
-with-fate-requires c κs = search needs
+put-fate-requires : tie.Need-put-fate-requires Inv-loop μ-loop
+put-fate-requires c κs = search needs
 
 add-i : tie.Need-add-i Inv-loop μ-loop
 add-i c = omega arith
@@ -40,17 +41,25 @@ loop-less c = omega arith
 loop-again : tie.Need-loop-again Inv-loop μ-loop
 loop-again c =
     let a = c .before .before .before .before .before .args in
-    let l = c .before .before .before .loop in
-    let e : l .i + 1 - a .from ≡ suc (l .i - a .from) = omega arith in
-    let f : a .from + (l .i - a .from) ≡ l .i = omega arith in
-    (omega arith, omega arith, c .with-fate .ensures ∙ (ap (λ (q : Checking). withFate q (getD (a .s .kept) (l .i) noNumbered) 4) (l .inv .2) ∙ (rw f at (voided-more (a .s) (a .from) (l .i - a .from)) ∙ ap (voided (a .s) (a .from)) (sym e))))
+    let l = c .before .before .before .before .loop in
+    let number = getD (a .numbers .now) (l .i) 0 in
+    let p = c .put-fate .ensures in
+    let d : ℕ = l .i - a .from in
+    let q : l .i + 1 - a .from ≡ suc d = omega arith in
+    let f : a .from + d ≡ l .i = omega arith in (
+      omega arith,
+      omega arith,
+      ap length p ∙ (set-length (l .fates) number 4 ∙ l .inv .2),
+      λ ks e. p ∙ ((λ j. setFate (l .inv .3 ks e j) (e (l .i) (omega arith) j) 4)
+          ∙ (rw f at (voided-more (a .fates .now) ks (a .from) d) ∙ ap (λ (k : ℕ). marked (a .fates .now) (map (mark 4) (between ks (a .from) k))) (sym q))),
+    )
 
 returns : tie.Need-returns Inv-loop μ-loop
 returns c =
-    let a = c .before .before .before .args in
+    let a = c .before .before .args in
     let l = c .before .loop in
-    let e : l .i ≡ a .s .height = omega arith in
-    l .inv .2 ∙ ap (λ (k : ℕ). voided (a .s) (a .from) (k - a .from)) e
+    let z : l .i ≡ a .height = omega arith in
+    (l .inv .2, λ ks e. l .inv .3 ks e ∙ ap (λ (k : ℕ). marked (a .fates .now) (map (mark 4) (between ks (a .from) (k - a .from)))) z)
 
 pub void-from-spec : {M : Type 1} → statement M
 void-from-spec =
@@ -59,9 +68,9 @@ void-from-spec =
     Inv-loop
     μ-loop
     loop-holds
-    mul-k
-    array-copy-out-k
-    with-fate-requires
+    mul-number
+    element-copy-out-number
+    put-fate-requires
     add-i
     loop-less
     loop-again
