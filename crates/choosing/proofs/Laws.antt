@@ -7,11 +7,12 @@ use Prim.Native.Nat.{ℕ, zero, suc, _+_, _-_, _≤_, _<_, min}
 use native.Mathlib.Numerals.{add-one}
 use native.Mathlib.Omega.{arith}
 use lib.Dec.{leb, ltb, eqb}
-use lib.ListN.{length, take, drop, getD, set, replicate, length-take, length-append, length-replicate, replicate-append-replicate, drop-of-length-le}
-use lib.Seq.{drop-cons, getD-take, length-take-le, take-all, take-take, take-append-seam, take-append-le, take-set-lt, set-append-seam}
+use lib.ListN.{length, take, drop, getD, set, replicate, length-take, length-append, length-replicate, replicate-append-replicate}
+use lib.Seq.{getD-take, length-take-le, take-all, take-take, take-append-seam, take-append-le, take-set-lt, set-append-seam}
 use borrow.Author.Tests.{lt-ltb, le-ltb, le-leb, lt-leb, eq-eqb, ne-eqb}
 use Rattle.level.specs.Choice.{pick}
 use Rattle.level.specs.Lists.{some, those, filled}
+use Rattle.level.proofs.Lists.{left-cons}
 use Rattle.records.specs.declared.Effect.the-variants.{Sync, Desy}
 use Rattle.records.specs.Codes.{codeNumber}
 use Rattle.validation.specs.declared.Numbered.{Numbered}
@@ -29,21 +30,13 @@ map-length f (x ∷ xs) = ap suc (map-length f xs)
 
 -- ---- what is left of the first n places, from the place i on
 module _ {A : Type 0} (xs : List A) (n : ℕ) where
-  pub left-cons : (i : ℕ) (d : A) → i < n → n ≤ length xs → drop i (take n xs) ≡ getD xs i d ∷ drop (i + 1) (take n xs)
-  left-cons i d h k =
-      let l : i < length (take n xs) = omega (arith, length-take-le n xs k) in
-      rw (add-one, drop-cons (take n xs) i d l, getD-take n xs i d h)
-
-  pub left-none : (i : ℕ) → n ≤ i → drop i (take n xs) ≡ []
-  left-none i h = drop-of-length-le (take n xs) {i = i} (omega (arith, length-take n xs))
-
   pub those-skip : (f : A → Bool) (i : ℕ) (d : A) → i < n → n ≤ length xs → f (getD xs i d) ≡ false → those f (drop i (take n xs)) ≡ those f (drop (i + 1) (take n xs))
   unfolding those
-  those-skip f i d h k e = rw (left-cons i d h k, e)
+  those-skip f i d h k e = rw (left-cons xs n i d h k, e)
 
   pub those-keep : (f : A → Bool) (i : ℕ) (d : A) → i < n → n ≤ length xs → f (getD xs i d) ≡ true → those f (drop i (take n xs)) ≡ getD xs i d ∷ those f (drop (i + 1) (take n xs))
   unfolding those
-  those-keep f i d h k e = rw (left-cons i d h k, e)
+  those-keep f i d h k e = rw (left-cons xs n i d h k, e)
 
 -- ---- an array that begins with a list
 module _ {A : Type 0} (x : A) where

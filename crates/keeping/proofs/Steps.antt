@@ -19,7 +19,8 @@ use Rattle.validation.specs.declared.Numbered.{Numbered}
 use Rattle.validation.specs.Kept.{effectiveOf, effectOf, numbered, Mark, mark, repeats, syncWithinHour, fromSync, beforeSync, Checked, failed, checkOne, check, acting, overtaken, lateFate, actors, lateMarks}
 use Rattle.choosing.specs.Working.{noNumbered, supersededAt, issueOf, Timed}
 use Rattle.keeping.specs.Working.{Checking, checking, numberOf, Noted, Soon, Stepped, stackOf, between, syncPlace, withinHour, setFate, marked, withFate, keeping, noneChecked, Tracks, Follows, settleFate, settled, earliestActing, lateAt, fatesTo}
-use Rattle.choosing.proofs.Laws.{left-cons, filled-push}
+use Rattle.level.proofs.Lists.{left-cons}
+use Rattle.choosing.proofs.Laws.{filled-push}
 use Rattle.keeping.proofs.Stack.{stack-push, hour-none, hour-some, before-sync, from-sync}
 
 -- ---- the instructions as entered

@@ -2,7 +2,8 @@ use Prim.Native.Nat.{_≤_, _-_}
 use mathlib.Core.Path.{_≡_, refl, sym, _∙_}
 use lib.ListN.{take, drop}
 use Rattle.choosing.specs.Working.{supersededAt}
-use Rattle.choosing.proofs.Laws.{left-none, superseded-none, superseded-here, superseded-next}
+use Rattle.level.proofs.Lists.{left-none}
+use Rattle.choosing.proofs.Laws.{superseded-none, superseded-here, superseded-next}
 use native.Mathlib.Omega.{arith}
 use borrow.Author.Needs.{needs}
 use Rattle.choosing.proofs.is_superseded.Statement.{statement}

@@ -2,7 +2,8 @@ use Prim.Native.Nat.{_≤_, _+_, _-_}
 use mathlib.Core.Path.{_≡_, sym, _∙_}
 use lib.ListN.{take, drop}
 use Rattle.choosing.specs.Working.{nextAt}
-use Rattle.choosing.proofs.Laws.{left-none, next-none, next-more}
+use Rattle.level.proofs.Lists.{left-none}
+use Rattle.choosing.proofs.Laws.{next-none, next-more}
 use native.Mathlib.Omega.{arith}
 use borrow.Author.Needs.{needs}
 use Rattle.choosing.proofs.next_time.Statement.{statement}

@@ -7,7 +7,7 @@ use Rattle.validation.specs.declared.Numbered.{Numbered}
 use Rattle.validation.specs.Kept.{acting}
 use Rattle.close.specs.declared.Walk.{Walk}
 use Rattle.choosing.specs.Working.{noNumbered}
-use Rattle.choosing.proofs.Laws.{left-cons, left-none}
+use Rattle.level.proofs.Lists.{left-cons, left-none}
 use Rattle.profile.specs.State.{byRule}
 use Rattle.profile.specs.Effects.{stateAt, follow}
 use Rattle.close.specs.Walk.{walkOf, walkAll, wentOn, replacedBy}

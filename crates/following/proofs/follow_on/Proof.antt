@@ -10,7 +10,7 @@ use Rattle.course.specs.Lists.{noColumn, columnFor}
 use Rattle.validation.specs.declared.Numbered.{Numbered}
 use Rattle.validation.specs.Kept.{acting}
 use Rattle.choosing.specs.Working.{noNumbered}
-use Rattle.choosing.proofs.Laws.{left-cons, left-none}
+use Rattle.level.proofs.Lists.{left-cons, left-none}
 use Rattle.profile.specs.declared.UnderWay.{UnderWay}
 use Rattle.profile.specs.declared.State.{State}
 use Rattle.profile.specs.Effects.{idle, begun}

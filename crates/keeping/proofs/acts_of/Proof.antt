@@ -6,7 +6,8 @@ use Rattle.level.specs.Lists.{filled}
 use Rattle.validation.specs.Kept.{actors}
 use Rattle.choosing.specs.Working.{noNumbered}
 use Rattle.keeping.specs.Working.{LateFates}
-use Rattle.choosing.proofs.Laws.{Begun, map-length, left-none, begun-none, begun-store, begun-all}
+use Rattle.level.proofs.Lists.{left-none}
+use Rattle.choosing.proofs.Laws.{Begun, map-length, begun-none, begun-store, begun-all}
 use Rattle.keeping.proofs.Steps.{actors-skip, actors-keep, actors-none}
 use native.Mathlib.Omega.{arith}
 use borrow.Author.Needs.{needs}

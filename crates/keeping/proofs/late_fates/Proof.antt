@@ -8,7 +8,7 @@ use Rattle.validation.specs.declared.Numbered.{Numbered}
 use Rattle.validation.specs.Kept.{acting, lateFate}
 use Rattle.choosing.specs.Working.{noNumbered}
 use Rattle.keeping.specs.Working.{Noted, earliestActing}
-use Rattle.choosing.proofs.Laws.{left-none}
+use Rattle.level.proofs.Lists.{left-none}
 use Rattle.keeping.proofs.Steps.{acting-none, acting-more, late-is}
 use native.Mathlib.Omega.{arith}
 use borrow.Author.Needs.{needs}

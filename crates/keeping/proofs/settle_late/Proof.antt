@@ -5,7 +5,7 @@ use lib.ListN.{length, take, drop, getD, length-set}
 use Rattle.validation.specs.declared.Numbered.{Numbered}
 use Rattle.validation.specs.Kept.{lateMarks}
 use Rattle.keeping.specs.Working.{numberOf, Noted, settleFate, settled, LateFates}
-use Rattle.choosing.proofs.Laws.{left-none}
+use Rattle.level.proofs.Lists.{left-none}
 use Rattle.keeping.proofs.Steps.{settle-zero, settle-large, settle-done, settle-some, settled-more, settled-none}
 use native.Mathlib.Omega.{arith}
 use Rattle.keeping.proofs.settle_late.Statement.{statement}
