@@ -240,9 +240,6 @@ module _ (all : List Numbered) (is : List Instruction) (few : length is ≤ 40) 
 abbrev noMark : Mark
 noMark = record { number = 0; fate = 0 }
 
-abbrev numberIn : Mark → ℕ
-numberIn m = m .number
-
 marks-are : (acts : List Numbered) (own : List ℕ) (i : ℕ) (ms : List Mark) →
     ((j : ℕ) → j < length ms → (getD acts (i + j) noNumbered .number ≡ getD ms j noMark .number) × (getD own (i + j) 0 ≡ getD ms j noMark .fate)) → marksFrom acts own i (length ms) ≡ ms
 unfolding marksFrom

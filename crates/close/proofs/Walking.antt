@@ -1,14 +1,13 @@
 -- Following the instructions that act one after another gives what `follow` says.
 -- Assumes nothing.
-use Prim.Native.Nat.{ℕ, zero, suc, _+_, _-_, _≤_, _<_}
+use Prim.Native.Nat.{ℕ, _+_, _-_, _<_}
 use mathlib.Core.Path.{_≡_, refl, ap, sym, _∙_}
 use mathlib.Core.List.{List, [], _∷_, _++_, map, append-assoc, append-nil}
 use mathlib.Core.Bool.{Bool, true, false}
 use native.Mathlib.Omega.{arith}
-use lib.ListN.{length, take, getD, set, length-append, length-map}
-use lib.Seq.{getD-take, length-take-le}
+use lib.ListN.{length, set, length-append, length-map}
 use Rattle.level.specs.Choice.{pick}
-use Rattle.level.specs.Lists.{All, filled}
+use Rattle.level.specs.Lists.{filled}
 use Rattle.records.specs.declared.UnitData.{UnitData}
 use Rattle.validation.specs.declared.Numbered.{Numbered}
 use Rattle.validation.specs.Kept.{Mark, mark, acting}

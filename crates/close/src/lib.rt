@@ -1,4 +1,4 @@
-// What close does: which instructions start a course, the fates, the sums at the half-hour boundaries, the closing state.
+// What close finds: the instructions that act followed one after another, the fates, the courses, the closing state.
 ghost use mathlib.Core.Path.{_≡_};
 ghost use mathlib.Core.List.{[], _∷_};
 ghost use Prim.Native.Nat.{_+_, _-_, min, _<_, _≤_};
@@ -14,6 +14,9 @@ ghost use Rattle.profile.specs.State.{byRule};
 ghost use Rattle.close.specs.Finding.{findingOf, findingBy};
 ghost use Rattle.close.specs.Laying.{laid, laidAll, marksFrom};
 ghost use Rattle.close.specs.Walk.{walkOf, walkAll};
+
+// The day's seconds.
+const DAY: u32 = 86400;
 
 // ---- the state just before
 
@@ -154,11 +157,6 @@ pub fn lay_fates(s: Fates, acts: [validation::Numbered; 40], own: [u8; 40], n: u
     }
     out
 }
-
-// ---- twice the recorded area from 06:00 to each half-hour boundary
-
-// The day's seconds, and those of a half-hour.
-const DAY: u32 = 86400;
 
 // ---- what close finds
 

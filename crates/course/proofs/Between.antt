@@ -1,12 +1,8 @@
 -- The level of a course stays between start and target and never turns.
 -- Assumes nothing.
-use mathlib.Core.Path.{_≡_, ap}
-use mathlib.Core.List.{List, [], _∷_}
-use Prim.Native.Nat.{ℕ, zero, suc, _+_, _-_, _≤_, _<_, min, max}
+use Prim.Native.Nat.{ℕ, suc, _-_, _≤_, _<_}
 use native.Mathlib.Decide.{decLe}
 use native.Mathlib.Omega.{arith}
-use Rattle.segments.specs.declared.Segment.{Segment}
-use Rattle.segments.specs.Segments.{seconds, recorded, wholeWay}
 use Rattle.segments.proofs.Segments.{recorded-mono, recorded-top}
 use Rattle.course.specs.Course.{Trajectory, gap, levelAt, distance, segments}
 use Rattle.course.proofs.Whole.{level-up, level-down, ways-within}

@@ -1,14 +1,12 @@
 -- Over any bound-of-seconds seconds of a course, twice the area recorded and twice the exact area differ by at most 2 times stops times distance.
 -- Assumes nothing.
 use mathlib.Core.Path.{_≡_, refl, ap}
-use mathlib.Core.List.{List, [], _∷_}
 use Prim.Native.Nat.{ℕ, zero, suc, _+_, _*_, _-_, _≤_, _<_}
-use native.Mathlib.Nat.{le-refl, mul-le-mul-right, dvd-refl}
+use native.Mathlib.Nat.{mul-le-mul-right, dvd-refl}
 use native.Mathlib.Omega.{arith}
 use lib.ListN.{length}
 use Rattle.level.specs.Lists.{sum}
-use Rattle.segments.specs.declared.Segment.{Segment}
-use Rattle.segments.specs.Segments.{Ok, seconds, recorded, exact, area, rateProduct, wholeWay}
+use Rattle.segments.specs.Segments.{Ok, recorded, exact, area, rateProduct, wholeWay}
 use Rattle.segments.proofs.Segments.{exact-top, recorded-top}
 use Rattle.segments.proofs.Bound.{bound-of-seconds}
 use Rattle.segments.proofs.Product.{product-ok, product-pos}

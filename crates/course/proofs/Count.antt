@@ -1,11 +1,10 @@
 -- A course has at most 32 pieces: two for each stop, one for each hold, one for the rest.
 -- Assumes nothing.
-use mathlib.Core.Path.{_≡_, refl, ap, sym, _∙_}
-use mathlib.Core.List.{List, [], _∷_, _++_}
+use mathlib.Core.Path.{_≡_, refl, ap}
+use mathlib.Core.List.{List, [], _∷_}
 use mathlib.Core.Bool.{Bool, true, false, _||_}
-use Prim.Native.Nat.{ℕ, zero, suc, _+_, _*_, _-_, _/_, min, _≤_, _<_}
-use native.Mathlib.Nat.{le-refl}
-use native.Mathlib.Decide.{decLe, ℕ-discrete}
+use Prim.Native.Nat.{ℕ, suc, _+_, _*_, _-_, _/_, min, _≤_}
+use native.Mathlib.Decide.{ℕ-discrete}
 use native.Mathlib.Omega.{arith}
 use lib.Dec.{leb, ltb, eqb}
 use lib.ListN.{length, length-append}
@@ -17,9 +16,9 @@ use Rattle.segments.specs.Segments.{seconds}
 use Rattle.records.specs.declared.Trigger.{Trigger}
 use Rattle.course.specs.declared.Piece.{Piece}
 use Rattle.course.specs.Lists.{Lists}
-use Rattle.course.specs.Course.{Heading, rising, falling, heading, Trajectory, toward, gap, rateAt, counting, triggers, holding, holdAt, stops, segmentsOf, segments}
+use Rattle.course.specs.Course.{Heading, rising, falling, heading, Trajectory, toward, gap, rateAt, triggers, holding, holdAt, stops, segmentsOf, segments}
 use Rattle.course.specs.Pieces.{piece, piecesOf, piecesIn}
-use Rattle.course.proofs.Near.{Past, Short, past-short, those-length}
+use Rattle.course.proofs.Near.{Short}
 use Rattle.course.proofs.Whole.{Shaped, counting-length, segments-fewer, at-most-thirteen-stops}
 use Rattle.course.proofs.Stops.{Ordered, stops-ordered}
 

@@ -2,20 +2,18 @@
 -- Assumes nothing.
 use mathlib.Core.Path.{_≡_, refl, sym, ap, _∙_}
 use mathlib.Core.List.{List, [], _∷_}
-use Prim.Native.Nat.{ℕ, zero, suc, _+_, _*_, _-_, _≤_, _<_, min, max}
-use native.Mathlib.Nat.{mul-le-mul, mul-le-mul-right, zero-mul, zero-add}
+use Prim.Native.Nat.{ℕ, _+_, _*_, _-_, _≤_, min, max}
+use native.Mathlib.Nat.{mul-le-mul-right, zero-mul, zero-add}
 use native.Mathlib.Decide.{decLe}
 use native.Mathlib.Omega.{arith}
-use lib.ListN.{length}
 use Rattle.level.specs.Lists.{sum}
 use Rattle.segments.specs.declared.Segment.{Segment}
-use Rattle.segments.specs.Segments.{SegmentOk, Ok, ticks, exact, wholeWay, area}
-use Rattle.segments.proofs.Sums.{sum-eq, area-split, area-line}
-use Rattle.segments.proofs.Segments.{ticks-rate, exact-zero, exact-top}
-use Rattle.course.specs.Course.{Heading, rising, falling, heading, Trajectory, toward, gap, levelAt, stops, distance, segments}
-use Rattle.course.specs.Exact.{Fraction, ticksOf, exactAt, cut, cuts, exactTwice}
-use Rattle.course.proofs.Whole.{Driven}
-use Rattle.course.proofs.Bounds.{fall, ticks-ok, area-down, course-bound}
+use Rattle.segments.specs.Segments.{SegmentOk, Ok, ticks, exact, area}
+use Rattle.segments.proofs.Sums.{area-split, area-line}
+use Rattle.segments.proofs.Segments.{ticks-rate, exact-zero}
+use Rattle.course.specs.Course.{Heading, rising, falling, heading, Trajectory, toward, segments}
+use Rattle.course.specs.Exact.{exactAt, cut, cuts}
+use Rattle.course.proofs.Bounds.{fall, area-down}
 
 -- twice the area from the tick lo to the tick hi
 abbrev span : (ℕ → ℕ) → ℕ → ℕ → ℕ

@@ -1,7 +1,7 @@
 -- The nearest of some levels past a level; what is kept of a list; both headings.
 -- Assumes nothing.
 use mathlib.Core.Path.{_≡_, refl, ap, sym}
-use mathlib.Core.Logic.{_≢_, _⊎_, inl, inr}
+use mathlib.Core.Logic.{_≢_}
 use mathlib.Core.List.{List, [], _∷_, _++_}
 use mathlib.Core.Bool.{Bool, true, false}
 use Prim.Native.Nat.{ℕ, suc, _+_, _-_, min, max, _≤_, _<_}
@@ -35,10 +35,6 @@ past-yes falling v w p = lt-ltb w v p
 pub past-no : (h : Heading) (v w : ℕ) → Short h v w → past h v w ≡ false
 past-no rising v w p = le-ltb v w p
 past-no falling v w p = le-ltb w v p
-
-pub sides : (h : Heading) (v w : ℕ) → Past h v w ⊎ Short h v w
-sides rising v w = elim (decLe (suc v) w) [ yes p ↦ inl p | no p ↦ inr (omega arith) ]
-sides falling v w = elim (decLe (suc w) v) [ yes p ↦ inl p | no p ↦ inr (omega arith) ]
 
 pub past-short : (h : Heading) (v w : ℕ) → Past h v w → Short h w v
 past-short rising v w p = omega arith

@@ -1,6 +1,6 @@
 -- The exact course, and twice its area as a fraction of two whole numbers.
 -- Assumes nothing.
-use Prim.Native.Nat.{ℕ, zero, suc, _+_, _*_, _-_, min, max}
+use Prim.Native.Nat.{ℕ, _+_, _*_, _-_, min, max}
 use mathlib.Core.List.{List, [], _∷_}
 use Rattle.segments.specs.declared.Segment.{Segment}
 use Rattle.segments.specs.Segments.{ticks, exact, rateProduct}

@@ -1,8 +1,7 @@
 -- The unit data that a course goes by, in grains: the column of its heat, and any rates that its instruction replaced.
 -- Assumes nothing.
-use Prim.Native.Nat.{ℕ, zero, suc, _-_, min}
+use Prim.Native.Nat.{ℕ}
 use mathlib.Core.List.{List, [], _∷_, map}
-use mathlib.Core.Bool.{Bool, true, false}
 use lib.Dec.{eqb}
 use lib.ListN.{getD}
 use Rattle.level.specs.Choice.{pick}

@@ -312,7 +312,7 @@ pub fn begin_course(
     under_way(u, at, g, s.off)
 }
 
-// ---- the state just before
+// ---- the seconds off
 
 // The most seconds off that are counted.
 const MOST_OFF: u64 = 10000000;

@@ -1,5 +1,5 @@
-// The instructions followed once, from 06:00 to the day's end: what each does at its acting second, the S lines on the way,
-// and twice the area of each half-hour.
+// The instructions followed once, from 06:00 to the day's end: what each does at its acting second, with the S lines and the areas
+// on the way.
 ghost use mathlib.Core.Path.{_≡_};
 ghost use Prim.Native.Nat.{_+_, _-_, _<_, _≤_};
 ghost use lib.ListN.{length, take};
@@ -12,7 +12,7 @@ ghost use Rattle.daylines.specs.Rest.{coursesLines};
 ghost use Rattle.passing.specs.Passing.{Summed, linesLeft};
 ghost use Rattle.following.specs.Following.{setOut, Ordered, LowStart, coursesFrom, Onward, FollowedBy, EndedBy, SettledBy};
 
-// The day's seconds, and those of a half-hour.
+// The day's seconds.
 const DAY: u32 = 86400;
 
 // ---- one instruction after another

@@ -8,8 +8,6 @@ ghost use Rattle.stops.specs.Ways.{headed, listsBy};
 ghost use Rattle.course.proofs.Near.{Short};
 ghost use Rattle.trajectory.specs.Walk.{standing, notedAt};
 
-// ---- going along a course
-
 // Along the course to the second n.
 pub fn walk_to(
     l: stops::OwnLists,
@@ -41,8 +39,6 @@ pub fn level_after(u: records::UnitData, c: course::Course, k: u32) -> u64
     let p = walk_to(l, c, up, from, k);
     p.level
 }
-
-// ---- areas
 
 // The course's own second at the half-hour boundary b, or at its end if that comes first; 0 before it began.
 fn own_second(begin: u32, end: u32, b: usize) -> u32

@@ -13,8 +13,6 @@ ghost use Rattle.onepass.specs.Listing.{partAt, partLines, endLines, lis
 // The seconds of a day.
 const DAY: u32 = 86400;
 
-// ---- the day
-
 // The bytes of so many F lines: a fate is one digit, and the first nine numbers are.
 fn fates_room(count: usize) -> usize
     requires { ⌜ count ≤ 40 ⌝ }

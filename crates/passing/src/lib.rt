@@ -9,6 +9,7 @@ ghost use Rattle.text.specs.Text.{laid};
 ghost use Rattle.daylines.specs.Rest.{pieceLine};
 ghost use Rattle.passing.specs.Passing.{AddsLine, StaysLow, Straight, AddsPiece, Summed, lastLine, Roomy, Passing};
 
+// The seconds of a half-hour.
 const HALF_HOUR: u32 = 1800;
 
 // ---- areas, added half-hour by half-hour

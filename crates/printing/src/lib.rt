@@ -1,4 +1,4 @@
-// The listing of a day: measured first, then written.
+// The listing of a day into a lent slice: measured first, then written.
 ghost use mathlib.Core.Path.{_≡_};
 ghost use Prim.Native.Nat.{_+_, _-_, _<_, _≤_};
 ghost use lib.ListN.{length};

@@ -1,21 +1,16 @@
 -- A course between two half-hour boundaries: twice its recorded and twice its exact area differ by at most what is allowed it there.
 -- Assumes nothing.
 use mathlib.Core.Path.{_≡_, refl, ap, sym, _∙_}
-use mathlib.Core.List.{List, [], _∷_}
-use mathlib.Core.Bool.{Bool, true, false}
-use Prim.Native.Nat.{ℕ, zero, suc, _+_, _*_, _-_, min, max, _≤_, _<_}
+use Prim.Native.Nat.{ℕ, zero, suc, _+_, _*_, _-_, min, max, _≤_}
 use native.Mathlib.Nat.{mul-le-mul, mul-le-mul-right, zero-mul, sub-self}
 use native.Mathlib.Decide.{decLe}
 use native.Mathlib.Omega.{arith}
-use lib.Dec.{ltb}
-use lib.ListN.{length}
 use borrow.Author.Tests.{lt-ltb, le-ltb}
-use Rattle.level.specs.Choice.{pick}
 use Rattle.level.specs.Lists.{sum}
 use Rattle.segments.specs.Segments.{area}
 use Rattle.segments.proofs.Sums.{area-split}
-use Rattle.course.specs.Course.{Trajectory, gap, levelAt, stops, distance, segments}
-use Rattle.course.specs.Exact.{Fraction, ticksOf, exactAt, cuts, exactTwice}
+use Rattle.course.specs.Course.{gap, levelAt, segments}
+use Rattle.course.specs.Exact.{ticksOf, exactAt, cuts, exactTwice}
 use Rattle.course.proofs.Whole.{Driven}
 use Rattle.course.proofs.Bounds.{ticks-ok, course-bound}
 use Rattle.course.proofs.Exact.{exact-window, cuts-none}

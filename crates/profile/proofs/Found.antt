@@ -1,7 +1,7 @@
 -- What close finds: its courses follow each other, and a quantity comes from two neighbouring sums.
 -- Assumes nothing.
-use mathlib.Core.Path.{_≡_, refl, ap, sym, _∙_}
-use mathlib.Core.List.{List, [], _∷_, map}
+use mathlib.Core.Path.{_≡_, refl, ap, _∙_}
+use mathlib.Core.List.{List}
 use Prim.Native.Nat.{ℕ, zero, suc, _+_, _*_, _-_, _≤_, _<_}
 use native.Mathlib.Nat.{le-refl}
 use native.Mathlib.Omega.{arith}
@@ -15,7 +15,7 @@ use Rattle.records.specs.declared.Instruction.{Instruction}
 use Rattle.validation.specs.Kept.{numbered, validated}
 use Rattle.profile.specs.State.{byRule}
 use Rattle.profile.specs.Effects.{opened}
-use Rattle.profile.specs.Profile.{Span, spansOf, levelStarting, levelEnding, recordedTwice, recordedTo, recordedIn, rounded, Found, foundBy, found, paper}
+use Rattle.profile.specs.Profile.{Span, spansOf, levelStarting, levelEnding, recordedTwice, recordedTo, recordedIn, rounded, foundBy, found, paper}
 use Rattle.profile.proofs.Tiles.{Chain, day-tiles}
 use Rattle.profile.proofs.Most.{Below, SpanBelow, courses-below, opened-below, spans-below, quantity-below}
 

@@ -1,9 +1,8 @@
 -- No level of a let-in day exceeds the short-term maximum, and so no quantity does.
 -- Assumes nothing.
-use mathlib.Core.Path.{_≡_, refl, ap, sym, _∙_}
 use mathlib.Core.List.{List, [], _∷_, map}
 use mathlib.Core.Bool.{Bool, true, false, _&&_}
-use Prim.Native.Nat.{ℕ, zero, suc, _+_, _*_, _-_, _/_, _^_, min, max, _≤_, _<_}
+use Prim.Native.Nat.{ℕ, zero, suc, _*_, _-_, _^_, min, _≤_, _<_}
 use native.Mathlib.Nat.{mul-le-mul-right}
 use native.Mathlib.Decide.{decLe}
 use native.Mathlib.Omega.{arith}
@@ -27,7 +26,7 @@ use Rattle.profile.specs.declared.State.{State}
 use Rattle.profile.specs.State.{byRule}
 use Rattle.profile.specs.declared.Setting.{Setting}
 use Rattle.profile.specs.Effects.{setting, mwofTarget, syncTarget, stepped, courseFrom, underWay, opened, begun, idle, Followed, goesOn, replaces, stateAt, follow}
-use Rattle.profile.specs.Profile.{Span, beginOf, spansOf, inForce, levelStarting, levelEnding, recordedTwice, recordedTo, recordedIn, rounded, courseOf}
+use Rattle.profile.specs.Profile.{Span, spansOf, inForce, levelStarting, levelEnding, recordedTwice, recordedTo, recordedIn, rounded, courseOf}
 use Rattle.profile.proofs.States.{rule-level}
 use Rattle.profile.proofs.Areas.{in-here, in-rest}
 

@@ -2,8 +2,7 @@
 -- Assumes nothing.
 use mathlib.Core.Path.{_≡_, refl, ap, sym, _∙_}
 use mathlib.Core.List.{List, [], _∷_}
-use mathlib.Core.Bool.{Bool, true, false}
-use Prim.Native.Nat.{ℕ, zero, suc, _+_, _*_, _-_, _/_, min, max, _≤_, _<_}
+use Prim.Native.Nat.{ℕ, zero, suc, _+_, _*_, _-_, min, _≤_, _<_}
 use native.Mathlib.Nat.{mul-le-mul, mul-le-mul-right}
 use native.Mathlib.Decide.{decLe}
 use native.Mathlib.Omega.{arith}
@@ -12,9 +11,9 @@ use Rattle.segments.specs.Segments.{area}
 use Rattle.segments.proofs.Sums.{sum-split}
 use Rattle.records.specs.declared.UnitData.{UnitData}
 use Rattle.course.specs.declared.Course.{Course}
-use Rattle.course.specs.Course.{Trajectory, gap, levelAt, rateOn, momentAt, after, heading}
+use Rattle.course.specs.Course.{Trajectory, gap, levelAt, rateOn, momentAt, after}
 use Rattle.course.specs.Pieces.{piecesIn, twiceArea}
-use Rattle.course.specs.Exact.{Fraction, nought, plus}
+use Rattle.course.specs.Exact.{Fraction, plus}
 use Rattle.course.proofs.Whole.{Driven, level-moves}
 use Rattle.course.proofs.Pieces.{pieces-window}
 use Rattle.profile.specs.Profile.{Span, spansOf, inForce, levelStarting, levelEnding, rateStarting, recordedTwice, recordedIn, rounded, piecesTo}

@@ -1,26 +1,26 @@
 -- Every rate of a let-in unit that a course can use is at least 1.
 -- Assumes nothing.
-use mathlib.Core.Path.{_≡_, refl, ap, sym, _∙_}
+use mathlib.Core.Path.{_≡_, refl, ap, sym}
 use mathlib.Core.List.{List, [], _∷_, map}
 use mathlib.Core.Bool.{Bool, true, false, _&&_, not, true≢false}
-use Prim.Native.Nat.{ℕ, zero, suc, _+_, _*_, _-_, min, _≤_, _<_}
+use Prim.Native.Nat.{ℕ, zero, suc, _+_, _-_, _≤_, _<_}
 use native.Mathlib.Decide.{ℕ-discrete}
 use native.Mathlib.Omega.{arith}
-use lib.Dec.{T, leb, eqb, leb→le}
+use lib.Dec.{leb, eqb, leb→le}
 use lib.ListN.{length, getD}
 use borrow.Author.Tests.{eq-eqb, ne-eqb}
 use Rattle.level.specs.Choice.{pick}
 use Rattle.level.specs.Level.{grains}
 use Rattle.records.specs.declared.Column.{Column}
 use Rattle.records.specs.declared.UnitData.{UnitData}
-use Rattle.records.specs.declared.Answer.the-variants.{Accepted, Refused}
+use Rattle.records.specs.declared.Answer.the-variants.{Accepted}
 use Rattle.records.specs.declared.Refusal.the-variants.{UnitField, UnitDisagrees}
 use Rattle.records.specs.Answers.{refusing, firstRefusal, accepted}
 use Rattle.records.specs.Records.{unitOf, columnOf}
 use Rattle.records.specs.Fields.{Range, inRange, fitFrom, unitRanges, columnRanges, rampRanges, aLevel, aMaximum, aRate, aHold, aBoundary, disagrees, unitAnswer}
 use Rattle.course.specs.declared.Course.{Course}
-use Rattle.course.specs.Lists.{Rates, ratesOf, placeOf, columnFor, noColumn, replaced, listsOf}
-use Rattle.course.specs.Course.{Trajectory, trajectoryOf}
+use Rattle.course.specs.Lists.{ratesOf, placeOf, columnFor, noColumn, replaced, listsOf}
+use Rattle.course.specs.Course.{trajectoryOf}
 use Rattle.course.proofs.Whole.{Runs, Driven}
 
 -- the rates rs of a list with n breaks are there, and each is at least 1

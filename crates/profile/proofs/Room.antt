@@ -1,9 +1,9 @@
 -- How much a day can hold: courses, pieces, fates, the closing state.
 -- Assumes nothing.
-use mathlib.Core.Path.{_≡_, refl, ap, sym, _∙_}
+use mathlib.Core.Path.{_≡_, refl, ap, _∙_}
 use mathlib.Core.List.{List, [], _∷_, _++_, map}
 use mathlib.Core.Bool.{Bool, true, false, _&&_}
-use Prim.Native.Nat.{ℕ, zero, suc, _+_, _*_, _-_, min, _≤_, _<_}
+use Prim.Native.Nat.{ℕ, zero, suc, _+_, _*_, _-_, min, _≤_}
 use native.Mathlib.Nat.{le-refl}
 use native.Mathlib.Omega.{arith}
 use lib.Dec.{eqb, leb}
@@ -13,7 +13,6 @@ use Rattle.level.specs.Level.{grains}
 use Rattle.level.specs.Lists.{All}
 use Rattle.records.specs.declared.Effect.{Effect}
 use Rattle.records.specs.declared.Effect.the-variants.{Trip, Mwof, Mxon, Sync, Mxof, Desy, Fail}
-use Rattle.records.specs.declared.Trigger.{Trigger}
 use Rattle.records.specs.declared.Column.{Column}
 use Rattle.records.specs.declared.UnitData.{UnitData}
 use Rattle.records.specs.declared.Opening.{Opening}
@@ -21,23 +20,22 @@ use Rattle.records.specs.declared.Instruction.{Instruction}
 use Rattle.records.specs.Records.{unitOf, columnOf}
 use Rattle.course.specs.declared.Course.{Course}
 use Rattle.course.specs.declared.Piece.{Piece}
-use Rattle.course.specs.Lists.{Lists, ratesOf, inGrains, placeOf, noColumn, columnFor, replaced, listsOf}
+use Rattle.course.specs.Lists.{ratesOf, inGrains, placeOf, noColumn, columnFor, listsOf}
 use Rattle.course.specs.Course.{Heading, rising, falling, heading, Trajectory, trajectoryOf, levelAt}
 use Rattle.course.specs.Pieces.{piecesIn}
 use Rattle.course.proofs.Whole.{Shaped}
 use Rattle.course.proofs.Between.{level-below}
-use Rattle.course.proofs.Pieces.{Along, Line, Traces, pieces-trace}
+use Rattle.course.proofs.Pieces.{Line, Traces, pieces-trace}
 use Rattle.course.proofs.Count.{at-most-thirty-two-pieces}
 use Rattle.validation.specs.declared.Numbered.{Numbered}
-use Rattle.validation.specs.Kept.{Mark, mark, Validated, numbered, validated, fatesOf, acting}
+use Rattle.validation.specs.Kept.{numbered, validated, acting}
 use Rattle.validation.proofs.Few.{numbered-length, acts-few, Digits, digits-append, marks-digits, fates-digits, fates-length}
 use Rattle.profile.specs.declared.UnderWay.{UnderWay}
 use Rattle.profile.specs.declared.Closing.{Closing}
 use Rattle.profile.specs.declared.State.{State}
 use Rattle.profile.specs.State.{held, watch, watchNext, byRule}
-use Rattle.profile.specs.declared.Setting.{Setting}
 use Rattle.profile.specs.Effects.{setting, heatBy, courseFrom, underWay, opened, begun, idle, Followed, goesOn, replaces, stateAt, follow}
-use Rattle.profile.specs.Profile.{Span, beginOf, spansOf, dayPieces, courseOf, closingBy, closingOf, Found, foundBy, found, paper}
+use Rattle.profile.specs.Profile.{Span, beginOf, spansOf, dayPieces, courseOf, closingOf, foundBy, found, paper}
 use Rattle.profile.proofs.Tiles.{Chain}
 use Rattle.profile.proofs.States.{rule-level}
 use Rattle.profile.proofs.Most.{Below, SpanBelow, courses-below, opened-below}
@@ -103,12 +101,6 @@ module _ (look : Trajectory → ℕ → ℕ → State) (u : UnitData) where
           Digits (f .marks)
       go true x y = (omega arith, x)
       go false x y = (omega arith, y)
-
--- ---- pieces
-spans-length : (u : UnitData) (end : ℕ) (cs : List Course) → length (spansOf u end cs) ≡ length cs
-unfolding spansOf
-spans-length u end [] = refl
-spans-length u end (c ∷ cs) = ap suc (spans-length u end cs)
 
 pub pieces-few : (u : UnitData) → Sized u → (end : ℕ) (cs : List Course) → length (dayPieces (spansOf u end cs)) ≤ 32 * length cs
 unfolding spansOf dayPieces trajectoryOf

@@ -4,7 +4,7 @@ use mathlib.Core.Path.{_≡_, refl, ap, sym, _∙_}
 use mathlib.Core.Logic.{_≢_}
 use mathlib.Core.List.{List, [], _∷_}
 use mathlib.Core.Bool.{Bool, true, false, _&&_}
-use Prim.Native.Nat.{ℕ, zero, suc, _+_, _*_, _-_, _/_, min, _≤_, _<_}
+use Prim.Native.Nat.{ℕ, zero, suc, _+_, _-_, _≤_}
 use native.Mathlib.Nat.{mul-le-mul-right}
 use native.Mathlib.Decide.{decLe, ℕ-discrete}
 use native.Mathlib.Omega.{arith}
@@ -14,10 +14,9 @@ use Rattle.segments.specs.declared.Segment.{Segment}
 use Rattle.segments.specs.Segments.{seconds, recorded, wholeWay, Valid}
 use Rattle.segments.proofs.Segments.{seconds-low, seconds-high, recorded-mono, recorded-top}
 use Rattle.level.specs.Choice.{pick}
-use Rattle.course.specs.Course.{Trajectory, Moment, heading, toward, gap, second, after, momentAt, levelAt, segments, distance}
+use Rattle.course.specs.Course.{Trajectory, Moment, heading, gap, second, after, momentAt, levelAt, segments, distance}
 use Rattle.course.proofs.Whole.{level-segments, level-up, level-down, ways-within, segments-valid}
-use Rattle.profile.specs.declared.State.{State}
-use Rattle.profile.specs.State.{held, Watch, watchNext, watch, byRule, arrival, stateOn, bySegments}
+use Rattle.profile.specs.State.{held, watchNext, watch, byRule, arrival, stateOn, bySegments}
 
 seconds-some : (l : Segment) → 1 ≤ l .way → 1 ≤ l .rate → 1 ≤ seconds l
 seconds-some l w r = elim (decLe 1 (seconds l)) [

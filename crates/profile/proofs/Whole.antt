@@ -1,11 +1,11 @@
 -- What close finds by the rule of one second is what it finds by segments.
 -- Assumes nothing.
-use mathlib.Core.Path.{_≡_, refl, ap, sym, _∙_}
+use mathlib.Core.Path.{_≡_, refl, ap, _∙_}
 use mathlib.Core.List.{List, [], _∷_, _++_, map}
 use mathlib.Core.Bool.{Bool, true, false}
-use Prim.Native.Nat.{ℕ, zero, suc, _+_, _*_, _-_, _≤_, _<_}
+use Prim.Native.Nat.{ℕ, zero, suc, _+_, _*_, _-_, _<_}
 use native.Mathlib.Omega.{arith}
-use Rattle.level.specs.Lists.{All, listFrom}
+use Rattle.level.specs.Lists.{listFrom}
 use Rattle.records.specs.declared.UnitData.{UnitData}
 use Rattle.records.specs.declared.Opening.{Opening}
 use Rattle.records.specs.declared.Instruction.{Instruction}
@@ -17,7 +17,7 @@ use Rattle.profile.specs.declared.UnderWay.{UnderWay}
 use Rattle.profile.specs.declared.State.{State}
 use Rattle.profile.specs.State.{byRule, bySegments}
 use Rattle.profile.specs.Effects.{Followed, opened, begun, idle, goesOn, replaces, stateAt, follow}
-use Rattle.profile.specs.Profile.{Span, spansOf, rounded, recordedTo, recordedIn, twinTo, twinIn, closingBy, closingOf, courseOf, Found, foundBy, found, paper, twin}
+use Rattle.profile.specs.Profile.{Span, spansOf, rounded, recordedTo, recordedIn, twinTo, twinIn, closingBy, closingOf, courseOf, foundBy, found, paper, twin}
 use Rattle.profile.proofs.Tiles.{Chain, day-tiles}
 use Rattle.profile.proofs.States.{state-same}
 use Rattle.profile.proofs.Areas.{area-to, area-in}

@@ -1,13 +1,13 @@
 -- The exact area between two half-hour boundaries, and what demand 3 allows there.
 -- Assumes nothing.
-use Prim.Native.Nat.{ℕ, zero, suc, _+_, _*_, _-_, _≤_, min, max}
+use Prim.Native.Nat.{ℕ, suc, _+_, _*_, _-_, _≤_, min, max}
 use mathlib.Core.List.{List, [], _∷_}
-use mathlib.Core.Bool.{Bool, true, false}
+use mathlib.Core.Bool.{Bool}
 use lib.Dec.{ltb}
 use lib.ListN.{length}
 use Rattle.level.specs.Choice.{pick}
 use Rattle.level.specs.Lists.{sum}
-use Rattle.course.specs.Course.{Trajectory, stops, distance}
+use Rattle.course.specs.Course.{stops, distance}
 use Rattle.course.specs.Exact.{Fraction, nought, plus, ticksOf, exactTwice}
 use Rattle.profile.specs.Profile.{Span}
 

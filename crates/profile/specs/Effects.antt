@@ -1,6 +1,6 @@
 -- What each does at its acting second (Table 7).
 -- Assumes nothing.
-use Prim.Native.Nat.{ℕ, zero, suc, _+_, _*_, _-_, min, max}
+use Prim.Native.Nat.{ℕ, _*_, _-_, min, max}
 use mathlib.Core.List.{List, [], _∷_}
 use mathlib.Core.Bool.{Bool, true, false, _&&_, _||_, not}
 use lib.Dec.{leb, ltb, eqb}

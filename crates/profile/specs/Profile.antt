@@ -1,8 +1,8 @@
 -- The day's courses, areas, quantities, pieces and closing state.
 -- Assumes nothing.
-use Prim.Native.Nat.{ℕ, zero, suc, _+_, _*_, _-_, _/_, min, max}
+use Prim.Native.Nat.{ℕ, suc, _+_, _*_, _-_, _/_, min}
 use mathlib.Core.List.{List, [], _∷_, _++_, map}
-use mathlib.Core.Bool.{Bool, true, false}
+use mathlib.Core.Bool.{true, false}
 use lib.Dec.{ltb}
 use Rattle.level.specs.Lists.{sum, listFrom}
 use Rattle.records.specs.declared.UnitData.{UnitData}
@@ -13,7 +13,7 @@ use Rattle.course.specs.Course.{Trajectory, trajectoryOf, levelAt, rateOn}
 use Rattle.course.specs.declared.Piece.{Piece}
 use Rattle.course.specs.Pieces.{piecesIn, twiceArea}
 use Rattle.validation.specs.declared.Numbered.{Numbered}
-use Rattle.validation.specs.Kept.{Mark, Validated, numbered, validated, fatesOf}
+use Rattle.validation.specs.Kept.{Validated, numbered, validated, fatesOf}
 use Rattle.profile.specs.declared.UnderWay.{UnderWay}
 use Rattle.profile.specs.declared.Closing.{Closing}
 use Rattle.profile.specs.declared.State.{State}

@@ -10,8 +10,6 @@ ghost use Rattle.summing.specs.Summing.{someAbove};
 ghost use Rattle.summing.specs.Summing.{firstSum, Adds};
 ghost use Rattle.trajectory.specs.Walk.{afterRest, twiceBetween, notedAt};
 
-// ---- the state just before
-
 // The seconds from one second to another; 0 where that lies before.
 pub fn seconds_from(begin: u32, t: u32) -> u32
     ensures { λ r. ⌜ r ≡ t - begin ⌝ }

@@ -23,7 +23,7 @@ use Rattle.stops.specs.Ways.{headed, listsIn}
 use Rattle.trajectory.specs.Walk.{momentOf, beginning, twiceBetween, standing, twiceTo}
 use Rattle.trajectory.proofs.Seconds.{after-add}
 use Rattle.trajectory.proofs.Goes.{Goes}
-use Rattle.trajectory.proofs.Courses.{heading-is, moment-is, level-low}
+use Rattle.trajectory.proofs.Courses.{heading-is, moment-is}
 
 sum-from : (g : ℕ → ℕ) (x i n : ℕ) → sum g (x + i) n ≡ sum (λ j. g (x + j)) i n
 unfolding sum
@@ -113,15 +113,3 @@ module _ (u : UnitData) (c : Course) (up : Bool) (rises : up ≡ ltb (c .start .
       (λ j. ap (λ (q : Moment). q .level) (later-is a m j)) 0 (n - m)
       ∙ sym (area-from (levelAt (trajectoryOf u c)) x (n - m))
 
--- below a bound
-sum-low : (f : ℕ → ℕ) (m : ℕ) → ((j : ℕ) → f j ≤ m) → (a n : ℕ) → sum f a n ≤ n * m
-unfolding sum
-sum-low f m b a zero = omega arith
-sum-low f m b a (suc n) = omega (arith, b a, sum-low f m b (suc a) n)
-
-pub area-low : (u : UnitData) (c : Course) (a n : ℕ) → c .start .grains < 274877906944 → c .target < 4294967296 →
-    area (levelAt (trajectoryOf u c)) a n ≤ n * 549755813888
-unfolding area
-area-low u c a n s t =
-    let f : ℕ → ℕ = levelAt (trajectoryOf u c) in
-    sum-low (λ j. f j + f (suc j)) 549755813888 (λ j. omega (arith, level-low u c j s t, level-low u c (suc j) s t)) a n

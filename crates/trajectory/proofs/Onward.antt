@@ -7,7 +7,6 @@ use native.Mathlib.Decide.{decLe}
 use native.Mathlib.Omega.{arith}
 use native.Mathlib.Nat.{mul-le-mul-right, div-add-mod', div-lt-iff-lt-mul}
 use borrow.Author.Tests.{lt-ltb, le-ltb, eq-eqb, ne-eqb}
-use Rattle.level.specs.Level.{grains}
 use Rattle.segments.specs.declared.Segment.{Segment}
 use Rattle.course.specs.Lists.{Lists}
 use Rattle.course.specs.Course.{Heading, rising, falling, toward, gap, nextStop, second}
@@ -76,6 +75,3 @@ pub to-stop : (h : Heading) (l : Lists) (t v : ℕ) → Past h v t → toward h 
 unfolding segmentFrom segmentTo
 to-stop h l t v p = gap-to v (nextStop h l t v) h (next-past h l t v p .0)
 
-pub grains-low : (kw : ℕ) → kw < 4294967296 → grains kw ≤ 18446744073709551615
-unfolding grains
-grains-low kw p = omega arith

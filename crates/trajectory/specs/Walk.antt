@@ -10,7 +10,7 @@ use Rattle.segments.specs.Segments.{area}
 use Rattle.records.specs.declared.UnitData.{UnitData}
 use Rattle.course.specs.declared.Course.{Course}
 use Rattle.course.specs.Lists.{Lists}
-use Rattle.course.specs.Course.{Heading, rising, falling, trajectoryOf, Moment, toward, gap, rateAt, candidates, nextStop, holdAt, after, stopsFrom, segmentsOf}
+use Rattle.course.specs.Course.{Heading, rising, falling, trajectoryOf, Moment, toward, candidates, after, stopsFrom, segmentsOf}
 use Rattle.course.specs.declared.Piece.{Piece}
 use Rattle.course.specs.Pieces.{piece, piecesOf, piecesIn, twiceArea}
 use Rattle.trajectory.specs.declared.Place.{Place}

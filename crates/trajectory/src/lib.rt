@@ -1,8 +1,5 @@
-// A course in code: its rate, next stop and hold at a level, and what follows from them at any second.
-// For others: its level, arrival and areas (`level_after`, `since_arrival`, `twice_in`, `noted_sums`); and, to go along a
-// course piece by piece, `is_rising`, `own_lists`, `begin_at`, `walk_on`, `sum_to` and `piece_between`, whose laws for a loop
-// are in proofs/Pieced.antt and proofs/Noted.antt.
-// A course's own lists are handed on by value; proofs/Own.antt says that they do for it what the unit's do.
+// Along a course, one straight piece after another: `begin_at`, `walk_on`, `sum_to`. A course goes by its own lists; proofs/Own.antt
+// says that they do for it what the unit's do, proofs/Noted.antt has the laws of a loop.
 ghost use mathlib.Core.Path.{_≡_};
 ghost use Prim.Native.Nat.{_+_, _*_, _-_, _/_, min, _<_, _≤_};
 ghost use lib.Dec.{ltb};
