@@ -13,16 +13,16 @@ use borrow.Author.Tests.{lt-ltb, le-ltb, le-leb, lt-leb, eq-eqb, ne-eqb}
 use Rattle.level.specs.Choice.{pick}
 use Rattle.level.specs.Lists.{some, those, filled}
 use Rattle.level.proofs.Lists.{left-cons}
-use Rattle.records.specs.declared.Effect.the-variants.{Sync, Desy}
 use Rattle.records.specs.Codes.{codeNumber}
 use Rattle.validation.specs.declared.Numbered.{Numbered}
 use Rattle.records.specs.declared.Instruction.{Instruction}
 use Rattle.validation.proofs.Few.{numbered-length}
-use Rattle.validation.specs.Kept.{numbered, effectiveOf, effectOf, levelOf, superseded, group, goesBefore, highest, firstOne, orElse, present, carrying, merged, usedOf, nextTime, usedFrom, used}
-use Rattle.choosing.specs.Working.{noNumbered, entered, holding, pushed, foundList, joined, bestFrom, earliest, issueOf, Timed, supersedesAt, supersededAt, earlierOf, nextAt}
+use Rattle.validation.specs.Kept.{numbered, effectiveOf, effectOf, superseded, group, highest, firstOne, orElse, usedOf, nextTime, usedFrom, used}
+use Rattle.ranking.specs.Found.{foundList, bestFrom, earliest}
+use Rattle.choosing.specs.Working.{noNumbered, entered, holding, pushed, joined, issueOf, Timed, supersedesAt, supersededAt, earlierOf, nextAt}
 use Rattle.choosing.specs.declared.Sequence.{Sequence}
-use Rattle.choosing.specs.declared.Found.{Found}
-use Rattle.choosing.specs.declared.Found.the-variants.{One, Nothing}
+use Rattle.ranking.specs.declared.Found.{Found}
+use Rattle.ranking.specs.declared.Found.the-variants.{One, Nothing}
 
 pub map-length : {A B : Type 0} (f : A → B) (xs : List A) → length (map f xs) ≡ length xs
 map-length f [] = refl
@@ -105,30 +105,6 @@ pub joined-count : (s : Sequence) (f : Found) → joined s f .count ≤ s .count
 unfolding joined pushed
 joined-count s (One o) = omega arith
 joined-count s Nothing = omega arith
-
--- ---- the cases of tests and choices
-module _ (x o : Numbered) where
-  pub goes-rank : x .instruction .meaning .rank < o .instruction .meaning .rank → true ≡ goesBefore x o
-  unfolding goesBefore
-  goes-rank h = simp (lt-ltb _ _ h)
-
-  pub goes-other : o .instruction .meaning .rank ≤ x .instruction .meaning .rank → (codeNumber (effectOf x) ≡ 2 → ⊥) → false ≡ goesBefore x o
-  unfolding goesBefore
-  goes-other h k = simp (le-ltb _ _ h, ne-eqb _ _ k)
-
-  pub goes-second : o .instruction .meaning .rank ≤ x .instruction .meaning .rank → codeNumber (effectOf x) ≡ 2 → (codeNumber (effectOf o) ≡ 2 → ⊥) → false ≡ goesBefore x o
-  unfolding goesBefore
-  goes-second h k j = simp (le-ltb _ _ h, eq-eqb _ _ k, ne-eqb _ _ j)
-
-  pub goes-level : o .instruction .meaning .rank ≤ x .instruction .meaning .rank → codeNumber (effectOf x) ≡ 2 → codeNumber (effectOf o) ≡ 2 → ltb (levelOf o) (levelOf x) ≡ goesBefore x o
-  unfolding goesBefore
-  goes-level h k j = simp (le-ltb _ _ h, eq-eqb _ _ k, eq-eqb _ _ j)
-
-  pub higher-yes : goesBefore x o ≡ true → x ≡ pick (goesBefore x o) x o
-  higher-yes e = rw e
-
-  pub higher-no : goesBefore x o ≡ false → o ≡ pick (goesBefore x o) x o
-  higher-no e = rw e
 
 -- ---- the effective times and the issue times
 module _ (x j t issue : ℕ) where
@@ -230,48 +206,6 @@ module _ (os : List Numbered) (t : ℕ) (o : Numbered) where
   pub group-left : effectiveOf o ≡ t → superseded os o ≡ false → inGroup os t o ≡ true
   unfolding inGroup
   group-left h e = simp (eq-eqb _ _ h, e)
-
--- ---- the carrier, and the one that is used
-module _ (g : List Numbered) where
-  pub merged-other : (o : Numbered) → (codeNumber (effectOf o) ≡ 2 → ⊥) → o ∷ [] ≡ merged g o
-  unfolding merged
-  merged-other o h = simp (ne-eqb _ _ h)
-
-  pub merged-into : (o : Numbered) (f : Found) (c : Numbered) → codeNumber (effectOf o) ≡ 2 → foundList f ≡ orElse (present Sync g) (present Desy g) → f ≡ One c → carrying o c ∷ [] ≡ merged g o
-  unfolding merged
-  merged-into o f c h p q = let e : orElse (present Sync g) (present Desy g) ≡ c ∷ [] = sym p ∙ ap foundList q in simp (eq-eqb _ _ h, e)
-
-  pub merged-alone : (o : Numbered) (f : Found) → codeNumber (effectOf o) ≡ 2 → foundList f ≡ orElse (present Sync g) (present Desy g) → f ≡ Nothing → o ∷ [] ≡ merged g o
-  unfolding merged
-  merged-alone o f h p q = let e : orElse (present Sync g) (present Desy g) ≡ [] = sym p ∙ ap foundList q in simp (eq-eqb _ _ h, e)
-
-pub used-best : (g : List Numbered) (o : Numbered) → o ∷ [] ≡ bestFrom [] g → merged g o ≡ usedOf g
-unfolding usedOf bestFrom
-used-best [] o e = absurd (omega (arith, ap length e))
-used-best (x ∷ xs) o e = ap (merged (x ∷ xs)) (ap (λ (l : List Numbered). getD l 0 noNumbered) e)
-
-pub used-none : (g : List Numbered) → [] ≡ bestFrom [] g → [] ≡ usedOf g
-unfolding usedOf bestFrom
-used-none [] e = refl
-used-none (x ∷ xs) e = absurd (omega (arith, ap length e))
-
--- one more looked at
-pub better-one : (f : Found) (b o h : Numbered) → f ≡ One b → h ≡ pick (goesBefore o b) o b → h ∷ [] ≡ bestFrom (foundList f) (o ∷ [])
-unfolding bestFrom highest
-better-one f b o h e k = rw (e, k)
-
-pub better-none : (f : Found) (o : Numbered) → f ≡ Nothing → o ∷ [] ≡ bestFrom (foundList f) (o ∷ [])
-unfolding bestFrom highest
-better-none f o e = rw e
-
-module _ (o : Numbered) (code : ℕ) where
-  pub code-same : codeNumber (effectOf o) ≡ code → o ∷ [] ≡ earliest code (o ∷ [])
-  unfolding earliest those
-  code-same e = simp (eq-eqb _ _ e)
-
-  pub code-other : (codeNumber (effectOf o) ≡ code → ⊥) → [] ≡ earliest code (o ∷ [])
-  unfolding earliest those
-  code-other h = simp (ne-eqb _ _ h)
 
 -- ---- a group walked: of those before, the highest ranked, the earliest SYNC and the earliest DESY; the rest is still to come
 pub record Walked (best sync desy : Found) (rest whole : List Numbered) : Type 0 where

@@ -15,9 +15,10 @@ use Rattle.level.specs.Lists.{some, those}
 use Rattle.records.specs.Codes.{codeNumber}
 use Rattle.validation.specs.declared.Numbered.{Numbered}
 use Rattle.validation.specs.Kept.{effectiveOf, effectOf, superseded, group, highest, present, merged, usedOf, nextTime, usedFrom, used}
-use Rattle.choosing.specs.Working.{noNumbered, holding, foundList, joined, issueOf, supersedesAt, supersededAt, Rising, Run, Alone}
+use Rattle.ranking.specs.Found.{foundList}
+use Rattle.choosing.specs.Working.{noNumbered, holding, joined, issueOf, supersedesAt, supersededAt, Rising, Run, Alone}
 use Rattle.choosing.specs.declared.Sequence.{Sequence}
-use Rattle.choosing.specs.declared.Found.{Found}
+use Rattle.ranking.specs.declared.Found.{Found}
 use Rattle.choosing.proofs.Laws.{Begun, begun-none, begun-found, supersedes-same, supersedes-other, used-stop, used-more}
 
 -- ---- the next time

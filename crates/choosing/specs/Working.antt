@@ -6,16 +6,15 @@ use mathlib.Core.List.{List, [], _∷_, map}
 use mathlib.Core.Bool.{Bool, false, _&&_, _||_}
 use lib.Dec.{leb, ltb, eqb}
 use lib.ListN.{length, set, getD}
-use Rattle.level.specs.Lists.{filled, those}
+use Rattle.level.specs.Lists.{filled}
 use Rattle.level.specs.Choice.{pick}
 use Rattle.records.specs.declared.Effect.the-variants.{Trip}
 use Rattle.records.specs.declared.Instruction.{Instruction}
-use Rattle.records.specs.Codes.{codeNumber}
 use Rattle.validation.specs.declared.Numbered.{Numbered}
-use Rattle.validation.specs.Kept.{effectiveOf, effectOf, highest, firstOne}
+use Rattle.validation.specs.Kept.{effectiveOf}
 use Rattle.choosing.specs.declared.Sequence.{Sequence}
-use Rattle.choosing.specs.declared.Found.{Found}
-use Rattle.choosing.specs.declared.Found.the-variants.{One, Nothing}
+use Rattle.ranking.specs.declared.Found.{Found}
+use Rattle.ranking.specs.declared.Found.the-variants.{One, Nothing}
 
 -- a place that holds none
 abbrev pub noNumbered : Numbered
@@ -35,24 +34,9 @@ holding xs = record { items = filled 40 noNumbered xs; count = length xs }
 unfoldable pub pushed : Sequence → Numbered → Sequence
 pushed s o = record { items = set (s .items) (s .count) o; count = s .count + 1 }
 
--- what was found, as a list
-abbrev pub foundList : Found → List Numbered
-foundList (One o) = o ∷ []
-foundList Nothing = []
-
 unfoldable pub joined : Sequence → Found → Sequence
 joined s (One o) = pushed s o
 joined s Nothing = s
-
--- the highest ranked of these, where it is known of those before them
-unfoldable pub bestFrom : List Numbered → List Numbered → List Numbered
-bestFrom [] [] = []
-bestFrom [] (x ∷ xs) = highest x xs ∷ []
-bestFrom (b ∷ bs) xs = highest b xs ∷ []
-
--- the earliest entered of the code with this number, where it is present
-unfoldable pub earliest : ℕ → List Numbered → List Numbered
-earliest code g = firstOne (those (λ (o : Numbered). eqb (codeNumber (effectOf o)) code) g)
 
 -- ---- over the effective times and the issue times
 

@@ -2,14 +2,12 @@
 ghost use mathlib.Core.Path.{_≡_};
 ghost use Prim.Native.Nat.{_<_, _≤_};
 ghost use mathlib.Core.Bool.{true};
-ghost use mathlib.Core.List.{List, [], _∷_};
+ghost use mathlib.Core.List.{[]};
 ghost use lib.ListN.{length, take};
-ghost use Rattle.level.specs.Choice.{pick};
-ghost use Rattle.records.specs.declared.Effect.the-variants.{Sync, Desy};
-ghost use Rattle.records.specs.Codes.{codeNumber};
 ghost use Rattle.validation.specs.declared.Numbered.{Numbered};
-ghost use Rattle.validation.specs.Kept.{numbered, effectOf, group, goesBefore, orElse, present, carrying, merged, usedOf, used};
-ghost use Rattle.choosing.specs.Working.{noNumbered, entered, holding, pushed, foundList, joined, bestFrom, earliest, Timed, supersedesAt, supersededAt, earlierOf, nextAt, Rising, Run, Alone};
+ghost use Rattle.validation.specs.Kept.{numbered, group, usedOf, used};
+ghost use Rattle.ranking.specs.Found.{foundList};
+ghost use Rattle.choosing.specs.Working.{noNumbered, entered, holding, pushed, joined, Timed, supersedesAt, supersededAt, earlierOf, nextAt, Rising, Run, Alone};
 
 // Some of the instructions, in order: the first `count` places.
 pub struct Sequence {
@@ -17,28 +15,9 @@ pub struct Sequence {
     pub count: usize,
 }
 
-// One of them, or none.
-enum Found {
-    One(validation::Numbered),
-    Nothing,
-}
-
-// The codes that the steps name.
-const MWOF: u8 = 2;
-
 const SYNC: u8 = 4;
 
 const DESY: u8 = 6;
-
-// The number of an instruction's code.
-pub fn code_of(o: validation::Numbered) -> u8
-    ensures { λ r. ⌜ r ≡ codeNumber (effectOf o) ⌝ }
-{
-    let i = o.instruction;
-    let m = i.meaning;
-    let e = m.effect;
-    records::code_number(e)
-}
 
 // The instruction at a place, with its number: from 1 as entered.
 fn number_at(instruction: records::Instruction, at: usize) -> validation::Numbered
@@ -100,13 +79,13 @@ fn push(s: Sequence, o: validation::Numbered) -> Sequence
 }
 
 // With what was found.
-fn push_found(s: Sequence, found: Found) -> Sequence
+fn push_found(s: Sequence, found: ranking::Found) -> Sequence
     requires { ⌜ s .count < 40 ⌝ }
     ensures { λ r. ⌜ r ≡ joined s found ⌝ }
 {
     match found {
-        Found::One(o) => push(s, o),
-        Found::Nothing => s,
+        ranking::Found::One(o) => push(s, o),
+        ranking::Found::Nothing => s,
     }
 }
 
@@ -141,117 +120,6 @@ pub fn is_superseded(times: &[u32; 40], issues: &[u32; 40], n: usize, t: u32, is
 
 // ---- step 2: the one that is used of those left at one effective time
 
-// x, entered after o, goes before it.
-fn goes_before(x: validation::Numbered, o: validation::Numbered) -> bool
-    ensures { λ r. ⌜ r ≡ goesBefore x o ⌝ }
-{
-    let i = x.instruction;
-    let j = o.instruction;
-    let m = i.meaning;
-    let k = j.meaning;
-    if m.rank < k.rank {
-        return true;
-    }
-    if code_of(x) != MWOF {
-        return false;
-    }
-    if code_of(o) != MWOF {
-        return false;
-    }
-    j.level < i.level
-}
-
-// The one of two that goes before the other; o was entered first.
-fn higher(x: validation::Numbered, o: validation::Numbered) -> validation::Numbered
-    ensures { λ r. ⌜ r ≡ pick (goesBefore x o) x o ⌝ }
-{
-    if goes_before(x, o) {
-        return x;
-    }
-    o
-}
-
-// The highest ranked so far, with o looked at.
-fn better(best: Found, o: validation::Numbered) -> Found
-    ensures { λ r. ⌜ foundList r ≡ bestFrom (foundList best) (o ∷ []) ⌝ }
-{
-    match best {
-        Found::One(b) => {
-            let h = higher(o, b);
-            Found::One(h)
-        }
-        Found::Nothing => Found::One(o),
-    }
-}
-
-// o, where it has this code.
-fn of_code(o: validation::Numbered, code: u8) -> Found
-    ensures { λ r. ⌜ foundList r ≡ earliest code (o ∷ []) ⌝ }
-{
-    if code_of(o) == code {
-        return Found::One(o);
-    }
-    Found::Nothing
-}
-
-// The first found, else the other.
-fn or_else(first: Found, other: Found) -> Found
-    ensures { λ r. ⌜ foundList r ≡ orElse (foundList first) (foundList other) ⌝ }
-{
-    match first {
-        Found::One(o) => Found::One(o),
-        Found::Nothing => other,
-    }
-}
-
-// c with the level and the rates of m.
-fn carry(m: validation::Numbered, c: validation::Numbered) -> validation::Numbered
-    ensures { λ r. ⌜ r ≡ carrying m c ⌝ }
-{
-    let i = m.instruction;
-    let j = c.instruction;
-    let meaning = j.meaning;
-    let instruction = records::Instruction {
-        effective: j.effective,
-        issue: j.issue,
-        meaning,
-        level: i.level,
-        up: i.up,
-        down: i.down,
-    };
-    validation::Numbered {
-        number: c.number,
-        instruction,
-    }
-}
-
-// The highest ranked of a group; an MWOF goes into the carrier, where there is one.
-fn merge(highest: validation::Numbered, carrier: Found) -> validation::Numbered
-    ensures { λ r. ⌜ ((g : List Numbered) → foundList carrier ≡ orElse (present Sync g) (present Desy g) → r ∷ [] ≡ merged g highest) ⌝ }
-{
-    if code_of(highest) != MWOF {
-        return highest;
-    }
-    match carrier {
-        Found::One(c) => carry(highest, c),
-        Found::Nothing => highest,
-    }
-}
-
-// The one that is used of a group: by its highest ranked, its earliest SYNC and its earliest DESY.
-fn used_of(best: Found, sync: Found, desy: Found) -> Found
-    ensures { λ r. ⌜ ((g : List Numbered) → foundList best ≡ bestFrom [] g → foundList sync ≡ earliest 4 g → foundList desy ≡ earliest 6 g → foundList r ≡ usedOf g) ⌝ }
-{
-    match best {
-        Found::One(h) => {
-            let carrier = or_else(sync, desy);
-            let u = merge(h, carrier);
-            Found::One(u)
-        }
-        Found::Nothing => Found::Nothing,
-    }
-}
-
 // The one that is used of those left at the effective time t, of the first n with these times.
 fn used_at(
     instructions: [records::Instruction; 40],
@@ -259,13 +127,13 @@ fn used_at(
     issues: &[u32; 40],
     n: usize,
     t: u32,
-) -> Found
+) -> ranking::Found
     requires { ⌜ (n ≤ 40) × Timed (numbered 1 (take n instructions)) (take n (now times)) (take n (now issues)) ⌝ }
     ensures { λ r. ⌜ foundList r ≡ usedOf (group (numbered 1 (take n instructions)) t) ⌝ }
 {
-    let mut best = Found::Nothing;
-    let mut sync = Found::Nothing;
-    let mut desy = Found::Nothing;
+    let mut best = ranking::Found::Nothing;
+    let mut sync = ranking::Found::Nothing;
+    let mut desy = ranking::Found::Nothing;
     let mut i: usize = 0;
     while i < n {
         let at = i;
@@ -279,13 +147,13 @@ fn used_at(
         }
         let instruction = instructions[at];
         let o = number_at(instruction, at);
-        best = better(best, o);
-        let s = of_code(o, SYNC);
-        sync = or_else(sync, s);
-        let d = of_code(o, DESY);
-        desy = or_else(desy, d);
+        best = ranking::better(best, o);
+        let s = ranking::of_code(o, SYNC);
+        sync = ranking::or_else(sync, s);
+        let d = ranking::of_code(o, DESY);
+        desy = ranking::or_else(desy, d);
     }
-    used_of(best, sync, desy)
+    ranking::used_of(best, sync, desy)
 }
 
 // ---- those used, in time order
@@ -399,12 +267,12 @@ fn used_ordered(
         }
         let u = used_at(instructions, times, issues, n, t);
         match u {
-            Found::One(o) => {
+            ranking::Found::One(o) => {
                 let k = out.count;
                 out.items[k] = o;
                 out.count = k + 1;
             }
-            Found::Nothing => {}
+            ranking::Found::Nothing => {}
         }
     }
     out

@@ -25,7 +25,7 @@ fn state_after(u: records::UnitData, c: course::Course, before: u32, k: u32) -> 
     ensures { λ r. ⌜ r ≡ byRule (trajectoryOf u c) before k ⌝ }
 {
     let up = trajectory::is_rising(c);
-    let l = stops::own_lists(u, c, up);
+    let l = rates::own_lists(u, c, up);
     let mut p = trajectory::begin_at(c, 0);
     let mut off = effects::off_starting(c, before);
     while p.second < k {

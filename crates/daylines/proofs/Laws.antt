@@ -23,9 +23,9 @@ use Rattle.course.specs.Pieces.{piecesIn}
 use Rattle.course.proofs.Near.{Short}
 use Rattle.profile.specs.Profile.{beginOf, spansOf, dayPieces}
 use Rattle.day.specs.Day.{halfHours, daySeconds, noCourse}
-use Rattle.stops.specs.declared.OwnLists.{OwnLists}
+use Rattle.rates.specs.declared.OwnLists.{OwnLists}
 use Rattle.trajectory.specs.declared.Place.{Place}
-use Rattle.stops.specs.Ways.{headed, ownLists, listsBy}
+use Rattle.rates.specs.Ways.{headed, ownLists, listsBy}
 use Rattle.trajectory.specs.Walk.{beginning, pieceBetween, onward, piecesLeft}
 use Rattle.trajectory.proofs.Left.{left-none, onward-first, all-left}
 use Rattle.trajectory.proofs.Own.{own-left}

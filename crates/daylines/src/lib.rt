@@ -29,7 +29,7 @@ pub fn fates_width(fates: [u8; 40], count: usize) -> usize
     while i < n {
         let number = i as u64 + 1;
         let fate = fates[i] as u64;
-        width += lines::f_width(number, fate);
+        width += widths::f_width(number, fate);
         i += 1;
     }
     width
@@ -61,7 +61,7 @@ fn piece_width(p: trajectory::Place, q: trajectory::Place) -> usize
 {
     let from = p.second as u64;
     let to = q.second as u64;
-    lines::s_width(from, to, p.level, q.level)
+    widths::s_width(from, to, p.level, q.level)
 }
 
 // The line of the straight piece from p to q.
@@ -79,7 +79,7 @@ fn course_width(u: records::UnitData, c: course::Course, n: u32) -> usize
     ensures { λ r. ⌜ (r ≡ length (courseLines u c n)) × (r ≤ 369367187370) ⌝ }
 {
     let up = trajectory::is_rising(c);
-    let l = stops::own_lists(u, c, up);
+    let l = rates::own_lists(u, c, up);
     let mut p = trajectory::begin_at(c, c.begin);
     let mut width: usize = 0;
     while p.second < n {
@@ -96,7 +96,7 @@ fn put_course(out: &mut [u8], u: records::UnitData, c: course::Course, n: u32) -
     ensures { λ r. ⌜ (r ≡ length (courseLines u c n)) × (now (out .exit) ≡ laid (courseLines u c n) (now (out .entry))) ⌝ }
 {
     let up = trajectory::is_rising(c);
-    let l = stops::own_lists(u, c, up);
+    let l = rates::own_lists(u, c, up);
     let mut p = trajectory::begin_at(c, c.begin);
     let mut at: usize = 0;
     while p.second < n {
@@ -199,7 +199,7 @@ pub fn quantities_width(sums: [u64; 49]) -> usize
         let kw = quantity_at(&sums, i);
         let first = i + 1;
         let last = run_end(&sums, kw, first);
-        width += lines::q_width(first as u64, last as u64, kw);
+        width += widths::q_width(first as u64, last as u64, kw);
         i = last;
     }
     width
@@ -230,7 +230,7 @@ pub fn closing_width(e: profile::Closing) -> usize
     ensures { λ r. ⌜ (r ≡ length (closingLine e)) × (r ≤ 86) ⌝ }
 {
     let level = e.level;
-    lines::e_width(level.grains, e.target as u64, e.heat as u64, e.off as u64)
+    widths::e_width(level.grains, e.target as u64, e.heat as u64, e.off as u64)
 }
 
 // The line of the closing state.

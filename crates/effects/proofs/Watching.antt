@@ -18,7 +18,7 @@ use Rattle.course.specs.Pieces.{piece}
 use Rattle.course.proofs.Near.{Short}
 use Rattle.course.proofs.Pieces.{Along, Line, Traces}
 use Rattle.trajectory.specs.declared.Place.{Place}
-use Rattle.stops.specs.Ways.{headed, listsIn}
+use Rattle.rates.specs.Ways.{headed, listsIn}
 use Rattle.trajectory.specs.Walk.{momentOf, beginning, onward}
 use Rattle.trajectory.proofs.Seconds.{after-add}
 use Rattle.trajectory.proofs.Goes.{Goes, onward-goes}

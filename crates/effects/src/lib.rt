@@ -242,7 +242,7 @@ fn step_up(block: u64, target: u64, v: u64) -> u64
 fn course_from(u: records::UnitData, begin: u32, g: profile::Setting) -> course::Course
     ensures { λ r. ⌜ r ≡ courseFrom u begin g ⌝ }
 {
-    let column = stops::column_for(u, g.heat);
+    let column = rates::column_for(u, g.heat);
     let block = level::Level::from_kw(column.block);
     let target = level::Level::from_kw(g.target);
     let grains = step_up(block.grains, target.grains, g.from);

@@ -36,12 +36,12 @@ fn unit_step(day: Day, body: &[u8]) -> Stepped
     if day.hasUnit {
         return refused(day, Refusal::SecondOne);
     }
-    let ns = units::unit_numbers(body);
+    let ns = unitbody::unit_numbers(body);
     let answer = units::unit_answer(ns);
     match answer {
         Answer::Refused(r) => refused(day, r),
         Answer::Accepted => {
-            let unit = units::unit_of(ns);
+            let unit = unitbody::unit_of(ns);
             let next = day::with_unit(day, unit);
             accepted(next, 249)
         }

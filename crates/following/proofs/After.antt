@@ -24,7 +24,7 @@ use Rattle.profile.specs.State.{byRule}
 use Rattle.profile.specs.Effects.{idle, begun, underWay, courseFrom, goesOn, replaces, stateAt, follow}
 use Rattle.profile.specs.Profile.{beginOf, spansOf, piecesTo, dayPieces}
 use Rattle.day.specs.Day.{daySeconds}
-use Rattle.stops.specs.Ways.{headed, listsIn, ownLists, listsBy}
+use Rattle.rates.specs.Ways.{headed, listsIn, ownLists, listsBy}
 use Rattle.trajectory.specs.Walk.{beginning, twiceTo}
 use Rattle.trajectory.proofs.Goes.{standing-here}
 use Rattle.trajectory.proofs.Areas.{twice-is}

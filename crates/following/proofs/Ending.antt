@@ -7,7 +7,7 @@ use native.Mathlib.Omega.{arith}
 use lib.ListN.{length, take, drop}
 use Rattle.level.specs.Level.{grains}
 use Rattle.course.specs.declared.Course.{Course}
-use Rattle.stops.specs.Ways.{headed, listsBy}
+use Rattle.rates.specs.Ways.{headed, listsBy}
 use Rattle.trajectory.specs.Walk.{twiceTo}
 use Rattle.text.specs.Text.{laid}
 use Rattle.summing.specs.Summing.{firstSum}

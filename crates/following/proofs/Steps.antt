@@ -26,9 +26,9 @@ use Rattle.profile.specs.State.{byRule}
 use Rattle.profile.specs.Effects.{follow}
 use Rattle.profile.specs.Profile.{beginOf, spansOf, piecesTo}
 use Rattle.day.specs.Day.{daySeconds}
-use Rattle.stops.specs.declared.OwnLists.{OwnLists}
+use Rattle.rates.specs.declared.OwnLists.{OwnLists}
 use Rattle.trajectory.specs.declared.Place.{Place}
-use Rattle.stops.specs.Ways.{headed, rampFor, ownLists, listsBy}
+use Rattle.rates.specs.Ways.{headed, rampFor, ownLists, listsBy}
 use Rattle.trajectory.specs.Walk.{beginning, onward, twiceTo}
 use Rattle.trajectory.proofs.Goes.{Goes, onward-goes}
 use Rattle.text.specs.Text.{laid}

@@ -15,7 +15,7 @@ use Rattle.profile.specs.State.{byRule}
 use Rattle.profile.specs.Effects.{stateAt}
 use Rattle.profile.specs.Profile.{spansOf, piecesTo, dayPieces, closingBy}
 use Rattle.day.specs.Day.{daySeconds}
-use Rattle.stops.specs.Ways.{headed, listsBy}
+use Rattle.rates.specs.Ways.{headed, listsBy}
 use Rattle.trajectory.specs.Walk.{twiceTo}
 use Rattle.text.specs.Text.{laid}
 use Rattle.listing.specs.Listing.{sLines}

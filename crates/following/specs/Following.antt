@@ -18,7 +18,7 @@ use Rattle.profile.specs.State.{byRule}
 use Rattle.profile.specs.Effects.{follow, stateAt}
 use Rattle.profile.specs.Profile.{beginOf, spansOf, piecesTo, courseOf, closingBy}
 use Rattle.day.specs.Day.{daySeconds}
-use Rattle.stops.specs.Ways.{headed, ownLists, listsBy}
+use Rattle.rates.specs.Ways.{headed, ownLists, listsBy}
 use Rattle.trajectory.specs.Walk.{beginning, twiceTo}
 use Rattle.text.specs.Text.{laid}
 use Rattle.summing.specs.Summing.{firstSum}

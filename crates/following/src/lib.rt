@@ -21,7 +21,7 @@ const DAY: u32 = 86400;
 pub struct OnCourse {
     pub now: profile::UnderWay,
     pub up: bool,
-    pub lists: stops::OwnLists,
+    pub lists: rates::OwnLists,
     pub place: trajectory::Place,
     pub off: u32,
 }
@@ -32,7 +32,7 @@ fn set_out(u: records::UnitData, now: profile::UnderWay) -> OnCourse
 {
     let c = now.course;
     let up = trajectory::is_rising(c);
-    let lists = stops::own_lists(u, c, up);
+    let lists = rates::own_lists(u, c, up);
     let place = trajectory::begin_at(c, c.begin);
     let off = effects::off_starting(c, now.off);
     OnCourse {
@@ -118,7 +118,7 @@ fn follow_on(
             let next = begin_next(u, now, o, q, s.later);
             fates[at] = 0;
             let d = next.course;
-            let heat = stops::place_of(d.heat);
+            let heat = rates::place_of(d.heat);
             g.now = next;
             g.up = trajectory::is_rising(d);
             l.column = u.columns[heat];

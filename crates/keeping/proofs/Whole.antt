@@ -23,10 +23,12 @@ use Rattle.choosing.specs.declared.Sequence.{Sequence}
 use Rattle.keeping.specs.declared.Validation.{Validation}
 use Rattle.choosing.specs.Working.{noNumbered, holding, Timed, supersededAt}
 use Rattle.keeping.specs.Outcome.{outcomeOf, validationOf}
-use Rattle.keeping.specs.Working.{Checking, setFate, marked, noneChecked, Tracks, settleFate, settled, fatesTo}
+use Rattle.keeping.specs.Late.{settleFate, settled, fatesTo}
+use Rattle.checking.specs.Working.{Checking, setFate, marked, noneChecked, Tracks}
 use Rattle.choosing.proofs.Laws.{held, superseded-at}
-use Rattle.keeping.proofs.Stack.{stack-turned}
-use Rattle.keeping.proofs.Steps.{set-zero, set-some, settle-zero, settle-done, settle-some}
+use Rattle.checking.proofs.Stack.{stack-turned}
+use Rattle.keeping.proofs.Late.{settle-zero, settle-done, settle-some}
+use Rattle.checking.proofs.Steps.{set-zero, set-some}
 
 -- the array has at each place the fate of the number one above
 pub record Reads (fates : List ℕ) (ms : List Mark) : Type 0 where

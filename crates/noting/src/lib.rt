@@ -4,13 +4,13 @@ ghost use Prim.Native.Nat.{_+_, _*_, _-_, min, max, _<_, _≤_};
 ghost use Rattle.level.specs.Lists.{listFrom};
 ghost use Rattle.level.specs.Level.{grains};
 ghost use Rattle.course.specs.Course.{trajectoryOf, levelAt};
-ghost use Rattle.stops.specs.Ways.{headed, listsBy};
+ghost use Rattle.rates.specs.Ways.{headed, listsBy};
 ghost use Rattle.course.proofs.Near.{Short};
 ghost use Rattle.trajectory.specs.Walk.{standing, notedAt};
 
 // Along the course to the second n.
 pub fn walk_to(
-    l: stops::OwnLists,
+    l: rates::OwnLists,
     c: course::Course,
     up: bool,
     from: trajectory::Place,
@@ -34,7 +34,7 @@ pub fn level_after(u: records::UnitData, c: course::Course, k: u32) -> u64
     ensures { λ r. ⌜ r ≡ levelAt (trajectoryOf u c) k ⌝ }
 {
     let up = trajectory::is_rising(c);
-    let l = stops::own_lists(u, c, up);
+    let l = rates::own_lists(u, c, up);
     let from = trajectory::begin_at(c, 0);
     let p = walk_to(l, c, up, from, k);
     p.level
@@ -70,7 +70,7 @@ pub fn noted_sums(u: records::UnitData, c: course::Course, end: u32) -> [u64; 49
     ensures { λ r. ⌜ r ≡ listFrom (notedAt u c end) 0 49 ⌝ }
 {
     let up = trajectory::is_rising(c);
-    let l = stops::own_lists(u, c, up);
+    let l = rates::own_lists(u, c, up);
     let mut p = trajectory::begin_at(c, 0);
     let mut total: u64 = 0;
     let mut out = [0u64; 49];

@@ -15,9 +15,9 @@ use Rattle.course.specs.declared.Course.{Course}
 use Rattle.course.specs.Lists.{Lists}
 use Rattle.course.specs.Course.{Heading}
 use Rattle.course.proofs.Near.{Short}
-use Rattle.stops.specs.declared.OwnLists.{OwnLists}
+use Rattle.rates.specs.declared.OwnLists.{OwnLists}
 use Rattle.trajectory.specs.declared.Place.{Place}
-use Rattle.stops.specs.Ways.{headed, ownLists, listsBy}
+use Rattle.rates.specs.Ways.{headed, ownLists, listsBy}
 use Rattle.stops.specs.Ahead.{segmentFrom}
 use Rattle.trajectory.specs.Walk.{afterHold, afterRest, afterRun, along, onward, standing, twiceTo}
 use Rattle.trajectory.proofs.Onward.{along-stuck, along-short, along-run, onward-hold, onward-rest, onward-along}

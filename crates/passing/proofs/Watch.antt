@@ -18,7 +18,7 @@ use Rattle.profile.specs.declared.UnderWay.{UnderWay}
 use Rattle.profile.specs.State.{held, watch, byRule}
 use Rattle.profile.specs.Effects.{stateAt}
 use Rattle.trajectory.specs.declared.Place.{Place}
-use Rattle.stops.specs.Ways.{headed, listsIn}
+use Rattle.rates.specs.Ways.{headed, listsIn}
 use Rattle.trajectory.specs.Walk.{momentOf, beginning, onward}
 use Rattle.trajectory.proofs.Goes.{Goes, onward-goes}
 use Rattle.trajectory.proofs.Courses.{heading-is, begins-short}

@@ -15,9 +15,9 @@ use Rattle.course.specs.Course.{Heading, rising, falling, toward, gap, momentAt
 use Rattle.course.proofs.Near.{Short}
 use Rattle.course.proofs.Pieces.{Along}
 use Rattle.profile.specs.State.{watch}
-use Rattle.stops.specs.declared.OwnLists.{OwnLists}
+use Rattle.rates.specs.declared.OwnLists.{OwnLists}
 use Rattle.trajectory.specs.declared.Place.{Place}
-use Rattle.stops.specs.Ways.{headed, ownLists, listsBy}
+use Rattle.rates.specs.Ways.{headed, ownLists, listsBy}
 use Rattle.trajectory.specs.Walk.{momentOf, onward, standing, piecesLeft, twiceTo}
 use Rattle.text.specs.Text.{laid}
 use Rattle.listing.specs.Listing.{sLines}

@@ -4,7 +4,7 @@ ghost use Prim.Native.Nat.{_+_, _*_, _-_, _<_, _≤_};
 ghost use lib.ListN.{length};
 ghost use Rattle.level.specs.Level.{grains};
 ghost use Rattle.course.proofs.Near.{Short};
-ghost use Rattle.stops.specs.Ways.{headed};
+ghost use Rattle.rates.specs.Ways.{headed};
 ghost use Rattle.text.specs.Text.{laid};
 ghost use Rattle.daylines.specs.Rest.{pieceLine};
 ghost use Rattle.passing.specs.Passing.{AddsLine, StaysLow, Straight, AddsPiece, Summed, lastLine, Roomy, Passing};
@@ -91,7 +91,7 @@ pub struct Passed {
 pub fn pass_to(
     out: &mut [u8],
     parts: &mut [u64; 49],
-    l: stops::OwnLists,
+    l: rates::OwnLists,
     c: course::Course,
     up: bool,
     from: trajectory::Place,

@@ -37,11 +37,11 @@ pub fn read_unit(input: &[u8]) -> First
     ensures { λ r. ⌜ (r .fits ≡ true → UnitIn (now (input .entry)) (r .unit)) ⌝ }
 {
     if input.len() < 249 {
-        let unit = units::unit_of([0; 62]);
+        let unit = unitbody::unit_of([0; 62]);
         return First { fits: false, unit };
     }
-    let ns = units::unit_numbers(&input[1..249]);
-    let unit = units::unit_of(ns);
+    let ns = unitbody::unit_numbers(&input[1..249]);
+    let unit = unitbody::unit_of(ns);
     if input[0] != 1 {
         return First { fits: false, unit };
     }

@@ -15,7 +15,7 @@ use Rattle.level.specs.Level.{grains}
 use Rattle.records.specs.declared.Trigger.{Trigger}
 use Rattle.course.specs.Lists.{Lists, inGrains}
 use Rattle.course.specs.Course.{Heading, rising, falling, counting, triggers, holding, holdAt}
-use Rattle.stops.proofs.Arrays.{three-of, two-of}
+use Rattle.rates.proofs.Arrays.{three-of, two-of}
 
 and-false : (a b : Bool) → b ≡ false → (a && b) ≡ false
 and-false true b e = e

@@ -1,5 +1,3 @@
-pub mod Arrays
-pub mod Rates
 pub mod Holds
 pub mod Nexts
 pub mod Sides

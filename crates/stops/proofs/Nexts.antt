@@ -14,8 +14,8 @@ use Rattle.level.specs.Level.{grains}
 use Rattle.records.specs.declared.Trigger.{Trigger}
 use Rattle.course.specs.Course.{Heading, rising, falling, nearest}
 use Rattle.course.proofs.Near.{up-take, up-skip, down-take, down-skip}
-use Rattle.stops.specs.Ways.{timedLevels}
-use Rattle.stops.proofs.Arrays.{four-of, three-of, two-of, one-of}
+use Rattle.rates.specs.Ways.{timedLevels}
+use Rattle.rates.proofs.Arrays.{four-of, three-of, two-of, one-of}
 
 pub near-none : (h : Heading) (v n : ℕ) → nearest h v n [] ≡ n
 unfolding nearest

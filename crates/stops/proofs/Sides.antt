@@ -17,8 +17,8 @@ use Rattle.course.specs.declared.Course.{Course}
 use Rattle.course.specs.Lists.{inGrains, ratesOf}
 use Rattle.course.specs.Course.{Heading, rising, falling, counting, triggers, breaksInUse, nearest, candidates, nextStop}
 use Rattle.course.proofs.Near.{Past, Short, up-take, up-skip, down-take, down-skip}
-use Rattle.stops.specs.declared.OwnLists.{OwnLists}
-use Rattle.stops.specs.Ways.{listsBy, timedLevels}
+use Rattle.rates.specs.declared.OwnLists.{OwnLists}
+use Rattle.rates.specs.Ways.{listsBy, timedLevels}
 use Rattle.stops.proofs.Nexts.{near-none, near-append, up-behind, down-behind}
 
 -- ---- the search begins at the target: nothing is further

@@ -65,7 +65,7 @@ fn add_course(parts: &mut [u64; 49], u: records::UnitData, c: course::Course, en
         × (firstSum 49 (now (parts .exit)) ≤ firstSum 49 (now (parts .entry)) + 47498902319923200) ⌝ }
 {
     let up = trajectory::is_rising(c);
-    let l = stops::own_lists(u, c, up);
+    let l = rates::own_lists(u, c, up);
     let target = level::Level::from_kw(c.target);
     let last = seconds_from(c.begin, level::smaller(end, DAY));
     let mut p = trajectory::begin_at(c, 0);

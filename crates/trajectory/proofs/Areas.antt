@@ -19,7 +19,7 @@ use Rattle.course.specs.Pieces.{piece, twiceArea}
 use Rattle.course.proofs.Rule.{at}
 use Rattle.course.proofs.Pieces.{traces-area}
 use Rattle.trajectory.specs.declared.Place.{Place}
-use Rattle.stops.specs.Ways.{headed, listsIn}
+use Rattle.rates.specs.Ways.{headed, listsIn}
 use Rattle.trajectory.specs.Walk.{momentOf, beginning, twiceBetween, standing, twiceTo}
 use Rattle.trajectory.proofs.Seconds.{after-add}
 use Rattle.trajectory.proofs.Goes.{Goes}
@@ -112,4 +112,3 @@ module _ (u : UnitData) (c : Course) (up : Bool) (rises : up ≡ ltb (c .start .
       ∙ area-same (λ k. after (headed up) (listsIn u c) (grains (c .target)) k (momentOf (here a m)) .level) (λ j. levelAt (trajectoryOf u c) (x + j))
       (λ j. ap (λ (q : Moment). q .level) (later-is a m j)) 0 (n - m)
       ∙ sym (area-from (levelAt (trajectoryOf u c)) x (n - m))
-

@@ -18,7 +18,7 @@ use Rattle.course.specs.Course.{Heading, rising, falling, heading, Trajectory, 
 use Rattle.course.proofs.Near.{Short}
 use Rattle.course.proofs.Rule.{at}
 use Rattle.course.proofs.Whole.{short-start, level-up, level-down, ways-within}
-use Rattle.stops.specs.Ways.{headed, listsIn}
+use Rattle.rates.specs.Ways.{headed, listsIn}
 use Rattle.trajectory.specs.Walk.{momentOf, beginning, standing}
 
 recorded-top : (ls : List Segment) (k : ℕ) → recorded ls k ≤ wholeWay ls

@@ -25,7 +25,7 @@ use Rattle.course.proofs.Near.{Past, Short, short-past, past-on, those-length, 
 use Rattle.course.proofs.Ahead.{rate-same, next-same, next-past, next-fewer}
 use Rattle.course.proofs.Rule.{segments-more, segments-stuck, segments-none}
 use Rattle.trajectory.specs.declared.Place.{Place}
-use Rattle.stops.specs.Ways.{headed, listsIn}
+use Rattle.rates.specs.Ways.{headed, listsIn}
 use Rattle.stops.specs.Ahead.{segmentTo, segmentFrom}
 use Rattle.trajectory.specs.Walk.{beginning, pieceBetween, afterHold, afterRest, afterRun, afterShort, along, onward, segmentsFrom, piecesLeft}
 use Rattle.trajectory.proofs.Courses.{heading-is}

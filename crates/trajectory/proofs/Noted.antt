@@ -22,7 +22,7 @@ use Rattle.course.specs.Course.{Heading, Moment, trajectoryOf, levelAt, after}
 use Rattle.course.proofs.Near.{Short}
 use Rattle.course.proofs.Pieces.{pieces-area}
 use Rattle.trajectory.specs.declared.Place.{Place}
-use Rattle.stops.specs.Ways.{headed, listsIn}
+use Rattle.rates.specs.Ways.{headed, listsIn}
 use Rattle.trajectory.specs.Walk.{momentOf, beginning, standing, twiceTo, notedAt}
 use Rattle.trajectory.proofs.Seconds.{after-add}
 use Rattle.trajectory.proofs.Goes.{standing-here}

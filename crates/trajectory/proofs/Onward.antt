@@ -13,7 +13,7 @@ use Rattle.course.specs.Course.{Heading, rising, falling, toward, gap, nextStop
 use Rattle.course.proofs.Near.{Past, gap-to}
 use Rattle.course.proofs.Ahead.{next-past}
 use Rattle.trajectory.specs.declared.Place.{Place}
-use Rattle.stops.specs.Ways.{headed}
+use Rattle.rates.specs.Ways.{headed}
 use Rattle.stops.specs.Ahead.{segmentTo, segmentFrom}
 use Rattle.trajectory.specs.Walk.{Reaches, afterHold, afterRest, afterRun, afterShort, along, onward}
 
@@ -74,4 +74,3 @@ reaches-stop falling l t v p m = let n = next-past falling l t v p in omega arit
 pub to-stop : (h : Heading) (l : Lists) (t v : ℕ) → Past h v t → toward h v (segmentFrom h l t v .way) ≡ nextStop h l t v
 unfolding segmentFrom segmentTo
 to-stop h l t v p = gap-to v (nextStop h l t v) h (next-past h l t v p .0)
-

@@ -13,9 +13,9 @@ use Rattle.course.specs.declared.Course.{Course}
 use Rattle.course.specs.Lists.{Lists, ratesOf, listsOf}
 use Rattle.course.specs.Course.{Heading, Moment, toward, gap, inUse, rateAt, breaksInUse, triggers, candidates, nextStop, holdAt, arrived, second, after, stopsFrom, segmentsOf}
 use Rattle.course.specs.Pieces.{piece, piecesOf}
-use Rattle.stops.specs.declared.OwnLists.{OwnLists}
+use Rattle.rates.specs.declared.OwnLists.{OwnLists}
 use Rattle.trajectory.specs.declared.Place.{Place}
-use Rattle.stops.specs.Ways.{headed, listsIn, ownLists, listsBy}
+use Rattle.rates.specs.Ways.{headed, listsIn, ownLists, listsBy}
 use Rattle.stops.specs.Ahead.{segmentTo, segmentFrom}
 use Rattle.trajectory.specs.Walk.{momentOf, afterHold, afterRest, along, onward, standing, segmentsFrom, piecesLeft, twiceTo}
 use Rattle.trajectory.proofs.Areas.{area-same}

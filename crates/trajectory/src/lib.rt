@@ -5,7 +5,7 @@ ghost use Prim.Native.Nat.{_+_, _*_, _-_, _/_, min, _<_, _≤_};
 ghost use lib.Dec.{ltb};
 ghost use Rattle.level.specs.Level.{grains};
 ghost use Rattle.course.specs.Course.{toward, segments};
-ghost use Rattle.stops.specs.Ways.{headed, listsBy};
+ghost use Rattle.rates.specs.Ways.{headed, listsBy};
 ghost use Rattle.course.proofs.Near.{Short};
 ghost use Rattle.trajectory.specs.Walk.{Reaches, afterHold, afterRest, afterRun, afterShort, along, onward, standing, beginning, pieceBetween, twiceBetween, twiceTo};
 
@@ -130,7 +130,7 @@ fn along_segment(up: bool, p: Place, s: segments::Segment, n: u32) -> Place
 }
 
 // To the end of the straight piece that begins at p, and no further than the second n.
-pub fn walk_on(l: stops::OwnLists, c: course::Course, up: bool, p: Place, n: u32) -> Place
+pub fn walk_on(l: rates::OwnLists, c: course::Course, up: bool, p: Place, n: u32) -> Place
     requires { ⌜ p .second < n ⌝ }
     requires { ⌜ Short (headed up) (grains (c .target)) (p .level) ⌝ }
     ensures { λ r. ⌜ r ≡ onward (headed up) (listsBy l c) (grains (c .target)) n p ⌝ }
@@ -138,7 +138,7 @@ pub fn walk_on(l: stops::OwnLists, c: course::Course, up: bool, p: Place, n: u32
     if 0 < p.left {
         return after_hold(p, n);
     }
-    let t = stops::grains_of(c.target);
+    let t = rates::grains_of(c.target);
     if p.level == t {
         return after_rest(p, n);
     }
@@ -162,7 +162,7 @@ pub fn piece_between(p: Place, q: Place) -> course::Piece
 pub fn is_rising(c: course::Course) -> bool
     ensures { λ r. ⌜ r ≡ ltb (c .start .grains) (grains (c .target)) ⌝ }
 {
-    let t = stops::grains_of(c.target);
+    let t = rates::grains_of(c.target);
     let start = c.start;
     start.grains < t
 }
@@ -199,7 +199,7 @@ pub struct Summed {
 }
 
 // Along the course to the second n, with twice the area on the way. Levels are below those of 32 bits of kW.
-pub fn sum_to(l: stops::OwnLists, c: course::Course, up: bool, from: Place, n: u32) -> Summed
+pub fn sum_to(l: rates::OwnLists, c: course::Course, up: bool, from: Place, n: u32) -> Summed
     requires { ⌜ (from .second ≤ n) × (n ≤ 16777216) ⌝ }
     requires { ⌜ Short (headed up) (grains (c .target)) (from .level) ⌝ }
     requires { ⌜ from .level < 274877906944 ⌝ }

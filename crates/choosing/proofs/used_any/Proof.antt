@@ -4,7 +4,7 @@ use mathlib.Core.List.{List, [], _++_}
 use lib.ListN.{length, take}
 use Rattle.validation.specs.declared.Numbered.{Numbered}
 use Rattle.validation.specs.Kept.{numbered, effectiveOf, used, usedFrom, usedOf, group, nextTime}
-use Rattle.choosing.specs.Working.{foundList}
+use Rattle.ranking.specs.Found.{foundList}
 use Rattle.choosing.proofs.Laws.{Begun, begun-none, begun-found, begun-all, joined-count, next-is, time-fits, used-stop, used-more, used-zero, used-begins, as-many, timed-all}
 use native.Mathlib.Omega.{arith}
 use borrow.Author.Needs.{needs}

@@ -6,7 +6,8 @@ use lib.ListN.{length, take, drop, getD}
 use Rattle.level.specs.Lists.{those}
 use Rattle.validation.specs.declared.Numbered.{Numbered}
 use Rattle.validation.specs.Kept.{numbered, effectiveOf, superseded, group, orElse, usedOf}
-use Rattle.choosing.specs.Working.{noNumbered, foundList, issueOf, Timed, supersededAt}
+use Rattle.ranking.specs.Found.{foundList}
+use Rattle.choosing.specs.Working.{noNumbered, issueOf, Timed, supersededAt}
 use Rattle.level.proofs.Lists.{left-none}
 use Rattle.choosing.proofs.Laws.{Walked, inGroup, those-none, those-skip, those-keep, walked-none, walked-more, walked-best, walked-sync, walked-desy, time-fits, time-at, superseded-is, group-other, group-gone, group-left, as-many, all-numbered, number-here, timed-all}
 use native.Mathlib.Omega.{arith}

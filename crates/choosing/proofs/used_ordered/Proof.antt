@@ -3,8 +3,9 @@ use mathlib.Core.Path.{_≡_, sym, ap, _∙_}
 use mathlib.Core.List.{List, [], _∷_}
 use lib.ListN.{length, take, getD}
 use Rattle.validation.specs.Kept.{numbered, effectiveOf, usedOf, group}
-use Rattle.choosing.specs.Working.{noNumbered, pushed, foundList, joined}
-use Rattle.choosing.specs.declared.Found.the-variants.{One}
+use Rattle.ranking.specs.Found.{foundList}
+use Rattle.choosing.specs.Working.{noNumbered, pushed, joined}
+use Rattle.ranking.specs.declared.Found.the-variants.{One}
 use Rattle.validation.specs.declared.Numbered.{Numbered}
 use Rattle.choosing.proofs.Laws.{begun-all, time-at, as-many, number-here, timed-all}
 use Rattle.choosing.proofs.Order.{Reached, reached-none, reached-late, reached-all, reached-more, reached-alone}

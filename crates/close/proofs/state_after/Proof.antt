@@ -2,12 +2,12 @@ use mathlib.Core.Path.{_≡_, _∙_}
 use Rattle.records.specs.declared.UnitData.{UnitData}
 use Rattle.trajectory.specs.Walk.{onward}
 use Rattle.trajectory.proofs.Own.{OfUnit, own-onward}
-use Rattle.stops.proofs.own_lists.Reads as own-lists-reads
+use Rattle.rates.proofs.own_lists.Reads as own-lists-reads
 use Prim.Native.Nat.{_-_}
 use native.Mathlib.Omega.{arith}
 use borrow.Author.Needs.{needs}
 use Rattle.trajectory.proofs.Goes.{Goes}
-use Rattle.stops.specs.Ways.{headed, listsIn, ownLists}
+use Rattle.rates.specs.Ways.{headed, listsIn, ownLists}
 use Rattle.level.specs.Level.{grains}
 use Rattle.effects.proofs.Watching.{Watched, watched-start, watched-goes, watched-on, watched-end}
 use Rattle.close.proofs.state_after.Statement.{statement}

@@ -4,7 +4,7 @@ use Rattle.daylines.proofs.closing_width.Statement.{statement}
 use Rattle.daylines.proofs.closing_width.Tie as tie
 use Rattle.daylines.proofs.closing_width.Reads as reads
 use Rattle.daylines.proofs.closing_width.Lts as lts
-use Rattle.lines.proofs.e_width.Reads as e-width-reads
+use Rattle.widths.proofs.e_width.Reads as e-width-reads
 
 -- src/lib.rt:246:34
 cast-e-width : tie.Need-cast-e-width

@@ -9,7 +9,7 @@ use Rattle.daylines.proofs.fates_width.Statement.{statement}
 use Rattle.daylines.proofs.fates_width.Tie as tie
 use Rattle.daylines.proofs.fates_width.Reads as reads
 use Rattle.daylines.proofs.fates_width.Lts as lts
-use Rattle.lines.proofs.f_width.Reads as f-width-reads
+use Rattle.widths.proofs.f_width.Reads as f-width-reads
 use Rattle.daylines.proofs.at_most.Reads as at-most-reads
 
 abbrev Inv-loop : tie.InvT-loop

@@ -4,7 +4,7 @@ use Rattle.daylines.proofs.piece_width.Statement.{statement}
 use Rattle.daylines.proofs.piece_width.Tie as tie
 use Rattle.daylines.proofs.piece_width.Reads as reads
 use Rattle.daylines.proofs.piece_width.Lts as lts
-use Rattle.lines.proofs.s_width.Reads as s-width-reads
+use Rattle.widths.proofs.s_width.Reads as s-width-reads
 
 -- src/lib.rt:67:16
 cast-from : tie.Need-cast-from

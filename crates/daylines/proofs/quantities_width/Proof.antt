@@ -10,7 +10,7 @@ use Rattle.daylines.proofs.quantities_width.Statement.{statement}
 use Rattle.daylines.proofs.quantities_width.Tie as tie
 use Rattle.daylines.proofs.quantities_width.Reads as reads
 use Rattle.daylines.proofs.quantities_width.Lts as lts
-use Rattle.lines.proofs.q_width.Reads as q-width-reads
+use Rattle.widths.proofs.q_width.Reads as q-width-reads
 use Rattle.daylines.proofs.quantity_at.Reads as quantity-at-reads
 use Rattle.daylines.proofs.run_end.Reads as run-end-reads
 

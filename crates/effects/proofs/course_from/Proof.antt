@@ -8,7 +8,7 @@ use Rattle.effects.proofs.course_from.Reads as reads
 use Rattle.effects.proofs.course_from.Lts as lts
 use Rattle.effects.proofs.step_up.Reads as step-up-reads
 use Rattle.level.proofs.Level.from_kw.Reads as from-kw-reads
-use Rattle.stops.proofs.column_for.Reads as column-for-reads
+use Rattle.rates.proofs.column_for.Reads as column-for-reads
 
 -- src/lib.rt:249:9
 column-for-requires : tie.Need-column-for-requires

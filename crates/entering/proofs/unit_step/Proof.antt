@@ -11,8 +11,8 @@ use Rattle.entering.proofs.unit_step.Tie as tie
 use Rattle.entering.proofs.unit_step.Reads as reads
 use Rattle.entering.proofs.unit_step.Lts as lts
 use Rattle.units.proofs.unit_answer.Reads as unit-answer-reads
-use Rattle.units.proofs.unit_numbers.Reads as unit-numbers-reads
-use Rattle.units.proofs.unit_of.Reads as unit-of-reads
+use Rattle.unitbody.proofs.unit_numbers.Reads as unit-numbers-reads
+use Rattle.unitbody.proofs.unit_of.Reads as unit-of-reads
 use Rattle.entering.proofs.accepted.Reads as accepted-reads
 use Rattle.entering.proofs.refused.Reads as refused-reads
 use Rattle.day.proofs.with_unit.Reads as with-unit-reads

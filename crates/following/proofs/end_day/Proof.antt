@@ -3,7 +3,7 @@ use mathlib.Core.Path.{_≡_, refl}
 use native.Mathlib.Omega.{arith}
 use lib.ListN.{length}
 use Rattle.level.specs.Level.{grains}
-use Rattle.stops.specs.Ways.{headed, listsBy}
+use Rattle.rates.specs.Ways.{headed, listsBy}
 use Rattle.passing.proofs.Areas.{goes-straight, piece-on}
 use Rattle.text.proofs.Laws.{part-length}
 use Rattle.passing.specs.Passing.{lastLine, Passing}

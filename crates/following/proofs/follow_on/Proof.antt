@@ -14,11 +14,11 @@ use Rattle.level.proofs.Lists.{left-cons, left-none}
 use Rattle.profile.specs.declared.UnderWay.{UnderWay}
 use Rattle.profile.specs.declared.State.{State}
 use Rattle.profile.specs.Effects.{idle, begun}
-use Rattle.stops.specs.declared.OwnLists.{OwnLists}
+use Rattle.rates.specs.declared.OwnLists.{OwnLists}
 use Rattle.daylines.specs.Rest.{coursesLines}
 use Rattle.following.specs.declared.OnCourse.{OnCourse}
 use Rattle.level.specs.Level.{grains}
-use Rattle.stops.specs.Ways.{headed, listsBy}
+use Rattle.rates.specs.Ways.{headed, listsBy}
 use Rattle.passing.proofs.Areas.{goes-straight, piece-on}
 use Rattle.text.proofs.Laws.{part-length}
 use Rattle.passing.specs.Passing.{Roomy, Passing}
@@ -36,7 +36,7 @@ use Rattle.effects.proofs.stays_idle.Reads as stays-idle-reads
 use Rattle.following.proofs.begin_next.Reads as begin-next-reads
 use Rattle.passing.proofs.end_course.Reads as end-course-reads
 use Rattle.passing.proofs.pass_to.Reads as pass-to-reads
-use Rattle.stops.proofs.place_of.Reads as place-of-reads
+use Rattle.rates.proofs.place_of.Reads as place-of-reads
 use Rattle.following.proofs.ramp_of.Reads as ramp-of-reads
 use Rattle.following.proofs.set_out.Reads as set-out-reads
 use Rattle.trajectory.proofs.begin_at.Reads as begin-at-reads

@@ -1,5 +1,5 @@
 use mathlib.Core.Path.{ap, _∙_}
-use Rattle.stops.specs.Ways.{ownLists}
+use Rattle.rates.specs.Ways.{ownLists}
 use Rattle.following.specs.Following.{setOut}
 use borrow.Author.Needs.{needs}
 use Rattle.following.proofs.set_out.Statement.{statement}
@@ -9,7 +9,7 @@ use Rattle.following.proofs.set_out.Lts as lts
 use Rattle.effects.proofs.off_starting.Reads as off-starting-reads
 use Rattle.trajectory.proofs.begin_at.Reads as begin-at-reads
 use Rattle.trajectory.proofs.is_rising.Reads as is-rising-reads
-use Rattle.stops.proofs.own_lists.Reads as own-lists-reads
+use Rattle.rates.proofs.own_lists.Reads as own-lists-reads
 
 -- src/lib.rt:231:9
 is-rising-requires : tie.Need-is-rising-requires

@@ -5,10 +5,10 @@ use lib.ListN.{length, take, drop, getD}
 use Rattle.level.specs.Lists.{filled}
 use Rattle.validation.specs.Kept.{actors}
 use Rattle.choosing.specs.Working.{noNumbered}
-use Rattle.keeping.specs.Working.{LateFates}
+use Rattle.keeping.specs.Late.{LateFates}
 use Rattle.level.proofs.Lists.{left-none}
 use Rattle.choosing.proofs.Laws.{Begun, map-length, begun-none, begun-store, begun-all}
-use Rattle.keeping.proofs.Steps.{actors-skip, actors-keep, actors-none}
+use Rattle.keeping.proofs.Late.{actors-skip, actors-keep, actors-none}
 use native.Mathlib.Omega.{arith}
 use borrow.Author.Needs.{needs}
 use Rattle.keeping.proofs.acts_of.Statement.{statement}

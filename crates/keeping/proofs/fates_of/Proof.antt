@@ -5,8 +5,8 @@ use lib.ListN.{set, take, getD}
 use Rattle.level.specs.Choice.{pick}
 use Rattle.level.specs.Lists.{filled}
 use Rattle.choosing.specs.Working.{supersededAt}
-use Rattle.keeping.specs.Working.{fatesTo}
-use Rattle.keeping.proofs.Steps.{fates-more}
+use Rattle.keeping.specs.Late.{fatesTo}
+use Rattle.keeping.proofs.Late.{fates-more}
 use Rattle.choosing.proofs.Order.{alone-stays}
 use native.Mathlib.Omega.{arith}
 use borrow.Author.Needs.{needs}

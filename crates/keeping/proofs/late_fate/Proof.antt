@@ -1,4 +1,4 @@
-use Rattle.keeping.specs.Working.{lateAt}
+use Rattle.keeping.specs.Late.{lateAt}
 use borrow.Author.Needs.{needs}
 use Rattle.keeping.proofs.late_fate.Statement.{statement}
 use Rattle.keeping.proofs.late_fate.Tie as tie

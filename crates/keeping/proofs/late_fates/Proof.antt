@@ -7,9 +7,10 @@ use lib.Seq.{getD-set-same, getD-set-other}
 use Rattle.validation.specs.declared.Numbered.{Numbered}
 use Rattle.validation.specs.Kept.{acting, lateFate}
 use Rattle.choosing.specs.Working.{noNumbered}
-use Rattle.keeping.specs.Working.{Noted, earliestActing}
+use Rattle.keeping.specs.Late.{earliestActing}
+use Rattle.checking.specs.Working.{Noted}
 use Rattle.level.proofs.Lists.{left-none}
-use Rattle.keeping.proofs.Steps.{acting-none, acting-more, late-is}
+use Rattle.keeping.proofs.Late.{acting-none, acting-more, late-is}
 use native.Mathlib.Omega.{arith}
 use borrow.Author.Needs.{needs}
 use Rattle.keeping.proofs.late_fates.Statement.{statement}

@@ -4,9 +4,10 @@ use mathlib.Core.List.{List}
 use lib.ListN.{length, take, drop, getD, length-set}
 use Rattle.validation.specs.declared.Numbered.{Numbered}
 use Rattle.validation.specs.Kept.{lateMarks}
-use Rattle.keeping.specs.Working.{numberOf, Noted, settleFate, settled, LateFates}
+use Rattle.keeping.specs.Late.{settleFate, settled, LateFates}
+use Rattle.checking.specs.Working.{numberOf, Noted}
 use Rattle.level.proofs.Lists.{left-none}
-use Rattle.keeping.proofs.Steps.{settle-zero, settle-large, settle-done, settle-some, settled-more, settled-none}
+use Rattle.keeping.proofs.Late.{settle-zero, settle-large, settle-done, settle-some, settled-more, settled-none}
 use native.Mathlib.Omega.{arith}
 use Rattle.keeping.proofs.settle_late.Statement.{statement}
 use Rattle.keeping.proofs.settle_late.Tie as tie

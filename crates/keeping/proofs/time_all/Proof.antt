@@ -3,7 +3,7 @@ use mathlib.Core.Path.{_≡_}
 use lib.ListN.{length, take, getD, length-set}
 use Rattle.validation.specs.Kept.{numbered}
 use Rattle.choosing.specs.Working.{noNumbered, Timed}
-use Rattle.keeping.proofs.Steps.{timed-none, timed-more}
+use Rattle.keeping.proofs.Late.{timed-none, timed-more}
 use native.Mathlib.Omega.{arith}
 use Rattle.keeping.proofs.time_all.Statement.{statement}
 use Rattle.keeping.proofs.time_all.Tie as tie

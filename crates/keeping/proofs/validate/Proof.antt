@@ -5,7 +5,8 @@ use native.Mathlib.Omega.{arith}
 use lib.ListN.{length, take}
 use Rattle.level.specs.Lists.{filled}
 use Rattle.validation.specs.Kept.{actors}
-use Rattle.keeping.specs.Working.{checking, fatesTo, actingWith}
+use Rattle.keeping.specs.Late.{fatesTo, actingWith}
+use Rattle.checking.specs.Working.{checking}
 use Rattle.choosing.proofs.Laws.{map-length}
 use Rattle.keeping.proofs.Whole.{validation-is}
 use borrow.Author.Needs.{needs}

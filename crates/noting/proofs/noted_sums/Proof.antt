@@ -1,7 +1,7 @@
 use Rattle.trajectory.proofs.Noted.{Noted, noted-start, noted-on, noted-is, list-more}
 use Rattle.trajectory.proofs.Own.{OfUnit, own-standing, own-twice}
 use Rattle.trajectory.specs.Walk.{beginning, notedAt}
-use Rattle.stops.specs.Ways.{ownLists}
+use Rattle.rates.specs.Ways.{ownLists}
 use Rattle.records.specs.declared.UnitData.{UnitData}
 use Rattle.level.specs.Lists.{listFrom}
 use Rattle.level.specs.Level.{grains}

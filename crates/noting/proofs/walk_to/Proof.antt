@@ -1,7 +1,7 @@
 use Prim.Native.Nat.{_≤_, _-_, max}
 use Rattle.trajectory.proofs.Goes.{Goes, onward-goes, standing-on, standing-here}
 use Rattle.trajectory.specs.Walk.{standing}
-use Rattle.stops.specs.Ways.{headed, listsBy}
+use Rattle.rates.specs.Ways.{headed, listsBy}
 use Rattle.course.proofs.Near.{Short}
 use Rattle.level.specs.Level.{grains}
 use native.Mathlib.Omega.{arith}

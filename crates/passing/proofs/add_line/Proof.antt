@@ -4,7 +4,7 @@ use native.Mathlib.Nat.{mul-le-mul-left}
 use borrow.Author.Needs.{needs}
 use Prim.Native.Nat.{ℕ, _+_, _*_, _-_, min, _≤_, _<_}
 use Rattle.course.specs.Course.{toward}
-use Rattle.stops.specs.Ways.{headed}
+use Rattle.rates.specs.Ways.{headed}
 use Rattle.trajectory.specs.Walk.{Reaches}
 use Rattle.passing.specs.Passing.{lineTwice, AddsLine, Summed}
 use Rattle.passing.proofs.Adding.{adds-none, adds-on, summed-on, part-fits, step-in, step-next}

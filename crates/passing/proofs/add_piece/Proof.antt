@@ -2,7 +2,7 @@ use mathlib.Core.Path.{sym, subst}
 use native.Mathlib.Omega.{arith}
 use Prim.Native.Nat.{ℕ, _+_, _*_, _-_, _/_, _<_}
 use lib.ListN.{getD}
-use Rattle.stops.specs.Ways.{headed}
+use Rattle.rates.specs.Ways.{headed}
 use Rattle.passing.specs.Passing.{StaysLow, AddsLine, Summed}
 use Rattle.passing.proofs.Lines.{straight-low, piece-fits, piece-adds}
 use borrow.Author.Needs.{needs}

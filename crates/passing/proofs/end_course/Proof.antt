@@ -4,7 +4,7 @@ use native.Mathlib.Omega.{arith}
 use Prim.Native.Nat.{ℕ, _-_, _/_, _<_}
 use lib.ListN.{length}
 use Rattle.course.specs.Course.{gap}
-use Rattle.stops.specs.Ways.{headed}
+use Rattle.rates.specs.Ways.{headed}
 use Rattle.text.specs.Text.{laid}
 use Rattle.passing.specs.Passing.{lineTwice}
 use Rattle.passing.proofs.Adding.{adds-none}

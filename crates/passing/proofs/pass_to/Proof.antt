@@ -4,7 +4,7 @@ use native.Mathlib.Omega.{arith}
 use borrow.Author.Needs.{needs}
 use lib.ListN.{length}
 use Rattle.level.specs.Level.{grains}
-use Rattle.stops.specs.Ways.{headed, listsBy}
+use Rattle.rates.specs.Ways.{headed, listsBy}
 use Rattle.trajectory.proofs.Goes.{Goes}
 use Rattle.text.proofs.Laws.{part-length}
 use Rattle.daylines.specs.Rest.{pieceLine}

@@ -9,8 +9,8 @@ use Rattle.reading.proofs.read_unit.Tie as tie
 use Rattle.reading.proofs.read_unit.Reads as reads
 use Rattle.reading.proofs.read_unit.Lts as lts
 use Rattle.units.proofs.unit_answer.Reads as unit-answer-reads
-use Rattle.units.proofs.unit_numbers.Reads as unit-numbers-reads
-use Rattle.units.proofs.unit_of.Reads as unit-of-reads
+use Rattle.unitbody.proofs.unit_numbers.Reads as unit-numbers-reads
+use Rattle.unitbody.proofs.unit_of.Reads as unit-of-reads
 
 unit-of-requires : tie.Need-unit-of-requires
 unit-of-requires c κs = search needs

@@ -1,5 +1,5 @@
 use Rattle.stops.proofs.Nexts.{three-triggers}
-use Rattle.stops.specs.Ways.{headed}
+use Rattle.rates.specs.Ways.{headed}
 use Rattle.records.specs.declared.Trigger.{Trigger}
 use borrow.Author.Needs.{needs}
 use Rattle.stops.proofs.dwell_stops.Statement.{statement}

@@ -1,5 +1,5 @@
 use Rattle.stops.proofs.Holds.{hold-target, hold-dwell}
-use Rattle.stops.specs.Ways.{headed, listsBy}
+use Rattle.rates.specs.Ways.{headed, listsBy}
 use Rattle.level.specs.Level.{grains}
 use mathlib.Core.Path.{sym, _∙_}
 use native.Mathlib.Omega.{arith}

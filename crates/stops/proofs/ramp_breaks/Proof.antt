@@ -1,5 +1,5 @@
 use Rattle.stops.proofs.Nexts.{four-breaks}
-use Rattle.stops.specs.Ways.{headed}
+use Rattle.rates.specs.Ways.{headed}
 use borrow.Author.Needs.{needs}
 use Rattle.stops.proofs.ramp_breaks.Statement.{statement}
 use Rattle.stops.proofs.ramp_breaks.Tie as tie

@@ -1,5 +1,5 @@
 use Rattle.stops.proofs.Holds.{hold-soak, hold-no-soak}
-use Rattle.stops.specs.Ways.{listsBy}
+use Rattle.rates.specs.Ways.{listsBy}
 use Rattle.level.specs.Level.{grains}
 use mathlib.Core.Path.{sym, _∙_}
 use native.Mathlib.Omega.{arith}

@@ -8,9 +8,9 @@ use Rattle.level.specs.declared.Level.{Level}
 use Rattle.course.proofs.Near.{Short}
 use Rattle.trajectory.specs.declared.Place.{Place}
 use Rattle.records.specs.declared.UnitData.{UnitData}
-use Rattle.stops.specs.Ways.{headed, listsIn, ownLists}
+use Rattle.rates.specs.Ways.{headed, listsIn, ownLists}
 use Rattle.trajectory.proofs.Own.{OfUnit, own-standing, own-twice}
-use Rattle.stops.proofs.own_lists.Reads as own-lists-reads
+use Rattle.rates.proofs.own_lists.Reads as own-lists-reads
 use Rattle.trajectory.specs.Walk.{afterRest, beginning, standing, twiceBetween, twiceTo, notedAt}
 use Rattle.trajectory.proofs.Noted.{Noted, noted-start, noted-on, noted-is}
 use Rattle.summing.specs.Summing.{firstSum}

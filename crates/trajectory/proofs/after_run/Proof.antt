@@ -1,6 +1,6 @@
 use Rattle.trajectory.proofs.Onward.{reaches-less}
 use Rattle.trajectory.specs.Walk.{afterRun}
-use Rattle.stops.specs.Ways.{headed}
+use Rattle.rates.specs.Ways.{headed}
 use borrow.Author.Tests.{eq-eqb, ne-eqb}
 use borrow.Author.Needs.{needs}
 use Rattle.trajectory.proofs.after_run.Statement.{statement}

@@ -1,5 +1,5 @@
 use Rattle.trajectory.proofs.Onward.{along-stuck, along-short, along-run, full-way}
-use Rattle.stops.specs.Ways.{headed}
+use Rattle.rates.specs.Ways.{headed}
 use native.Mathlib.Omega.{arith}
 use mathlib.Core.Path.{_∙_}
 use borrow.Author.Needs.{needs}

@@ -1,7 +1,7 @@
 use Rattle.trajectory.proofs.Areas.{twice-on, twice-here}
 use Rattle.trajectory.proofs.Goes.{Goes, onward-goes, standing-on, standing-here}
 use Rattle.trajectory.specs.Walk.{standing, twiceTo}
-use Rattle.stops.specs.Ways.{headed, listsBy}
+use Rattle.rates.specs.Ways.{headed, listsBy}
 use Rattle.course.proofs.Near.{Short}
 use Rattle.level.specs.Level.{grains}
 use native.Mathlib.Omega.{arith}

@@ -1,5 +1,5 @@
 use Rattle.trajectory.proofs.Onward.{onward-hold, onward-rest, onward-along, reaches-stop}
-use Rattle.stops.specs.Ways.{headed, listsBy}
+use Rattle.rates.specs.Ways.{headed, listsBy}
 use Rattle.course.proofs.Near.{short-past}
 use Rattle.level.specs.Level.{grains}
 use native.Mathlib.Omega.{arith}

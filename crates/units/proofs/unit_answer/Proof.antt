@@ -6,7 +6,7 @@ use Rattle.units.proofs.unit_answer.Reads as reads
 use Rattle.units.proofs.unit_answer.Lts as lts
 use Rattle.units.proofs.all_fit.Reads as all-fit-reads
 use Rattle.units.proofs.unit_disagrees.Reads as unit-disagrees-reads
-use Rattle.units.proofs.unit_of.Reads as unit-of-reads
+use Rattle.unitbody.proofs.unit_of.Reads as unit-of-reads
 
 all-fit-requires : tie.Need-all-fit-requires
 all-fit-requires c κs = search needs

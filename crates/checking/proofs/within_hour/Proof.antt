@@ -1,0 +1,21 @@
+use mathlib.Core.Path.{refl}
+use Rattle.checking.specs.Working.{withinHour}
+use borrow.Author.Needs.{needs}
+use Rattle.checking.proofs.within_hour.Statement.{statement}
+use Rattle.checking.proofs.within_hour.Tie as tie
+
+cast-a : tie.Need-cast-a
+cast-a c = search needs
+
+cast-b : tie.Need-cast-b
+cast-b c = search needs
+
+add-result : tie.Need-add-result
+add-result c = search needs
+
+returns : tie.Need-returns
+unfolding withinHour
+returns c = refl
+
+pub within-hour-spec : {M : Type 1} → statement M
+within-hour-spec = tie.close (tie.spec cast-a cast-b add-result returns)

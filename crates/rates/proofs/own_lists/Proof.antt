@@ -1,0 +1,19 @@
+use Rattle.rates.specs.Ways.{ownLists}
+use borrow.Author.Needs.{needs}
+use Rattle.rates.proofs.own_lists.Statement.{statement}
+use Rattle.rates.proofs.own_lists.Tie as tie
+
+column-for-requires : tie.Need-column-for-requires
+column-for-requires c κs = search needs
+
+ramp-for-requires : tie.Need-ramp-for-requires
+ramp-for-requires c κs = search needs
+
+returns : tie.Need-returns
+unfolding ownLists
+returns c =
+    let s = c .before .before .before .before in
+    λ i. record { msg = s .args .u .msg; column = (c .before .before .before .column-for .ensures) i; ramp = (c .before .before .ramp-for .ensures) i; dwells = s .args .u .dwells; deload = s .args .u .deload }
+
+pub own-lists-spec : {M : Type 1} → statement M
+own-lists-spec = tie.close (tie.spec column-for-requires ramp-for-requires returns)
