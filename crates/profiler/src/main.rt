@@ -12,11 +12,9 @@ fn put_front(out: &[u8], n: usize) {
 
 // The line `X n`.
 fn put_refusal(number: u64) {
-    let start = [b'X', b' '];
-    io::write_all(STDOUT_FILENO, &start);
-    io::print_decimal(STDOUT_FILENO, number);
-    let end = [b'\n'];
-    io::write_all(STDOUT_FILENO, &end);
+    let mut line = [0u8; 23];
+    let n = lines::put_x(&mut line, number);
+    put_front(&line, n);
 }
 
 // Refusal 2, too few bytes, as a result.

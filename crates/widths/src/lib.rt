@@ -2,7 +2,7 @@
 ghost use mathlib.Core.Path.{_≡_};
 ghost use Prim.Native.Nat.{_≤_};
 ghost use lib.ListN.{length};
-ghost use Rattle.lines.specs.Lines.{fLine, sLine, qLine, eLine, xLine};
+ghost use Rattle.lines.specs.Lines.{fLine, sLine, qLine, eLine};
 
 pub fn f_width(n: u64, fate: u64) -> usize
     ensures { λ r. ⌜ (r ≡ length (fLine n fate)) × (r ≤ 44) ⌝ }
@@ -34,10 +34,4 @@ pub fn e_width(level: u64, target: u64, heat: u64, off: u64) -> usize
         + text::decimal_width(heat)
         + text::decimal_width(off)
         + 6
-}
-
-pub fn x_width(n: u64) -> usize
-    ensures { λ r. ⌜ (r ≡ length (xLine n)) × (r ≤ 23) ⌝ }
-{
-    text::decimal_width(n) + 3
 }
