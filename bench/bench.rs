@@ -63,6 +63,19 @@ fn time_both(inputs: &[Vec<u8>]) -> (f64, Option<f64>) {
     (time(inputs, MANY, 4, &mut [&mut plain])[0], None)
 }
 
+/// The product with a byte less lent than always suffices: it measures the listing before it writes.
+#[cfg(linked)]
+fn time_shorter(inputs: &[Vec<u8>]) -> Option<f64> {
+    let mut lent = vec![0; segments::LONGEST_LISTING - 1];
+    let mut product = |input: &[u8]| product::product_listing_into(input, &mut lent).unwrap_or(0);
+    Some(time(inputs, MANY, 4, &mut [&mut product])[0])
+}
+
+#[cfg(not(linked))]
+fn time_shorter(_: &[Vec<u8>]) -> Option<f64> {
+    None
+}
+
 /// Every way prints what the second implementation prints: the bytes printed.
 fn agree(input: &[u8]) -> usize {
     let expected = reference::profiler(input);
@@ -80,7 +93,7 @@ fn text(value: Option<f64>) -> String {
 
 /// Days of 0, 10 and 40 instructions.
 fn by_size() {
-    println!("instructions  bytes in  bytes out  by second  by segments   product  second/product  product/segments");
+    println!("instructions  bytes in  bytes out  by second  by segments   product  second/product  product/segments  shorter slice");
     for count in [0, 10, 40] {
         let inputs: Vec<Vec<u8>> = (0..DAYS as u64)
             .map(|number| {
@@ -95,12 +108,13 @@ fn by_size() {
         let (by_segments, product) = time_both(&inputs);
         let bytes_in: usize = inputs.iter().map(Vec::len).sum();
         println!(
-            "{count:>12}  {:>8}  {:>9}  {by_second:>9.1}  {by_segments:>11.2}  {:>8}  {:>14}  {:>16}",
+            "{count:>12}  {:>8}  {:>9}  {by_second:>9.1}  {by_segments:>11.2}  {:>8}  {:>14}  {:>16}  {:>13}",
             bytes_in / DAYS,
             printed / DAYS,
             text(product),
             text(product.map(|p| by_second / p)),
             text(product.map(|p| p / by_segments)),
+            text(time_shorter(&inputs)),
         );
     }
 }

@@ -797,7 +797,7 @@ impl Lines<'_> {
     /// A blank and the decimal number, straight into their place.
     #[inline]
     fn number(&mut self, mut n: u32) {
-        let digits = 1 + n.checked_ilog10().unwrap_or(0) as usize;
+        let digits = width(n);
         let slot = &mut self.out[self.at..self.at + 1 + digits];
         self.at += 1 + digits;
         slot[0] = b' ';
@@ -811,6 +811,38 @@ impl Lines<'_> {
         if from == 2 {
             slot[1] = b'0' + n as u8;
         }
+    }
+}
+
+/// How many digits a number has: few comparisons for the usual widths.
+#[inline]
+fn width(n: u32) -> usize {
+    if n < 100_000 {
+        if n < 1_000 {
+            if n < 10 {
+                1
+            } else if n < 100 {
+                2
+            } else {
+                3
+            }
+        } else if n < 10_000 {
+            4
+        } else {
+            5
+        }
+    } else if n < 10_000_000 {
+        if n < 1_000_000 {
+            6
+        } else {
+            7
+        }
+    } else if n < 100_000_000 {
+        8
+    } else if n < 1_000_000_000 {
+        9
+    } else {
+        10
     }
 }
 
