@@ -8,15 +8,12 @@ use Rattle.close.proofs.begin_walk.Reads as reads
 use Rattle.close.proofs.begin_walk.Lts as lts
 use Rattle.day.proofs.no_course.Reads as no-course-reads
 
--- src/lib.rt:439:9
 no-course-requires : tie.Need-no-course-requires
 no-course-requires c κs = search needs
 
--- src/lib.rt:442:5
 array-set-from-courses : tie.Need-array-set-from-courses
 array-set-from-courses c = search needs
 
--- src/lib.rt:436:1
 returns : tie.Need-returns
 unfolding walkOf filled
 returns c = rw (c .before .no-course .ensures) refl

@@ -7,11 +7,9 @@ use Rattle.close.proofs.closing_of.Reads as reads
 use Rattle.close.proofs.closing_of.Lts as lts
 use Rattle.close.proofs.state_at.Reads as state-at-reads
 
--- src/lib.rt:652:9
 state-at-requires : tie.Need-state-at-requires
 state-at-requires c κs = search needs
 
--- src/lib.rt:649:1
 returns : tie.Need-returns
 returns c = ap (closingBy (c .before .before .args .last)) (c .before .state-at .ensures)
 

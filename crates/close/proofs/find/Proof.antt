@@ -12,30 +12,24 @@ use Rattle.close.proofs.lay_fates.Reads as lay-fates-reads
 use Rattle.effects.proofs.open_course.Reads as open-course-reads
 use Rattle.keeping.proofs.validate.Reads as validate-reads
 
--- src/lib.rt:696:9
 validate-requires : tie.Need-validate-requires
 validate-requires c κs = search needs
 
--- src/lib.rt:698:9
 open-course-requires : tie.Need-open-course-requires
 open-course-requires c κs = search needs
 
--- src/lib.rt:699:9
 follow-all-requires : tie.Need-follow-all-requires
 follow-all-requires c κs = let s = c .before .before .before in
     let forty = s .good .1 .1 .0 .1 .0 .1 in
     rw (c .before .before .validate .ensures) (acting-few (s .args .instructions) (s .args .count) forty, acting-fits (s .args .instructions) (s .args .count) forty)
 
--- src/lib.rt:703:16
 at-most-forty-requires : tie.Need-at-most-forty-requires
 at-most-forty-requires c κs = search needs
 
--- src/lib.rt:706:9
 lay-fates-requires : tie.Need-lay-fates-requires
 lay-fates-requires c κs = let s = c .before .before .before .before .before .before .before in
     (omega (arith, c .at-most-forty .ensures), rw (c .before .before .before .before .before .before .validate .ensures) (acting-few (s .args .instructions) (s .args .count) (s .good .1 .1 .0 .1 .0 .1)))
 
--- src/lib.rt:707:5
 finding-by-requires : tie.Need-finding-by-requires
 finding-by-requires c κs = let b = c .before .before .before .before in
     let s = b .before .before .before .before in
@@ -45,7 +39,6 @@ finding-by-requires c κs = let b = c .before .before .before .before in
       starts-fit (s .args .instructions) (s .args .count) forty (s .args .u) (s .args .o) (omega (arith, s .good .0)) (omega (arith, s .good .0)) (omega (arith, s .good .1 .0)) (omega (arith, s .good .1 .0)),
     )
 
--- src/lib.rt:693:1
 returns : tie.Need-returns
 returns c = let b = c .before .before .before .before .before in
     let s = b .before .before .before .before in

@@ -8,15 +8,12 @@ use Rattle.close.proofs.finding_by.Lts as lts
 use Rattle.close.proofs.closing_of.Reads as closing-of-reads
 use Rattle.summing.proofs.sums_of.Reads as sums-of-reads
 
--- src/lib.rt:670:9
 sums-of-requires : tie.Need-sums-of-requires
 sums-of-requires c κs = search needs
 
--- src/lib.rt:672:9
 closing-of-requires : tie.Need-closing-of-requires
 closing-of-requires c κs = search needs
 
--- src/lib.rt:663:1
 returns : tie.Need-returns
 unfolding findingBy
 returns c = rw (c .closing-of .ensures, c .before .before .sums-of .ensures) refl

@@ -30,11 +30,9 @@ Inv-loop u n acts w₀ i₀ w i =
 abbrev μ-loop : tie.MeasureT-loop
 μ-loop u n acts w₀ i₀ w i = n - i
 
--- src/lib.rt:477:17
 begin-walk-requires : tie.Need-begin-walk-requires Inv-loop μ-loop
 begin-walk-requires c κs = search needs
 
--- src/lib.rt:479:5
 loop-holds : tie.Need-loop-holds Inv-loop μ-loop
 unfolding walkOf
 loop-holds c =
@@ -42,45 +40,35 @@ loop-holds c =
     let e = c .begin-walk .ensures in
     (omega arith, rw e refl, rw e (omega arith), rw e (going-start (s .u) (s .now) (take (s .n) (s .t3))))
 
--- src/lib.rt:480:17
 mul-o : tie.Need-mul-o Inv-loop μ-loop
 mul-o c = omega arith
 
--- src/lib.rt:480:17
 array-copy-out-o : tie.Need-array-copy-out-o Inv-loop μ-loop
 array-copy-out-o c = omega arith
 
--- src/lib.rt:482:37
 acting-second-requires : tie.Need-acting-second-requires Inv-loop μ-loop
 acting-second-requires c κs =
     let s = c .before .before .before .before .before in
     all-first (λ (o : Numbered). acting o < 4294967296) (s .args .t3) (s .args .n) (c .before .before .before .loop .i) noNumbered (omega arith) (omega (arith, s .good .1 .1 .0 .1 .0 .1)) (s .pre .1)
 
--- src/lib.rt:482:13
 state-at-requires : tie.Need-state-at-requires Inv-loop μ-loop
 state-at-requires c κs = search needs
 
--- src/lib.rt:484:19
 add-w : tie.Need-add-w Inv-loop μ-loop
 add-w c = omega arith
 
--- src/lib.rt:485:9
 add-i : tie.Need-add-i Inv-loop μ-loop
 add-i c = omega arith
 
--- src/lib.rt:486:12
 stays-idle-requires : tie.Need-stays-idle-requires Inv-loop μ-loop
 stays-idle-requires c κs = search needs
 
--- src/lib.rt:487:13
 element-write-w : tie.Need-element-write-w Inv-loop μ-loop
 element-write-w c = omega arith
 
--- src/lib.rt:479:5
 loop-less : tie.Need-loop-less Inv-loop μ-loop
 loop-less c = omega arith
 
--- src/lib.rt:479:5
 loop-again : tie.Need-loop-again Inv-loop μ-loop
 unfolding wentOn
 loop-again c =
@@ -96,33 +84,26 @@ loop-again c =
     let f = acts-idle (s .args .u) (l .w) o (a .state-at .result) (c .before .stays-idle .result) e (c .before .stays-idle .ensures) (c .if1 .taken) in
     (omega arith, omega arith, omega arith, subst (λ (x : Walk). Going (s .args .u) x left whole) (sym f) n)
 
--- src/lib.rt:489:17
 begin-course-requires : tie.Need-begin-course-requires Inv-loop μ-loop
 begin-course-requires c κs =
     let s = c .before .before .before .before .before .before .before .before .before in
     all-first (λ (o : Numbered). acting o < 4294967296) (s .args .t3) (s .args .n) (c .before .before .before .before .before .before .before .loop .i) noNumbered (omega arith) (omega (arith, s .good .1 .1 .0 .1 .0 .1)) (s .pre .1)
 
--- src/lib.rt:493:13
 mul-c : tie.Need-mul-c Inv-loop μ-loop
 mul-c c = omega arith
 
--- src/lib.rt:493:13
 element-set-from-c : tie.Need-element-set-from-c Inv-loop μ-loop
 element-set-from-c c = omega arith
 
--- src/lib.rt:494:25
 add-w-2 : tie.Need-add-w-2 Inv-loop μ-loop
 add-w-2 c = omega arith
 
--- src/lib.rt:495:13
 element-write-w-2 : tie.Need-element-write-w-2 Inv-loop μ-loop
 element-write-w-2 c = omega arith
 
--- src/lib.rt:479:5
 loop-less-2 : tie.Need-loop-less-2 Inv-loop μ-loop
 loop-less-2 c = omega arith
 
--- src/lib.rt:479:5
 loop-again-2 : tie.Need-loop-again-2 Inv-loop μ-loop
 unfolding replacedBy
 loop-again-2 c =
@@ -139,7 +120,6 @@ loop-again-2 c =
     let f = acts-new (s .args .u) (l .w) o (a .state-at .result) (i .stays-idle .result) e (i .stays-idle .ensures) (c .before .before .if1 .left) in
     (omega arith, omega arith, omega arith, subst (λ (x : Walk). Going (s .args .u) x left whole) (sym (ap (replacedBy (l .w)) (c .before .begin-course .ensures) ∙ f)) n)
 
--- src/lib.rt:467:1
 returns : tie.Need-returns Inv-loop μ-loop
 unfolding walkOf walkAll
 returns c =

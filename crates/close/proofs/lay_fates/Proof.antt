@@ -17,43 +17,33 @@ Inv-loop n acts own out₀ i₀ out i = (i ≤ n) × (out .count ≤ 40) × (out
 abbrev μ-loop : tie.MeasureT-loop
 μ-loop n acts own out₀ i₀ out i = i
 
--- src/lib.rt:559:5
 loop-holds : tie.Need-loop-holds Inv-loop μ-loop
 loop-holds c = (omega arith, omega arith, laid-start _ _ _ _)
 
--- src/lib.rt:560:22
 sub-o : tie.Need-sub-o Inv-loop μ-loop
 sub-o c = omega arith
 
--- src/lib.rt:560:17
 mul-o : tie.Need-mul-o Inv-loop μ-loop
 mul-o c = omega arith
 
--- src/lib.rt:560:17
 array-copy-out-o : tie.Need-array-copy-out-o Inv-loop μ-loop
 array-copy-out-o c = omega arith
 
--- src/lib.rt:561:24
 sub-fate : tie.Need-sub-fate Inv-loop μ-loop
 sub-fate c = omega arith
 
--- src/lib.rt:561:20
 array-read-fate : tie.Need-array-read-fate Inv-loop μ-loop
 array-read-fate c = omega arith
 
--- src/lib.rt:562:9
 lay-fate-requires : tie.Need-lay-fate-requires Inv-loop μ-loop
 lay-fate-requires c κs = omega arith
 
--- src/lib.rt:563:9
 sub-i : tie.Need-sub-i Inv-loop μ-loop
 sub-i c = omega arith
 
--- src/lib.rt:559:5
 loop-less : tie.Need-loop-less Inv-loop μ-loop
 loop-less c = omega arith
 
--- src/lib.rt:559:5
 loop-again : tie.Need-loop-again Inv-loop μ-loop
 unfolding laid
 loop-again c = let s = c .before .before .before .before in
@@ -61,7 +51,6 @@ loop-again c = let s = c .before .before .before .before in
     let e = c .lay-fate .ensures in
     (omega arith, rw e (omega arith), e ∙ laid-back (s .args .t2) (s .args .t3) (s .args .n) (s .args .s) (l .out) (l .i) (omega arith) (omega arith) (l .inv .2))
 
--- src/lib.rt:553:1
 returns : tie.Need-returns Inv-loop μ-loop
 returns c = let s = c .before .before in
     let l = c .before .loop in

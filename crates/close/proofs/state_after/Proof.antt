@@ -45,45 +45,36 @@ gone c =
     let o = c .before .before .before .before .before .before .own-lists .ensures in
     rw (on c (s .args .u) o) (watched-goes (s .args .u) _ _ _ _ _ _ (c .before .before .before .loop .inv (s .args .u) o) (c .before .if1 .taken))
 
--- src/lib.rt:369:9
 is-rising-requires : tie.Need-is-rising-requires Inv-loop μ-loop
 is-rising-requires c κs = search needs
 
--- src/lib.rt:370:9
 own-lists-requires : tie.Need-own-lists-requires Inv-loop μ-loop
 own-lists-requires c κs = search needs
 
 begin-at-requires : tie.Need-begin-at-requires Inv-loop μ-loop
 begin-at-requires c κs = search needs
 
--- src/lib.rt:371:9
 off-starting-requires : tie.Need-off-starting-requires Inv-loop μ-loop
 off-starting-requires c κs = search needs
 
--- src/lib.rt:372:5
 loop-holds : tie.Need-loop-holds Inv-loop μ-loop
 loop-holds c =
     let s = c .before .before .before .before in
     λ u o. rw (c .before .begin-at .ensures, c .off-starting .ensures) (watched-start u (s .args .c) (s .args .before) (s .args .k) _ (c .before .before .before .is-rising .ensures))
 
--- src/lib.rt:373:13
 walk-on-requires : tie.Need-walk-on-requires Inv-loop μ-loop
 walk-on-requires c κs = (c .if1 .taken, c .before .before .loop .inv (c .before .before .before .before .before .before .before .args .u) (c .before .before .before .before .before .own-lists .ensures) .short)
 
--- src/lib.rt:374:9
 off-between-requires : tie.Need-off-between-requires Inv-loop μ-loop
 off-between-requires c κs = let g = gone c in omega (arith, g .later)
 
--- src/lib.rt:372:5
 loop-less : tie.Need-loop-less Inv-loop μ-loop
 loop-less c = let g = gone (c .before) in omega (arith, g .later, g .within)
 
--- src/lib.rt:372:5
 loop-again : tie.Need-loop-again Inv-loop μ-loop
 loop-again c =
     λ u o. watched-on u _ _ _ _ _ _ (c .before .before .before .before .loop .inv u o) (c .before .before .if1 .taken) _ _ (on (c .before) u o) (c .off-between .ensures)
 
--- src/lib.rt:366:1
 returns : tie.Need-returns Inv-loop μ-loop
 returns c = watched-end (c .before .before .before .before .before .before .before .args .u) _ _ _ _ _ _ (c .before .before .loop .inv (c .before .before .before .before .before .before .before .args .u) (c .before .before .before .before .before .own-lists .ensures)) (omega arith)
 

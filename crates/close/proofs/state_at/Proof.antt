@@ -7,15 +7,12 @@ use Rattle.close.proofs.state_at.Lts as lts
 use Rattle.summing.proofs.seconds_from.Reads as seconds-from-reads
 use Rattle.close.proofs.state_after.Reads as state-after-reads
 
--- src/lib.rt:398:9
 seconds-from-requires : tie.Need-seconds-from-requires
 seconds-from-requires c κs = search needs
 
--- src/lib.rt:399:5
 state-after-requires : tie.Need-state-after-requires
 state-after-requires c κs = search needs
 
--- src/lib.rt:394:1
 returns : tie.Need-returns
 unfolding stateAt
 returns c = rw (c .state-after .ensures, c .before .seconds-from .ensures)

@@ -9,23 +9,18 @@ use Rattle.day.proofs.no_instruction.Reads as no-instruction-reads
 use Rattle.day.proofs.no_opening.Reads as no-opening-reads
 use Rattle.day.proofs.no_unit.Reads as no-unit-reads
 
--- src/lib.rt:126:9
 no-unit-requires : tie.Need-no-unit-requires
 no-unit-requires c κs = search needs
 
--- src/lib.rt:127:9
 no-opening-requires : tie.Need-no-opening-requires
 no-opening-requires c κs = search needs
 
--- src/lib.rt:128:9
 no-instruction-requires : tie.Need-no-instruction-requires
 no-instruction-requires c κs = search needs
 
--- src/lib.rt:129:9
 no-course-requires : tie.Need-no-course-requires
 no-course-requires c κs = search needs
 
--- src/lib.rt:123:1
 returns : tie.Need-returns
 unfolding empty
 returns c = rw (c .before .no-course .ensures, c .before .before .no-instruction .ensures, c .before .before .before .no-opening .ensures, c .before .before .before .before .no-unit .ensures)

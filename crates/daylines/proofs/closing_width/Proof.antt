@@ -6,23 +6,18 @@ use Rattle.daylines.proofs.closing_width.Reads as reads
 use Rattle.daylines.proofs.closing_width.Lts as lts
 use Rattle.widths.proofs.e_width.Reads as e-width-reads
 
--- src/lib.rt:246:34
 cast-e-width : tie.Need-cast-e-width
 cast-e-width c = search needs
 
--- src/lib.rt:246:51
 cast-e-width-2 : tie.Need-cast-e-width-2
 cast-e-width-2 c = search needs
 
--- src/lib.rt:246:66
 cast-e-width-3 : tie.Need-cast-e-width-3
 cast-e-width-3 c = search needs
 
--- src/lib.rt:246:5
 e-width-requires : tie.Need-e-width-requires
 e-width-requires c κs = search needs
 
--- src/lib.rt:242:1
 returns : tie.Need-returns
 unfolding closingLine
 returns c = c .e-width .ensures

@@ -38,18 +38,15 @@ gone c =
     rw (c .walk-on .ensures)
     (onward-goes (headed (c .before .before .before .before .before .before .is-rising .result)) (listsBy (c .before .before .before .before .before .own-lists .result) (a .c)) (grains (a .c .target)) (a .n) (l .p) (c .before .if1 .taken) (l .inv .1))
 
--- src/lib.rt:86:9
 is-rising-requires : tie.Need-is-rising-requires Inv-loop μ-loop
 is-rising-requires c κs = search needs
 
 own-lists-requires : tie.Need-own-lists-requires Inv-loop μ-loop
 own-lists-requires c κs = search needs
 
--- src/lib.rt:87:9
 begin-at-requires : tie.Need-begin-at-requires Inv-loop μ-loop
 begin-at-requires c κs = search needs
 
--- src/lib.rt:89:5
 loop-holds : tie.Need-loop-holds Inv-loop μ-loop
 loop-holds c =
     let a = c .before .before .before .args in
@@ -60,26 +57,21 @@ loop-holds c =
       omega arith,
     )
 
--- src/lib.rt:90:13
 walk-on-requires : tie.Need-walk-on-requires Inv-loop μ-loop
 walk-on-requires c κs = (c .if1 .taken, c .before .before .loop .inv .1)
 
--- src/lib.rt:91:18
 piece-width-requires : tie.Need-piece-width-requires Inv-loop μ-loop
 piece-width-requires c κs = search needs
 
--- src/lib.rt:91:9
 add-width : tie.Need-add-width Inv-loop μ-loop
 add-width c =
     let g = gone (c .before) in
     let inv = c .before .before .before .before .loop .inv in
     omega (arith, g .later, g .within, inv .0, inv .3, c .piece-width .ensures .1)
 
--- src/lib.rt:89:5
 loop-less : tie.Need-loop-less Inv-loop μ-loop
 loop-less c = let g = gone (c .before) in omega (arith, g .later, g .within)
 
--- src/lib.rt:89:5
 loop-again : tie.Need-loop-again Inv-loop μ-loop
 loop-again c =
     let g = gone (c .before) in
@@ -96,7 +88,6 @@ loop-again c =
       omega (arith, g .later, l .inv .0, l .inv .3, c .piece-width .ensures .1),
     )
 
--- src/lib.rt:83:1
 returns : tie.Need-returns Inv-loop μ-loop
 returns c =
     let a = c .before .before .before .before .before .before .args in

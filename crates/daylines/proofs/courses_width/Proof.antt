@@ -23,63 +23,48 @@ Inv-loop u started cs n width₀ i₀ width i = (i ≤ n) × (width + length (co
 abbrev μ-loop : tie.MeasureT-loop
 μ-loop u started cs n width₀ i₀ width i = n - i
 
--- src/lib.rt:129:9
 at-most-requires : tie.Need-at-most-requires Inv-loop μ-loop
 at-most-requires c κs = search needs
 
--- src/lib.rt:132:5
 loop-holds : tie.Need-loop-holds Inv-loop μ-loop
 loop-holds c = (omega arith, omega arith, omega arith)
 
--- src/lib.rt:133:17
 mul-c : tie.Need-mul-c Inv-loop μ-loop
 mul-c c = omega arith
 
--- src/lib.rt:133:17
 array-copy-out-c : tie.Need-array-copy-out-c Inv-loop μ-loop
 array-copy-out-c c = omega arith
 
--- src/lib.rt:134:25
 add-at-most : tie.Need-add-at-most Inv-loop μ-loop
 add-at-most c = omega arith
 
--- src/lib.rt:134:13
 at-most-requires-2 : tie.Need-at-most-requires-2 Inv-loop μ-loop
 at-most-requires-2 c κs = search needs
 
--- src/lib.rt:135:20
 mul-next : tie.Need-mul-next Inv-loop μ-loop
 mul-next c = omega arith
 
--- src/lib.rt:135:20
 array-copy-out-next : tie.Need-array-copy-out-next Inv-loop μ-loop
 array-copy-out-next c = omega arith
 
--- src/lib.rt:136:26
 add-end-of : tie.Need-add-end-of Inv-loop μ-loop
 add-end-of c = omega arith
 
--- src/lib.rt:136:13
 end-of-requires : tie.Need-end-of-requires Inv-loop μ-loop
 end-of-requires c κs = search needs
 
--- src/lib.rt:137:18
 course-width-requires : tie.Need-course-width-requires Inv-loop μ-loop
 course-width-requires c κs = search needs
 
--- src/lib.rt:137:9
 add-width : tie.Need-add-width Inv-loop μ-loop
 add-width c = omega arith
 
--- src/lib.rt:138:9
 add-i : tie.Need-add-i Inv-loop μ-loop
 add-i c = omega arith
 
--- src/lib.rt:132:5
 loop-less : tie.Need-loop-less Inv-loop μ-loop
 loop-less c = omega arith
 
--- src/lib.rt:132:5
 loop-again : tie.Need-loop-again Inv-loop μ-loop
 loop-again c =
     let s = c .before .before .before .before .before .before .before .before in
@@ -95,7 +80,6 @@ loop-again c =
     let r = left-shorter (left (l .i)) (courseLines (a .u) d (end .result)) (left (l .i + 1)) e in
     (omega arith, omega (arith, r, c .course-width .ensures .0, l .inv .1), omega (arith, c .course-width .ensures .1, l .inv .2))
 
--- src/lib.rt:126:1
 returns : tie.Need-returns Inv-loop μ-loop
 returns c =
     let s = c .before .before .before in

@@ -18,43 +18,33 @@ Inv-loop count fates n width₀ i₀ width i = (i ≤ n) × (width + length (fat
 abbrev μ-loop : tie.MeasureT-loop
 μ-loop count fates n width₀ i₀ width i = n - i
 
--- src/lib.rt:31:9
 at-most-requires : tie.Need-at-most-requires Inv-loop μ-loop
 at-most-requires c κs = search needs
 
--- src/lib.rt:34:5
 loop-holds : tie.Need-loop-holds Inv-loop μ-loop
 loop-holds c = (omega arith, omega arith, omega arith)
 
--- src/lib.rt:35:22
 add-number : tie.Need-add-number Inv-loop μ-loop
 add-number c = omega arith
 
--- src/lib.rt:36:20
 array-read-fate : tie.Need-array-read-fate Inv-loop μ-loop
 array-read-fate c = omega arith
 
--- src/lib.rt:36:20
 cast-fate : tie.Need-cast-fate Inv-loop μ-loop
 cast-fate c = search needs
 
--- src/lib.rt:37:18
 f-width-requires : tie.Need-f-width-requires Inv-loop μ-loop
 f-width-requires c κs = search needs
 
--- src/lib.rt:37:9
 add-width : tie.Need-add-width Inv-loop μ-loop
 add-width c = omega arith
 
--- src/lib.rt:38:9
 add-i : tie.Need-add-i Inv-loop μ-loop
 add-i c = omega arith
 
--- src/lib.rt:34:5
 loop-less : tie.Need-loop-less Inv-loop μ-loop
 loop-less c = omega arith
 
--- src/lib.rt:34:5
 loop-again : tie.Need-loop-again Inv-loop μ-loop
 loop-again c =
     let s = c .before .before .before .before in
@@ -65,7 +55,6 @@ loop-again c =
     let r = left-shorter (left (l .i)) (fLine (l .i + 1) (getD (a .t1) (l .i) 0)) (left (l .i + 1)) e in
     (omega arith, omega (arith, r, c .f-width .ensures .0, l .inv .1), omega (arith, c .f-width .ensures .1, l .inv .2))
 
--- src/lib.rt:28:1
 returns : tie.Need-returns Inv-loop μ-loop
 returns c =
     let s = c .before .before .before in

@@ -6,19 +6,15 @@ use Rattle.daylines.proofs.piece_width.Reads as reads
 use Rattle.daylines.proofs.piece_width.Lts as lts
 use Rattle.widths.proofs.s_width.Reads as s-width-reads
 
--- src/lib.rt:67:16
 cast-from : tie.Need-cast-from
 cast-from c = search needs
 
--- src/lib.rt:68:14
 cast-to : tie.Need-cast-to
 cast-to c = search needs
 
--- src/lib.rt:69:5
 s-width-requires : tie.Need-s-width-requires
 s-width-requires c κs = search needs
 
--- src/lib.rt:64:1
 returns : tie.Need-returns
 unfolding pieceLine
 returns c = c .s-width .ensures

@@ -6,28 +6,22 @@ use Rattle.daylines.proofs.put_closing.Reads as reads
 use Rattle.daylines.proofs.put_closing.Lts as lts
 use Rattle.lines.proofs.put_e.Reads as put-e-reads
 
--- src/lib.rt:258:9
 cast-put-e : tie.Need-cast-put-e
 cast-put-e c = search needs
 
--- src/lib.rt:259:9
 cast-put-e-2 : tie.Need-cast-put-e-2
 cast-put-e-2 c = search needs
 
--- src/lib.rt:260:9
 cast-put-e-3 : tie.Need-cast-put-e-3
 cast-put-e-3 c = search needs
 
--- src/lib.rt:255:5
 put-e-requires : tie.Need-put-e-requires
 unfolding closingLine
 put-e-requires c κs = c .before .before .before .before .before .before .pre
 
--- src/lib.rt:250:1
 same-length : tie.Need-same-length
 same-length c = search needs
 
--- src/lib.rt:250:1
 returns : tie.Need-returns
 unfolding closingLine
 returns c = c .before .before .put-e .ensures

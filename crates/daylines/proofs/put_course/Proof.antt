@@ -71,18 +71,15 @@ room c =
     lay-next (left (c .before .before .before .before .begin-at .result)) (left (l .p)) (pieceLine (l .p) (c .walk-on .result)) (left (c .walk-on .result)) (a .out .now) (l .out) (l .at)
     (fits (c .before .before .before)) (next c) (l .inv .1)
 
--- src/lib.rt:102:9
 is-rising-requires : tie.Need-is-rising-requires Inv-loop μ-loop
 is-rising-requires c κs = search needs
 
 own-lists-requires : tie.Need-own-lists-requires Inv-loop μ-loop
 own-lists-requires c κs = search needs
 
--- src/lib.rt:103:9
 begin-at-requires : tie.Need-begin-at-requires Inv-loop μ-loop
 begin-at-requires c κs = search needs
 
--- src/lib.rt:105:5
 loop-holds : tie.Need-loop-holds Inv-loop μ-loop
 loop-holds c =
     let a = c .before .before .before .before .args in
@@ -91,37 +88,29 @@ loop-holds c =
       lay-none (pieces-left (c .before .own-lists .result) (a .c) (rises .result) (a .n) (c .begin-at .result)) (a .out .now),
     )
 
--- src/lib.rt:106:13
 walk-on-requires : tie.Need-walk-on-requires Inv-loop μ-loop
 walk-on-requires c κs = (c .if1 .taken, c .before .before .loop .inv .0)
 
--- src/lib.rt:107:27
 sub-put-piece : tie.Need-sub-put-piece Inv-loop μ-loop
 sub-put-piece c = omega (arith, room c)
 
--- src/lib.rt:107:27
 part-put-piece-start : tie.Need-part-put-piece-start Inv-loop μ-loop
 part-put-piece-start c = omega (arith, room c)
 
--- src/lib.rt:107:27
 part-put-piece-end : tie.Need-part-put-piece-end Inv-loop μ-loop
 part-put-piece-end c = search needs
 
--- src/lib.rt:107:13
 put-piece-requires : tie.Need-put-piece-requires Inv-loop μ-loop
 put-piece-requires c κs =
     let l = c .before .before .before .before .loop in
     omega (arith, part-length (l .at) (l .out), room (c .before))
 
--- src/lib.rt:108:9
 add-at : tie.Need-add-at Inv-loop μ-loop
 add-at c = omega (arith, room (c .before .before .before .before), c .before .before .put-piece .ensures .0)
 
--- src/lib.rt:105:5
 loop-less : tie.Need-loop-less Inv-loop μ-loop
 loop-less c = let g = gone (c .before .before .before .before) in omega (arith, g .later, g .within)
 
--- src/lib.rt:105:5
 loop-again : tie.Need-loop-again Inv-loop μ-loop
 loop-again c =
     let w = c .before .before .before .before in
@@ -134,7 +123,6 @@ loop-again c =
           (fits (w .before .before .before)) (next w) (l .inv .1) (p .ensures .0) (p .ensures .1),
     )
 
--- src/lib.rt:98:1
 same-length : tie.Need-same-length Inv-loop μ-loop
 same-length c =
     let a = c .before .before .before .before .before .before .before .args in
@@ -142,7 +130,6 @@ same-length c =
     let left = pieces-left (c .before .before .before .before .own-lists .result) (a .c) (c .before .before .before .before .before .is-rising .result) (a .n) in
     lay-room (left (c .before .before .before .begin-at .result)) (left (l .p)) (a .out .now) (l .out) (l .at) (fits (c .before .before)) (l .inv .1) .1
 
--- src/lib.rt:98:1
 returns : tie.Need-returns Inv-loop μ-loop
 returns c =
     let a = c .before .before .before .before .before .before .before .args in

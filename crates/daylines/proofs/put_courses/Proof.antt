@@ -56,75 +56,57 @@ room c =
     let left = courses-left (a .u) (a .t3) (a .started) in
     lay-next (left 0) (left (l .i)) (lines-of c) (left (l .i + 1)) (a .out .now) (l .out) (l .at) (s .pre) (next c) (l .inv .1)
 
--- src/lib.rt:153:9
 at-most-requires : tie.Need-at-most-requires Inv-loop μ-loop
 at-most-requires c κs = search needs
 
--- src/lib.rt:156:5
 loop-holds : tie.Need-loop-holds Inv-loop μ-loop
 loop-holds c = let a = c .before .before .args in (omega arith, lay-none (courses-left (a .u) (a .t3) (a .started) 0) (a .out .now))
 
--- src/lib.rt:157:17
 mul-c : tie.Need-mul-c Inv-loop μ-loop
 mul-c c = omega arith
 
--- src/lib.rt:157:17
 array-copy-out-c : tie.Need-array-copy-out-c Inv-loop μ-loop
 array-copy-out-c c = omega arith
 
--- src/lib.rt:158:25
 add-at-most : tie.Need-add-at-most Inv-loop μ-loop
 add-at-most c = omega arith
 
--- src/lib.rt:158:13
 at-most-requires-2 : tie.Need-at-most-requires-2 Inv-loop μ-loop
 at-most-requires-2 c κs = search needs
 
--- src/lib.rt:159:20
 mul-next : tie.Need-mul-next Inv-loop μ-loop
 mul-next c = omega arith
 
--- src/lib.rt:159:20
 array-copy-out-next : tie.Need-array-copy-out-next Inv-loop μ-loop
 array-copy-out-next c = omega arith
 
--- src/lib.rt:160:26
 add-end-of : tie.Need-add-end-of Inv-loop μ-loop
 add-end-of c = omega arith
 
--- src/lib.rt:160:13
 end-of-requires : tie.Need-end-of-requires Inv-loop μ-loop
 end-of-requires c κs = search needs
 
--- src/lib.rt:161:28
 sub-put-course : tie.Need-sub-put-course Inv-loop μ-loop
 sub-put-course c = omega (arith, room c)
 
--- src/lib.rt:161:28
 part-put-course-start : tie.Need-part-put-course-start Inv-loop μ-loop
 part-put-course-start c = omega (arith, room c)
 
--- src/lib.rt:161:28
 part-put-course-end : tie.Need-part-put-course-end Inv-loop μ-loop
 part-put-course-end c = search needs
 
--- src/lib.rt:161:13
 put-course-requires : tie.Need-put-course-requires Inv-loop μ-loop
 put-course-requires c κs = let l = c .before .before .before .before .before .before .loop in omega (arith, part-length (l .at) (l .out), room (c .before))
 
--- src/lib.rt:162:9
 add-at : tie.Need-add-at Inv-loop μ-loop
 add-at c = omega (arith, room (c .before .before .before .before), c .before .before .put-course .ensures .0)
 
--- src/lib.rt:163:9
 add-i : tie.Need-add-i Inv-loop μ-loop
 add-i c = omega arith
 
--- src/lib.rt:156:5
 loop-less : tie.Need-loop-less Inv-loop μ-loop
 loop-less c = omega arith
 
--- src/lib.rt:156:5
 loop-again : tie.Need-loop-again Inv-loop μ-loop
 loop-again c =
     let w = c .before .before .before .before in
@@ -137,7 +119,6 @@ loop-again c =
       lay-more (left 0) (left (l .i)) (lines-of w) (left (l .i + 1)) (a .out .now) (l .out) (p .last .0) (l .at) (p .result) (s .pre) (next w) (l .inv .1) (p .ensures .0) (p .ensures .1),
     )
 
--- src/lib.rt:144:1
 same-length : tie.Need-same-length Inv-loop μ-loop
 same-length c =
     let s = c .before .before .before .before in
@@ -146,7 +127,6 @@ same-length c =
     let left = courses-left (a .u) (a .t3) (a .started) in
     lay-room (left 0) (left (l .i)) (a .out .now) (l .out) (l .at) (s .pre) (l .inv .1) .1
 
--- src/lib.rt:144:1
 returns : tie.Need-returns Inv-loop μ-loop
 returns c =
     let s = c .before .before .before .before in

@@ -40,55 +40,42 @@ room c =
     let left = fates-left (a .t2) (a .count) in
     lay-next (left 0) (left (l .i)) (fLine (l .i + 1) (getD (a .t2) (l .i) 0)) (left (l .i + 1)) (a .out .now) (l .out) (l .at) (s .pre) (next c) (l .inv .1)
 
--- src/lib.rt:48:9
 at-most-requires : tie.Need-at-most-requires Inv-loop μ-loop
 at-most-requires c κs = search needs
 
--- src/lib.rt:51:5
 loop-holds : tie.Need-loop-holds Inv-loop μ-loop
 loop-holds c = let a = c .before .before .args in (omega arith, lay-none (fates-left (a .t2) (a .count) 0) (a .out .now))
 
--- src/lib.rt:52:22
 add-number : tie.Need-add-number Inv-loop μ-loop
 add-number c = omega arith
 
--- src/lib.rt:53:20
 array-read-fate : tie.Need-array-read-fate Inv-loop μ-loop
 array-read-fate c = omega arith
 
--- src/lib.rt:53:20
 cast-fate : tie.Need-cast-fate Inv-loop μ-loop
 cast-fate c = search needs
 
--- src/lib.rt:54:30
 sub-put-f : tie.Need-sub-put-f Inv-loop μ-loop
 sub-put-f c = omega (arith, room c)
 
--- src/lib.rt:54:30
 part-put-f-start : tie.Need-part-put-f-start Inv-loop μ-loop
 part-put-f-start c = omega (arith, room c)
 
--- src/lib.rt:54:30
 part-put-f-end : tie.Need-part-put-f-end Inv-loop μ-loop
 part-put-f-end c = search needs
 
--- src/lib.rt:54:13
 put-f-requires : tie.Need-put-f-requires Inv-loop μ-loop
 put-f-requires c κs = omega (arith, part-length (c .before .before .loop .at) (c .before .before .loop .out), room (c .before))
 
--- src/lib.rt:55:9
 add-at : tie.Need-add-at Inv-loop μ-loop
 add-at c = omega (arith, room (c .before .before .before .before), c .before .before .put-f .ensures .0)
 
--- src/lib.rt:56:9
 add-i : tie.Need-add-i Inv-loop μ-loop
 add-i c = omega arith
 
--- src/lib.rt:51:5
 loop-less : tie.Need-loop-less Inv-loop μ-loop
 loop-less c = omega arith
 
--- src/lib.rt:51:5
 loop-again : tie.Need-loop-again Inv-loop μ-loop
 loop-again c =
     let w = c .before .before .before .before in
@@ -101,7 +88,6 @@ loop-again c =
       lay-more (left 0) (left (l .i)) (fLine (l .i + 1) (getD (a .t2) (l .i) 0)) (left (l .i + 1)) (a .out .now) (l .out) (p .last .0) (l .at) (p .result) (s .pre) (next w) (l .inv .1) (p .ensures .0) (p .ensures .1),
     )
 
--- src/lib.rt:44:1
 same-length : tie.Need-same-length Inv-loop μ-loop
 same-length c =
     let s = c .before .before .before .before in
@@ -110,7 +96,6 @@ same-length c =
     let left = fates-left (a .t2) (a .count) in
     lay-room (left 0) (left (l .i)) (a .out .now) (l .out) (l .at) (s .pre) (l .inv .1) .1
 
--- src/lib.rt:44:1
 returns : tie.Need-returns Inv-loop μ-loop
 returns c =
     let s = c .before .before .before .before in

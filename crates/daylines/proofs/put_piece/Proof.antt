@@ -6,24 +6,19 @@ use Rattle.daylines.proofs.put_piece.Reads as reads
 use Rattle.daylines.proofs.put_piece.Lts as lts
 use Rattle.lines.proofs.put_s.Reads as put-s-reads
 
--- src/lib.rt:77:16
 cast-from : tie.Need-cast-from
 cast-from c = search needs
 
--- src/lib.rt:78:14
 cast-to : tie.Need-cast-to
 cast-to c = search needs
 
--- src/lib.rt:79:5
 put-s-requires : tie.Need-put-s-requires
 unfolding pieceLine
 put-s-requires c κs = c .before .before .before .before .pre
 
--- src/lib.rt:73:1
 same-length : tie.Need-same-length
 same-length c = search needs
 
--- src/lib.rt:73:1
 returns : tie.Need-returns
 unfolding pieceLine
 returns c = c .before .before .put-s .ensures

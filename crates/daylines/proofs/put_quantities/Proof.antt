@@ -46,49 +46,38 @@ room c =
     let end = c .run-end .result in
     lay-next (left 0) (left (l .i)) (qLine (l .i + 1) end (c .before .before .quantity-at .result)) (left end) (a .out .now) (l .out) (l .at) (fits (c .before .before .before .before .before)) (next c) (l .inv .1)
 
--- src/lib.rt:228:5
 loop-holds : tie.Need-loop-holds Inv-loop μ-loop
 loop-holds c = (omega arith, lay-none (quantities-left (quantityAt (c .before .args .t2)) 0) (c .before .args .out .now))
 
--- src/lib.rt:229:13
 quantity-at-requires : tie.Need-quantity-at-requires Inv-loop μ-loop
 quantity-at-requires c κs = omega arith
 
--- src/lib.rt:230:21
 add-first : tie.Need-add-first Inv-loop μ-loop
 add-first c = omega arith
 
--- src/lib.rt:231:13
 run-end-requires : tie.Need-run-end-requires Inv-loop μ-loop
 run-end-requires c κs = omega arith
 
--- src/lib.rt:232:30
 sub-put-q : tie.Need-sub-put-q Inv-loop μ-loop
 sub-put-q c = omega (arith, room c)
 
--- src/lib.rt:232:30
 part-put-q-start : tie.Need-part-put-q-start Inv-loop μ-loop
 part-put-q-start c = omega (arith, room c)
 
--- src/lib.rt:232:30
 part-put-q-end : tie.Need-part-put-q-end Inv-loop μ-loop
 part-put-q-end c = search needs
 
--- src/lib.rt:232:13
 put-q-requires : tie.Need-put-q-requires Inv-loop μ-loop
 put-q-requires c κs =
     let l = c .before .before .before .before .before .before .loop in
     omega (arith, part-length (l .at) (l .out), room (c .before))
 
--- src/lib.rt:233:9
 add-at : tie.Need-add-at Inv-loop μ-loop
 add-at c = omega (arith, room (c .before .before .before .before), c .before .before .put-q .ensures .0)
 
--- src/lib.rt:228:5
 loop-less : tie.Need-loop-less Inv-loop μ-loop
 loop-less c = omega (arith, c .before .before .before .before .run-end .ensures .1, c .before .before .before .before .run-end .ensures .2)
 
--- src/lib.rt:228:5
 loop-again : tie.Need-loop-again Inv-loop μ-loop
 loop-again c =
     let w = c .before .before .before .before in
@@ -102,7 +91,6 @@ loop-again c =
           (fits (w .before .before .before .before .before)) (next w) (l .inv .1) (p .ensures .0) (p .ensures .1),
     )
 
--- src/lib.rt:222:1
 same-length : tie.Need-same-length Inv-loop μ-loop
 same-length c =
     let a = c .before .before .before .args in
@@ -110,7 +98,6 @@ same-length c =
     let left = quantities-left (quantityAt (a .t2)) in
     lay-room (left 0) (left (l .i)) (a .out .now) (l .out) (l .at) (fits (c .before)) (l .inv .1) .1
 
--- src/lib.rt:222:1
 returns : tie.Need-returns Inv-loop μ-loop
 returns c =
     let a = c .before .before .before .args in

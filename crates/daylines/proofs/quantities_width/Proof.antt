@@ -20,35 +20,27 @@ Inv-loop sums width₀ i₀ width i = (i ≤ 48) × (width + length (quantities-
 abbrev μ-loop : tie.MeasureT-loop
 μ-loop sums width₀ i₀ width i = 48 - i
 
--- src/lib.rt:211:5
 loop-holds : tie.Need-loop-holds Inv-loop μ-loop
 loop-holds c = (omega arith, omega arith, omega arith)
 
--- src/lib.rt:212:13
 quantity-at-requires : tie.Need-quantity-at-requires Inv-loop μ-loop
 quantity-at-requires c κs = omega arith
 
--- src/lib.rt:213:21
 add-first : tie.Need-add-first Inv-loop μ-loop
 add-first c = omega arith
 
--- src/lib.rt:214:13
 run-end-requires : tie.Need-run-end-requires Inv-loop μ-loop
 run-end-requires c κs = omega arith
 
--- src/lib.rt:215:18
 q-width-requires : tie.Need-q-width-requires Inv-loop μ-loop
 q-width-requires c κs = search needs
 
--- src/lib.rt:215:9
 add-width : tie.Need-add-width Inv-loop μ-loop
 add-width c = omega arith
 
--- src/lib.rt:211:5
 loop-less : tie.Need-loop-less Inv-loop μ-loop
 loop-less c = omega arith
 
--- src/lib.rt:211:5
 loop-again : tie.Need-loop-again Inv-loop μ-loop
 loop-again c =
     let a = c .before .before .before .before .before .before .before .args in
@@ -60,7 +52,6 @@ loop-again c =
     let r = left-shorter (left (l .i)) (qLine (l .i + 1) (end .result) (q .result)) (left (end .result)) e in
     (end .ensures .2, omega (arith, r, c .q-width .ensures .0, l .inv .1), omega (arith, end .ensures .1, c .q-width .ensures .1, l .inv .2))
 
--- src/lib.rt:206:1
 returns : tie.Need-returns Inv-loop μ-loop
 returns c =
     let a = c .before .before .args in

@@ -16,15 +16,12 @@ Inv-loop sums kw from i₀ i = (from ≤ i) × (i ≤ 48) × (runEnd (quantityAt
 abbrev μ-loop : tie.MeasureT-loop
 μ-loop sums kw from i₀ i = 48 - i
 
--- src/lib.rt:195:5
 loop-holds : tie.Need-loop-holds Inv-loop μ-loop
 loop-holds c = (omega arith, omega arith, refl)
 
--- src/lib.rt:196:13
 quantity-at-requires : tie.Need-quantity-at-requires Inv-loop μ-loop
 quantity-at-requires c κs = omega arith
 
--- src/lib.rt:198:13
 returns : tie.Need-returns Inv-loop μ-loop
 returns c =
     let a = c .before .before .before .before .args in
@@ -32,15 +29,12 @@ returns c =
     let q = c .before .quantity-at in
     (sym (end-here (quantityAt (a .sums .now)) (a .kw) (l .i) (48 - l .i) (omega arith) (λ e. omega (arith, q .ensures))) ∙ l .inv .2, l .inv .0, l .inv .1)
 
--- src/lib.rt:200:9
 add-i : tie.Need-add-i Inv-loop μ-loop
 add-i c = omega arith
 
--- src/lib.rt:195:5
 loop-less : tie.Need-loop-less Inv-loop μ-loop
 loop-less c = omega arith
 
--- src/lib.rt:195:5
 loop-again : tie.Need-loop-again Inv-loop μ-loop
 loop-again c =
     let a = c .before .before .before .before .args in
@@ -53,7 +47,6 @@ loop-again c =
           ∙ (sym (end-on f (a .kw) (l .i) (48 - l .i) (omega arith) (omega (arith, q .ensures))) ∙ l .inv .2),
     )
 
--- src/lib.rt:190:1
 returns-2 : tie.Need-returns-2 Inv-loop μ-loop
 returns-2 c =
     let a = c .before .before .args in

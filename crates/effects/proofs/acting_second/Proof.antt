@@ -6,12 +6,10 @@ use Rattle.effects.proofs.acting_second.Tie as tie
 use Rattle.effects.proofs.acting_second.Reads as reads
 use Rattle.effects.proofs.acting_second.Lts as lts
 
--- src/lib.rt:300:5
 add-result : tie.Need-add-result
 unfolding acting
 add-result c = omega arith
 
--- src/lib.rt:294:1
 returns : tie.Need-returns
 unfolding acting
 returns c = refl

@@ -8,19 +8,15 @@ use Rattle.effects.proofs.acting_second.Reads as acting-second-reads
 use Rattle.effects.proofs.setting_of.Reads as setting-of-reads
 use Rattle.effects.proofs.under_way.Reads as under-way-reads
 
--- src/lib.rt:313:9
 acting-second-requires : tie.Need-acting-second-requires
 acting-second-requires c κs = search needs
 
--- src/lib.rt:315:9
 setting-of-requires : tie.Need-setting-of-requires
 setting-of-requires c κs = search needs
 
--- src/lib.rt:316:5
 under-way-requires : tie.Need-under-way-requires
 under-way-requires c κs = search needs
 
--- src/lib.rt:304:1
 returns : tie.Need-returns
 unfolding begun
 returns c = rw (c .under-way .ensures, c .before .setting-of .ensures, c .before .before .before .acting-second .ensures)

@@ -10,23 +10,18 @@ use Rattle.effects.proofs.step_up.Reads as step-up-reads
 use Rattle.level.proofs.Level.from_kw.Reads as from-kw-reads
 use Rattle.rates.proofs.column_for.Reads as column-for-reads
 
--- src/lib.rt:249:9
 column-for-requires : tie.Need-column-for-requires
 column-for-requires c κs = search needs
 
--- src/lib.rt:250:9
 from-kw-requires : tie.Need-from-kw-requires
 from-kw-requires c κs = search needs
 
--- src/lib.rt:251:9
 from-kw-requires-2 : tie.Need-from-kw-requires-2
 from-kw-requires-2 c κs = search needs
 
--- src/lib.rt:252:9
 step-up-requires : tie.Need-step-up-requires
 step-up-requires c κs = search needs
 
--- src/lib.rt:246:1
 returns : tie.Need-returns
 unfolding courseFrom fromKw
 returns c = rw (c .step-up .ensures, c .before .from-kw2 .ensures, c .before .before .from-kw .ensures, c .before .before .before .column-for .ensures) refl

@@ -6,31 +6,24 @@ use Rattle.effects.proofs.heat_by.Tie as tie
 use Rattle.effects.proofs.heat_by.Reads as reads
 use Rattle.effects.proofs.heat_by.Lts as lts
 
--- src/lib.rt:33:21
 cast-hot : tie.Need-cast-hot
 cast-hot c = search needs
 
--- src/lib.rt:33:15
 mul-hot : tie.Need-mul-hot
 mul-hot c = search needs
 
--- src/lib.rt:34:22
 cast-warm : tie.Need-cast-warm
 cast-warm c = search needs
 
--- src/lib.rt:34:16
 mul-warm : tie.Need-mul-warm
 mul-warm c = search needs
 
--- src/lib.rt:37:9
 returns : tie.Need-returns
 returns c = heat-hot _ _ (omega arith)
 
--- src/lib.rt:40:9
 returns-2 : tie.Need-returns-2
 returns-2 c = heat-warm _ _ (omega arith) (omega arith)
 
--- src/lib.rt:30:1
 returns-3 : tie.Need-returns-3
 returns-3 c = heat-cold _ _ (omega arith) (omega arith)
 

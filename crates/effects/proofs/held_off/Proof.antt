@@ -6,23 +6,18 @@ use Rattle.effects.proofs.held_off.Tie as tie
 use Rattle.effects.proofs.held_off.Reads as reads
 use Rattle.effects.proofs.held_off.Lts as lts
 
--- src/lib.rt:333:15
 add-sum : tie.Need-add-sum
 add-sum c = search needs
 
--- src/lib.rt:335:16
 cast-result : tie.Need-cast-result
 cast-result c = search needs
 
--- src/lib.rt:335:9
 returns : tie.Need-returns
 returns c = held-low _ (omega arith)
 
--- src/lib.rt:337:5
 cast-result-2 : tie.Need-cast-result-2
 cast-result-2 c = search needs
 
--- src/lib.rt:330:1
 returns-2 : tie.Need-returns-2
 returns-2 c = held-high _ (omega arith)
 

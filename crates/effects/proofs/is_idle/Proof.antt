@@ -5,65 +5,51 @@ use Rattle.effects.proofs.is_idle.Tie as tie
 use Rattle.effects.proofs.is_idle.Reads as reads
 use Rattle.effects.proofs.is_idle.Lts as lts
 
--- src/lib.rt:19:34
 enum-told : tie.Need-enum-told
 enum-told c = search needs
 
--- src/lib.rt:20:35
 enum-told-2 : tie.Need-enum-told-2
 enum-told-2 c = search needs
 
--- src/lib.rt:21:35
 enum-told-3 : tie.Need-enum-told-3
 enum-told-3 c = search needs
 
--- src/lib.rt:22:34
 enum-told-4 : tie.Need-enum-told-4
 enum-told-4 c = search needs
 
--- src/lib.rt:23:34
 enum-told-5 : tie.Need-enum-told-5
 enum-told-5 c = search needs
 
--- src/lib.rt:24:34
 enum-told-6 : tie.Need-enum-told-6
 enum-told-6 c = search needs
 
--- src/lib.rt:25:34
 enum-told-7 : tie.Need-enum-told-7
 enum-told-7 c = search needs
 
--- src/lib.rt:15:1
 returns : tie.Need-returns
 unfolding idle
 returns c = rw (c .enum-told .given .1)
 
--- src/lib.rt:15:1
 returns-2 : tie.Need-returns-2
 unfolding idle
 returns-2 c = rw (c .enum-told2 .given .1)
 
--- src/lib.rt:15:1
 returns-3 : tie.Need-returns-3
 unfolding idle
 returns-3 c = rw (c .enum-told3 .given .1)
 
--- src/lib.rt:15:1
 returns-4 : tie.Need-returns-4
 unfolding idle
 returns-4 c = rw (c .enum-told4 .given .1)
 
--- src/lib.rt:15:1
 returns-5 : tie.Need-returns-5
 unfolding idle
 returns-5 c = rw (c .enum-told5 .given .1)
 
--- src/lib.rt:15:1
 returns-6 : tie.Need-returns-6
 unfolding idle
 returns-6 c = rw (c .enum-told6 .given .1)
 
--- src/lib.rt:15:1
 returns-7 : tie.Need-returns-7
 unfolding idle
 returns-7 c = rw (c .enum-told7 .given .1)

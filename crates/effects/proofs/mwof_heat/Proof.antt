@@ -4,11 +4,9 @@ use Rattle.effects.proofs.mwof_heat.Tie as tie
 use Rattle.effects.proofs.mwof_heat.Reads as reads
 use Rattle.effects.proofs.mwof_heat.Lts as lts
 
--- src/lib.rt:68:9
 returns : tie.Need-returns
 returns c = simp (eq-eqb _ _ (c .if1 .taken))
 
--- src/lib.rt:64:1
 returns-2 : tie.Need-returns-2
 returns-2 c = simp (ne-eqb _ _ (c .if1 .left))
 

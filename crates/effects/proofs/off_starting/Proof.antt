@@ -7,15 +7,12 @@ use Rattle.effects.proofs.off_starting.Reads as reads
 use Rattle.effects.proofs.off_starting.Lts as lts
 use Rattle.effects.proofs.held_off.Reads as held-off-reads
 
--- src/lib.rt:346:9
 held-off-requires : tie.Need-held-off-requires
 held-off-requires c κs = search needs
 
--- src/lib.rt:346:9
 returns : tie.Need-returns
 returns c = c .held-off .ensures ∙ starting-off _ _ (c .before .if1 .taken)
 
--- src/lib.rt:341:1
 returns-2 : tie.Need-returns-2
 returns-2 c = starting-on _ _ (c .if1 .left)
 

@@ -6,15 +6,12 @@ use Rattle.effects.proofs.open_course.Reads as reads
 use Rattle.effects.proofs.open_course.Lts as lts
 use Rattle.effects.proofs.under_way.Reads as under-way-reads
 
--- src/lib.rt:282:15
 cast-t4 : tie.Need-cast-t4
 cast-t4 c = search needs
 
--- src/lib.rt:290:5
 under-way-requires : tie.Need-under-way-requires
 under-way-requires c κs = search needs
 
--- src/lib.rt:278:1
 returns : tie.Need-returns
 unfolding opened
 returns c = c .under-way .ensures

@@ -5,7 +5,6 @@ use Rattle.effects.proofs.set_desy.Tie as tie
 use Rattle.effects.proofs.set_desy.Reads as reads
 use Rattle.effects.proofs.set_desy.Lts as lts
 
--- src/lib.rt:185:1
 returns : tie.Need-returns
 unfolding setting
 returns c = refl

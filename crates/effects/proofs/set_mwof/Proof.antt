@@ -7,15 +7,12 @@ use Rattle.effects.proofs.set_mwof.Lts as lts
 use Rattle.effects.proofs.mwof_heat.Reads as mwof-heat-reads
 use Rattle.level.proofs.smaller.Reads as smaller-reads
 
--- src/lib.rt:104:9
 smaller-requires : tie.Need-smaller-requires
 smaller-requires c κs = search needs
 
--- src/lib.rt:105:9
 mwof-heat-requires : tie.Need-mwof-heat-requires
 mwof-heat-requires c κs = search needs
 
--- src/lib.rt:95:1
 returns : tie.Need-returns
 unfolding setting mwofTarget
 returns c = rw (c .mwof-heat .ensures, c .before .smaller .ensures)

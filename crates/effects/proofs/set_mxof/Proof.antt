@@ -6,11 +6,9 @@ use Rattle.effects.proofs.set_mxof.Tie as tie
 use Rattle.effects.proofs.set_mxof.Reads as reads
 use Rattle.effects.proofs.set_mxof.Lts as lts
 
--- src/lib.rt:178:15
 element-copy-out-t9 : tie.Need-element-copy-out-t9
 element-copy-out-t9 c = search needs
 
--- src/lib.rt:163:1
 returns : tie.Need-returns
 unfolding setting
 returns c = refl

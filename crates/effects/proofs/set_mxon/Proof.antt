@@ -6,11 +6,9 @@ use Rattle.effects.proofs.set_mxon.Tie as tie
 use Rattle.effects.proofs.set_mxon.Reads as reads
 use Rattle.effects.proofs.set_mxon.Lts as lts
 
--- src/lib.rt:132:13
 element-copy-out-t9 : tie.Need-element-copy-out-t9
 element-copy-out-t9 c = search needs
 
--- src/lib.rt:118:1
 returns : tie.Need-returns
 unfolding setting
 returns c = refl

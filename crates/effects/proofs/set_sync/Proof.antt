@@ -8,19 +8,15 @@ use Rattle.effects.proofs.heat_by.Reads as heat-by-reads
 use Rattle.level.proofs.larger.Reads as larger-reads
 use Rattle.level.proofs.smaller.Reads as smaller-reads
 
--- src/lib.rt:148:9
 larger-requires : tie.Need-larger-requires
 larger-requires c κs = search needs
 
--- src/lib.rt:149:9
 smaller-requires : tie.Need-smaller-requires
 smaller-requires c κs = search needs
 
--- src/lib.rt:150:9
 heat-by-requires : tie.Need-heat-by-requires
 heat-by-requires c κs = search needs
 
--- src/lib.rt:140:1
 returns : tie.Need-returns
 unfolding setting syncTarget
 returns c = rw (c .heat-by .ensures, c .before .smaller .ensures, c .before .before .larger .ensures)

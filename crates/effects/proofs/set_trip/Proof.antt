@@ -5,7 +5,6 @@ use Rattle.effects.proofs.set_trip.Tie as tie
 use Rattle.effects.proofs.set_trip.Reads as reads
 use Rattle.effects.proofs.set_trip.Lts as lts
 
--- src/lib.rt:74:1
 returns : tie.Need-returns
 unfolding setting
 returns c = refl

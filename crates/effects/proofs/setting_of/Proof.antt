@@ -12,93 +12,72 @@ use Rattle.effects.proofs.set_mxon.Reads as set-mxon-reads
 use Rattle.effects.proofs.set_sync.Reads as set-sync-reads
 use Rattle.effects.proofs.set_trip.Reads as set-trip-reads
 
--- src/lib.rt:217:34
 enum-told : tie.Need-enum-told
 enum-told c = search needs
 
--- src/lib.rt:217:34
 set-trip-requires : tie.Need-set-trip-requires
 set-trip-requires c κs = search needs
 
--- src/lib.rt:218:34
 enum-told-2 : tie.Need-enum-told-2
 enum-told-2 c = search needs
 
--- src/lib.rt:218:34
 set-mwof-requires : tie.Need-set-mwof-requires
 set-mwof-requires c κs = search needs
 
--- src/lib.rt:219:34
 enum-told-3 : tie.Need-enum-told-3
 enum-told-3 c = search needs
 
--- src/lib.rt:219:34
 set-mxon-requires : tie.Need-set-mxon-requires
 set-mxon-requires c κs = search needs
 
--- src/lib.rt:220:34
 enum-told-4 : tie.Need-enum-told-4
 enum-told-4 c = search needs
 
--- src/lib.rt:220:34
 set-sync-requires : tie.Need-set-sync-requires
 set-sync-requires c κs = search needs
 
--- src/lib.rt:221:34
 enum-told-5 : tie.Need-enum-told-5
 enum-told-5 c = search needs
 
--- src/lib.rt:221:34
 set-mxof-requires : tie.Need-set-mxof-requires
 set-mxof-requires c κs = search needs
 
--- src/lib.rt:222:34
 enum-told-6 : tie.Need-enum-told-6
 enum-told-6 c = search needs
 
--- src/lib.rt:222:34
 set-desy-requires : tie.Need-set-desy-requires
 set-desy-requires c κs = search needs
 
--- src/lib.rt:223:34
 enum-told-7 : tie.Need-enum-told-7
 enum-told-7 c = search needs
 
--- src/lib.rt:223:34
 set-desy-requires-2 : tie.Need-set-desy-requires-2
 set-desy-requires-2 c κs = search needs
 
--- src/lib.rt:206:1
 returns : tie.Need-returns
 unfolding setting
 returns c = c .set-trip .ensures ∙ ap (setting _ _ _ _) (sym (c .before .enum-told .given .1))
 
--- src/lib.rt:206:1
 returns-2 : tie.Need-returns-2
 unfolding setting
 returns-2 c = c .set-mwof .ensures ∙ ap (setting _ _ _ _) (sym (c .before .enum-told2 .given .1))
 
--- src/lib.rt:206:1
 returns-3 : tie.Need-returns-3
 unfolding setting
 returns-3 c = c .set-mxon .ensures ∙ ap (setting _ _ _ _) (sym (c .before .enum-told3 .given .1))
 
--- src/lib.rt:206:1
 returns-4 : tie.Need-returns-4
 unfolding setting
 returns-4 c = c .set-sync .ensures ∙ ap (setting _ _ _ _) (sym (c .before .enum-told4 .given .1))
 
--- src/lib.rt:206:1
 returns-5 : tie.Need-returns-5
 unfolding setting
 returns-5 c = c .set-mxof .ensures ∙ ap (setting _ _ _ _) (sym (c .before .enum-told5 .given .1))
 
--- src/lib.rt:206:1
 returns-6 : tie.Need-returns-6
 unfolding setting
 returns-6 c = c .set-desy .ensures ∙ ap (setting _ _ _ _) (sym (c .before .enum-told6 .given .1))
 
--- src/lib.rt:206:1
 returns-7 : tie.Need-returns-7
 unfolding setting
 returns-7 c = c .set-desy2 .ensures ∙ ap (setting _ _ _ _) (sym (c .before .enum-told7 .given .1))

@@ -5,19 +5,15 @@ use Rattle.effects.proofs.step_up.Tie as tie
 use Rattle.effects.proofs.step_up.Reads as reads
 use Rattle.effects.proofs.step_up.Lts as lts
 
--- src/lib.rt:234:9
 returns : tie.Need-returns
 returns c = step-stays _ _ _ (c .if1 .taken)
 
--- src/lib.rt:237:9
 returns-2 : tie.Need-returns-2
 returns-2 c = step-no-target _ _ _ (omega arith)
 
--- src/lib.rt:240:9
 returns-3 : tie.Need-returns-3
 returns-3 c = step-block _ _ _ (omega arith) (omega arith) (omega arith)
 
--- src/lib.rt:230:1
 returns-4 : tie.Need-returns-4
 returns-4 c = step-target _ _ _ (omega arith) (omega arith) (omega arith)
 

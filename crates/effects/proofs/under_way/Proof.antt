@@ -6,11 +6,9 @@ use Rattle.effects.proofs.under_way.Reads as reads
 use Rattle.effects.proofs.under_way.Lts as lts
 use Rattle.effects.proofs.course_from.Reads as course-from-reads
 
--- src/lib.rt:268:9
 course-from-requires : tie.Need-course-from-requires
 course-from-requires c κs = search needs
 
--- src/lib.rt:265:1
 returns : tie.Need-returns
 unfolding underWay
 returns c = rw (c .course-from .ensures)

@@ -9,55 +9,42 @@ use Rattle.entering.proofs.lets_in.Reads as reads
 use Rattle.entering.proofs.lets_in.Lts as lts
 use Rattle.fields.proofs.instruction_answer.Reads as instruction-answer-reads
 
--- src/lib.rt:353:9
 returns : tie.Need-returns
 returns c = λ e. never e
 
--- src/lib.rt:355:8
 shared-slice-read-if2 : tie.Need-shared-slice-read-if2
 shared-slice-read-if2 c = search needs
 
--- src/lib.rt:356:9
 returns-2 : tie.Need-returns-2
 returns-2 c = λ e. never e
 
--- src/lib.rt:359:9
 returns-3 : tie.Need-returns-3
 returns-3 c = λ e. never e
 
--- src/lib.rt:362:9
 returns-4 : tie.Need-returns-4
 returns-4 c = λ e. never e
 
--- src/lib.rt:365:9
 returns-5 : tie.Need-returns-5
 returns-5 c = λ e. never e
 
--- src/lib.rt:367:53
 sub-instruction-answer : tie.Need-sub-instruction-answer
 sub-instruction-answer c = search needs
 
--- src/lib.rt:367:53
 part-instruction-answer-start : tie.Need-part-instruction-answer-start
 part-instruction-answer-start c = search needs
 
--- src/lib.rt:367:53
 part-instruction-answer-end : tie.Need-part-instruction-answer-end
 part-instruction-answer-end c = search needs
 
--- src/lib.rt:367:9
 instruction-answer-requires : tie.Need-instruction-answer-requires
 instruction-answer-requires c κs = search needs
 
--- src/lib.rt:369:29
 enum-told : tie.Need-enum-told
 enum-told c = search needs
 
--- src/lib.rt:370:25
 enum-known-answer : tie.Need-enum-known-answer
 enum-known-answer c = search needs
 
--- src/lib.rt:349:1
 returns-6 : tie.Need-returns-6
 returns-6 c = λ e. record {
   long = omega arith;
@@ -68,7 +55,6 @@ returns-6 c = λ e. record {
   fits = sym (c .before .before .instruction-answer .ensures) ∙ c .enum-told .given .1;
 }
 
--- src/lib.rt:349:1
 returns-7 : tie.Need-returns-7
 returns-7 c = λ e. never e
 

@@ -17,54 +17,42 @@ use Rattle.entering.proofs.accepted.Reads as accepted-reads
 use Rattle.entering.proofs.refused.Reads as refused-reads
 use Rattle.day.proofs.with_unit.Reads as with-unit-reads
 
--- src/lib.rt:68:9
 refused-requires : tie.Need-refused-requires
 refused-requires c κs = search needs
 
--- src/lib.rt:68:9
 returns : tie.Need-returns
 returns c = c .refused .ensures ∙ unit-second _ _ (c .before .if1 .taken)
 
--- src/lib.rt:70:9
 unit-numbers-requires : tie.Need-unit-numbers-requires
 unit-numbers-requires c κs = search needs
 
--- src/lib.rt:71:9
 unit-answer-requires : tie.Need-unit-answer-requires
 unit-answer-requires c κs = search needs
 
--- src/lib.rt:73:25
 enum-known-answer : tie.Need-enum-known-answer
 enum-known-answer c = search needs
 
--- src/lib.rt:73:31
 refused-requires-2 : tie.Need-refused-requires-2
 refused-requires-2 c κs = search needs
 
--- src/lib.rt:75:17
 enum-told : tie.Need-enum-told
 enum-told c = search needs
 
--- src/lib.rt:75:17
 unit-of-requires : tie.Need-unit-of-requires
 unit-of-requires c κs = search needs
 
--- src/lib.rt:76:17
 with-unit-requires : tie.Need-with-unit-requires
 with-unit-requires c κs = search needs
 
--- src/lib.rt:77:13
 accepted-requires : tie.Need-accepted-requires
 accepted-requires c κs = search needs
 
--- src/lib.rt:64:1
 returns-2 : tie.Need-returns-2
 returns-2 c =
     c .refused2 .ensures
     ∙ unit-refused _ _ (c .before .before .before .before .before .before .if1 .left)
     (sym (c .before .before .before .before .unit-answer .ensures ∙ ap unitAnswer (c .before .before .before .before .before .unit-numbers .ensures)) ∙ c .before .before .answer .given .1)
 
--- src/lib.rt:64:1
 returns-3 : tie.Need-returns-3
 returns-3 c =
     c .accepted .ensures

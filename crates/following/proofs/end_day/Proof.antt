@@ -17,7 +17,6 @@ use Rattle.following.proofs.end_day.Lts as lts
 use Rattle.passing.proofs.end_course.Reads as end-course-reads
 use Rattle.passing.proofs.pass_to.Reads as pass-to-reads
 
--- src/lib.rt:320:9
 pass-to-requires : tie.Need-pass-to-requires
 pass-to-requires c κs =
     let p = c .before .before .before .before .before .before .before .pre in
@@ -33,19 +32,15 @@ fits : (c : tie.After-pass-to) →
     (c .pass-to .result .count + length (lastLine (c .pass-to .result .place) (c .pass-to .result .ahead)) ≤ length (c .pass-to .last .0)) × (length (c .pass-to .last .0) ≡ length (c .before .before .before .before .before .before .before .before .args .out .now))
 fits c = let s = c .before .before .before .before .before .before .before .before in last-fits (s .args .g) (s .args .out .now) (c .pass-to .last .0) (s .args .parts .now) (c .pass-to .last .1 .0) (c .pass-to .result) (passing c) (s .pre .1)
 
--- src/lib.rt:324:24
 sub-end-course : tie.Need-sub-end-course
 sub-end-course c = omega (arith, fits (c .before .before .before .before) .0)
 
--- src/lib.rt:324:24
 part-end-course-start : tie.Need-part-end-course-start
 part-end-course-start c = omega (arith, fits (c .before .before .before .before) .0)
 
--- src/lib.rt:324:24
 part-end-course-end : tie.Need-part-end-course-end
 part-end-course-end c = search needs
 
--- src/lib.rt:324:9
 end-course-requires : tie.Need-end-course-requires
 end-course-requires c κs =
     let a = c .before .before .before .before .before .before in
@@ -59,17 +54,14 @@ end-course-requires c κs =
       ((omega (arith, p .there), p .low, p .ahead-low), (p .sums, omega (arith, part-length (r .count) (a .pass-to .last .0), fits a))),
     )
 
--- src/lib.rt:334:16
 add-t19 : tie.Need-add-t19
 add-t19 c =
     let a = c .before .before .before .before .before .before .before .before .before in
     omega (arith, fits a, c .before .before .end-course .ensures .0, a .before .before .before .before .before .before .before .before .good .0)
 
--- src/lib.rt:311:1
 same-length : tie.Need-same-length
 same-length c = search needs
 
--- src/lib.rt:311:1
 returns : tie.Need-returns
 returns c =
     let e = c .before .before in

@@ -20,40 +20,32 @@ fits c =
     let s = c .before .before .before .before in
     rest-fits (s .args .u) (s .args .first) (take (s .args .n) (s .args .acts)) (s .args .out .now) (c .follow-on .last .0) (s .args .parts .now) (c .follow-on .last .1 .0) (c .follow-on .result) (c .follow-on .ensures) (s .pre .1 .1)
 
--- src/lib.rt:364:9
 follow-on-requires : tie.Need-follow-on-requires
 follow-on-requires c κs = search needs
 
--- src/lib.rt:367:21
 sub-end-day : tie.Need-sub-end-day
 sub-end-day c = omega (arith, fits (c .before .before .before) .0)
 
--- src/lib.rt:367:21
 part-end-day-start : tie.Need-part-end-day-start
 part-end-day-start c = omega (arith, fits (c .before .before .before) .0)
 
--- src/lib.rt:367:21
 part-end-day-end : tie.Need-part-end-day-end
 part-end-day-end c = search needs
 
--- src/lib.rt:367:9
 end-day-requires : tie.Need-end-day-requires
 end-day-requires c κs =
     let a = c .before .before .before .before .before in
     let f = a .follow-on .ensures in
     ((record { short = f .on .watching .short; low = f .on .low }, f .within, f .summed), omega (arith, fits a .0, part-length (a .follow-on .result .count) (a .follow-on .last .0)))
 
--- src/lib.rt:373:16
 add-t17 : tie.Need-add-t17
 add-t17 c =
     let a = c .before .before .before .before .before .before .before .before .before .before .before in
     omega (arith, fits a, c .before .before .before .before .before .end-day .ensures .count, a .before .before .before .before .good .0)
 
--- src/lib.rt:351:1
 same-length : tie.Need-same-length
 same-length c = search needs
 
--- src/lib.rt:351:1
 returns : tie.Need-returns
 returns c =
     let a = c .before .before .before .before .before .before .before .before .before .before .before in

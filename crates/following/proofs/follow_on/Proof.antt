@@ -94,11 +94,9 @@ room c =
     has-room (s .args .t3) (c .before .before .before .set-out .result .now) (take (s .args .n) (s .args .t5)) (act c ∷ left c) (s .args .out .now) (l .out) (s .args .parts .now) (l .parts) (under (l .g) (l .l)) (l .fates) (l .count) (l .i)
     (enough (c .before .before .before)) (here c)
 
--- src/lib.rt:266:9
 set-out-requires : tie.Need-set-out-requires Inv-loop μ-loop
 set-out-requires c κs = search needs
 
--- src/lib.rt:270:5
 loop-holds : tie.Need-loop-holds Inv-loop μ-loop
 unfolding filled
 loop-holds c =
@@ -109,37 +107,29 @@ loop-holds c =
           (a .set-out .ensures ∙ ap (setOut (s .args .t3)) (first-is a)) refl (rw (first-is a) at (s .pre .0 .1)) (rw (first-is a) at (s .pre .1 .0 .0)) (rw (first-is a) at (s .pre .1 .0 .1)),
     )
 
--- src/lib.rt:271:17
 mul-o : tie.Need-mul-o Inv-loop μ-loop
 mul-o c = omega arith
 
--- src/lib.rt:271:17
 array-copy-out-o : tie.Need-array-copy-out-o Inv-loop μ-loop
 array-copy-out-o c = omega arith
 
--- src/lib.rt:273:9
 add-i : tie.Need-add-i Inv-loop μ-loop
 add-i c = omega arith
 
--- src/lib.rt:277:13
 acting-second-requires : tie.Need-acting-second-requires Inv-loop μ-loop
 acting-second-requires c κs =
     let k = c .before .before .before in
     omega (arith, ordered-end (acting (act k)) (left k) (here k .ordered .1))
 
--- src/lib.rt:279:25
 sub-pass-to : tie.Need-sub-pass-to Inv-loop μ-loop
 sub-pass-to c = room (c .before .before .before .before) .0
 
--- src/lib.rt:279:25
 part-pass-to-start : tie.Need-part-pass-to-start Inv-loop μ-loop
 part-pass-to-start c = omega (arith, room (c .before .before .before .before) .0)
 
--- src/lib.rt:279:25
 part-pass-to-end : tie.Need-part-pass-to-end Inv-loop μ-loop
 part-pass-to-end c = search needs
 
--- src/lib.rt:279:13
 pass-to-requires : tie.Need-pass-to-requires Inv-loop μ-loop
 pass-to-requires c κs =
     let k = c .before .before .before .before .before .before in
@@ -210,7 +200,6 @@ state-is c =
     let p = passing c in
     watching-at u (g .now) (g .up) (c .pass-to .result .ahead) (c .pass-to .result .later) (acting (act k)) (p .watched u (g .now .off) (here k .on .lists) (here k .on .watching) .1) (p .there)
 
--- src/lib.rt:280:9
 -- with effect
 new-one : (c : tie.Else1 Inv-loop μ-loop) →
     let k = c .before .before .before .before .before .before .before .before .before .before .before .before .before .before in
@@ -221,26 +210,21 @@ new-one c =
     let o = act k in
     sym (c .before .stays-idle .ensures ∙ ap (λ (x : State). idle (o .instruction .meaning .effect) (o .instruction .level) (x .level) (k .before .loop .g .now .maximised)) (state-is a)) ∙ c .if1 .left
 
--- src/lib.rt:280:9
 add-count : tie.Need-add-count Inv-loop μ-loop
 add-count c =
     let a = c .before .before .before in
     let r = past-room a in
     omega (arith, r .0, r .1, a .before .before .before .before .before .before .before .before .before .before .before .before .good .0)
 
--- src/lib.rt:283:12
 stays-idle-requires : tie.Need-stays-idle-requires Inv-loop μ-loop
 stays-idle-requires c κs = search needs
 
--- src/lib.rt:284:13
 array-write-fates : tie.Need-array-write-fates Inv-loop μ-loop
 array-write-fates c = let k = c .before .before .before .before .before .before .before .before .before .before .before .before .before .before in omega (arith, k .before .before .before .before .before .pre .0 .0)
 
--- src/lib.rt:270:5
 loop-less : tie.Need-loop-less Inv-loop μ-loop
 loop-less c = omega arith
 
--- src/lib.rt:270:5
 loop-again : tie.Need-loop-again Inv-loop μ-loop
 loop-again c =
     let a = c .before .before .before .before .before .before .before in
@@ -254,19 +238,15 @@ loop-again c =
           (enough (k .before .before .before)) (past a) (omega (arith, s .pre .0 .0)) (sym idles ∙ c .if1 .taken),
     )
 
--- src/lib.rt:288:32
 sub-end-course : tie.Need-sub-end-course Inv-loop μ-loop
 sub-end-course c = past-room (c .before .before .before .before .before .before .before) .0
 
--- src/lib.rt:288:32
 part-end-course-start : tie.Need-part-end-course-start Inv-loop μ-loop
 part-end-course-start c = omega (arith, past-room (c .before .before .before .before .before .before .before) .0)
 
--- src/lib.rt:288:32
 part-end-course-end : tie.Need-part-end-course-end Inv-loop μ-loop
 part-end-course-end c = search needs
 
--- src/lib.rt:288:17
 end-course-requires : tie.Need-end-course-requires Inv-loop μ-loop
 end-course-requires c κs =
     let a = c .before .before .before .before .before .before .before .before .before in
@@ -318,7 +298,6 @@ later c g out-is =
     sofar-new (s .args .t3) (k .before .before .before .set-out .result .now) (take (s .args .n) (s .args .t5)) (s .args .out .now) (s .args .parts .now) (act k) (left k) _ _ _ (l .fates) _ (l .i)
     (enough (k .before .before .before)) (past a) (new-one (c .before .before .before)) (r .ahead) (p .there) (p .runs) (omega (arith, going k, s .pre .0 .0)) _ _ _ g out-is (e .0) (e .1) on (e .3)
 
--- src/lib.rt:289:13
 add-count-2 : tie.Need-add-count-2 Inv-loop μ-loop
 add-count-2 c =
     let a = c .before .before .before .before .before .before .before .before .before .before .before .before in
@@ -329,13 +308,11 @@ add-count-2 c =
     let r = has-room (s .args .t3) (k .before .before .before .set-out .result .now) (take (s .args .n) (s .args .t5)) (left k) (s .args .out .now) _ (s .args .parts .now) _ _ _ _ _ (enough (k .before .before .before)) w in
     omega (arith, r .0, r .1, s .good .0)
 
--- src/lib.rt:294:17
 begin-next-requires : tie.Need-begin-next-requires Inv-loop μ-loop
 begin-next-requires c κs =
     let k = c .before .before .before .before .before .before .before .before .before .before .before .before .before .before .before .before .before .before .before in
     omega (arith, ordered-end (acting (act k)) (left k) (here k .ordered .1))
 
--- src/lib.rt:295:13
 array-write-fates-2 : tie.Need-array-write-fates-2 Inv-loop μ-loop
 array-write-fates-2 c =
     let k = c .before .before .before .before .before .before .before .before .before .before .before .before .before .before .before .before .before .before .before .before in
@@ -362,13 +339,11 @@ begin-at-requires c κs = search needs
 off-starting-requires : tie.Need-off-starting-requires Inv-loop μ-loop
 off-starting-requires c κs = search needs
 
--- src/lib.rt:270:5
 loop-less-2 : tie.Need-loop-less-2 Inv-loop μ-loop
 loop-less-2 c =
     let k = c .before .before .before .before .before .before .before .before .before .before .before .before .before .before .before .before .before .before .before .before .before .before .before .before .before .before .before .before .before in
     omega (arith, going k)
 
--- src/lib.rt:270:5
 loop-again-2 : tie.Need-loop-again-2 Inv-loop μ-loop
 unfolding columnFor
 loop-again-2 c =
@@ -388,7 +363,6 @@ loop-again-2 c =
     let is = again ∙ ap (setOut u) (b .ensures ∙ ap (begun u (l .g .now) (act k)) (state-is a)) in
     (omega (arith, going k), later e _ is)
 
--- src/lib.rt:253:1
 same-length : tie.Need-same-length Inv-loop μ-loop
 same-length c =
     let s = c .before .before .before .before .before in
@@ -396,7 +370,6 @@ same-length c =
     has-room (s .args .t3) (c .before .before .before .set-out .result .now) (take (s .args .n) (s .args .t5)) (drop (l .i) (take (s .args .n) (s .args .t5))) (s .args .out .now) (l .out) (s .args .parts .now) (l .parts) (under (l .g) (l .l)) (l .fates) (l .count) (l .i)
     (enough (c .before .before .before)) (l .inv .1) .1
 
--- src/lib.rt:253:1
 returns : tie.Need-returns Inv-loop μ-loop
 returns c =
     let s = c .before .before .before .before .before in

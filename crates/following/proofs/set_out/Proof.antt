@@ -11,23 +11,18 @@ use Rattle.trajectory.proofs.begin_at.Reads as begin-at-reads
 use Rattle.trajectory.proofs.is_rising.Reads as is-rising-reads
 use Rattle.rates.proofs.own_lists.Reads as own-lists-reads
 
--- src/lib.rt:231:9
 is-rising-requires : tie.Need-is-rising-requires
 is-rising-requires c κs = search needs
 
--- src/lib.rt:232:9
 own-lists-requires : tie.Need-own-lists-requires
 own-lists-requires c κs = search needs
 
--- src/lib.rt:233:9
 begin-at-requires : tie.Need-begin-at-requires
 begin-at-requires c κs = search needs
 
--- src/lib.rt:234:9
 off-starting-requires : tie.Need-off-starting-requires
 off-starting-requires c κs = search needs
 
--- src/lib.rt:227:1
 returns : tie.Need-returns
 unfolding setOut
 returns c =

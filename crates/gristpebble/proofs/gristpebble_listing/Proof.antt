@@ -10,46 +10,36 @@ use Rattle.onepass.proofs.list_open.Reads as list-open-reads
 use Rattle.gristpebble.proofs.list_run.Reads as list-run-reads
 use Rattle.intake.proofs.open_day.Reads as open-day-reads
 
--- src/lib.rt:102:9
 list-run-requires : tie.Need-list-run-requires
 list-run-requires c κs = search needs
 
--- src/lib.rt:102:9
 same-length : tie.Need-same-length
 same-length c = search needs
 
--- src/lib.rt:102:9
 returns : tie.Need-returns
 returns c = search needs
 
--- src/lib.rt:104:9
 open-day-requires : tie.Need-open-day-requires
 open-day-requires c κs = search needs
 
--- src/lib.rt:106:9
 list-run-requires-2 : tie.Need-list-run-requires-2
 list-run-requires-2 c κs = search needs
 
--- src/lib.rt:106:9
 same-length-2 : tie.Need-same-length-2
 same-length-2 c = search needs
 
--- src/lib.rt:106:9
 returns-2 : tie.Need-returns-2
 returns-2 c = search needs
 
--- src/lib.rt:111:9
 list-open-requires : tie.Need-list-open-requires
 list-open-requires c κs =
     let a = c .before .before .before .before .before .before in
     let e = a .open-day .ensures (not-false (a .open-day .result .fits) (c .before .before .before .before .if2 .left)) in
     (e .1, omega (arith, listed-fits (a .before .before .before .before .args .input .now) (a .open-day .result) (e .0), c .before .before .before .before .before .before .before .if1 .left))
 
--- src/lib.rt:97:1
 same-length-3 : tie.Need-same-length-3
 same-length-3 c = search needs
 
--- src/lib.rt:97:1
 returns-3 : tie.Need-returns-3
 returns-3 c =
     let a = c .before .before .before .before .before .before .before .before .before in

@@ -8,35 +8,27 @@ use Rattle.gristpebble.proofs.list_day.Lts as lts
 use Rattle.gristpebble.proofs.refusal_result.Reads as refusal-result-reads
 use Rattle.printing.proofs.list.Reads as list-reads
 
--- src/lib.rt:69:9
 list-requires : tie.Need-list-requires
 list-requires c κs = search needs
 
--- src/lib.rt:72:29
 enum-told : tie.Need-enum-told
 enum-told c = search needs
 
--- src/lib.rt:73:25
 enum-known-a : tie.Need-enum-known-a
 enum-known-a c = search needs
 
--- src/lib.rt:73:31
 refusal-result-requires : tie.Need-refusal-result-requires
 refusal-result-requires c κs = search needs
 
--- src/lib.rt:66:1
 same-length : tie.Need-same-length
 same-length c = search needs
 
--- src/lib.rt:66:1
 returns : tie.Need-returns
 returns c = (list-accepted _ _ (c .before .before .before .before .list .result) (c .before .before .before .before .list .ensures .0) (c .enum-told .given .1), c .before .before .before .before .list .ensures .1)
 
--- src/lib.rt:66:1
 same-length-2 : tie.Need-same-length-2
 same-length-2 c = search needs
 
--- src/lib.rt:66:1
 returns-2 : tie.Need-returns-2
 returns-2 c =
     (c .refusal-result .ensures ∙ list-refused _ _ (c .before .before .before .before .before .before .list .result) (c .before .before .before .before .before .before .list .ensures .0) (c .before .before .a .given .1), c .before .before .before .before .before .before .list .ensures .1)

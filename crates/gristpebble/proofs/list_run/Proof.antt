@@ -9,37 +9,29 @@ use Rattle.gristpebble.proofs.list_day.Reads as list-day-reads
 use Rattle.gristpebble.proofs.refusal_result.Reads as refusal-result-reads
 use Rattle.running.proofs.run.Reads as run-reads
 
--- src/lib.rt:81:9
 run-requires : tie.Need-run-requires
 run-requires c κs = search needs
 
--- src/lib.rt:85:43
 enum-told : tie.Need-enum-told
 enum-told c = search needs
 
--- src/lib.rt:85:29
 list-day-requires : tie.Need-list-day-requires
 list-day-requires c κs = search needs
 
--- src/lib.rt:86:25
 enum-known-a : tie.Need-enum-known-a
 enum-known-a c = search needs
 
--- src/lib.rt:86:31
 refusal-result-requires : tie.Need-refusal-result-requires
 refusal-result-requires c κs = search needs
 
--- src/lib.rt:78:1
 same-length : tie.Need-same-length
 same-length c = search needs
 
--- src/lib.rt:78:1
 returns : tie.Need-returns
 returns c =
     let e = run-listed _ _ (c .before .before .before .before .before .before .before .run .result) (c .before .before .before .before .before .before .before .run .ensures) (c .before .before .before .before .enum-told .given .1) in
     (c .before .before .list-day .ensures .0 ∙ e .0, c .before .before .list-day .ensures .1 ∙ e .1)
 
--- src/lib.rt:78:1
 returns-2 : tie.Need-returns-2
 returns-2 c =
     let e = run-refused _ _ (c .before .before .before .before .before .run .result) (c .before .before .before .before .before .run .ensures) (c .before .before .a .given .1) in

@@ -6,19 +6,15 @@ use Rattle.gristpebble.proofs.refusal_result.Reads as reads
 use Rattle.gristpebble.proofs.refusal_result.Lts as lts
 use Rattle.records.proofs.refusal_number.Reads as refusal-number-reads
 
--- src/lib.rt:52:9
 refusal-number-requires : tie.Need-refusal-number-requires
 refusal-number-requires c κs = search needs
 
--- src/lib.rt:53:6
 cast-result : tie.Need-cast-result
 cast-result c = search needs
 
--- src/lib.rt:53:5
 mul-result : tie.Need-mul-result
 mul-result c = omega arith
 
--- src/lib.rt:49:1
 returns : tie.Need-returns
 returns c = omega arith
 

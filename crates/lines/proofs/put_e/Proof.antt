@@ -9,21 +9,17 @@ use Rattle.lines.proofs.put_e.Reads as reads
 use Rattle.lines.proofs.put_e.Lts as lts
 use Rattle.text.proofs.put_line.Reads as put-line-reads
 
--- src/lib.rt:90:25
 slice-aggregate-put-line : tie.Need-slice-aggregate-put-line
 slice-aggregate-put-line c = search needs
 
--- src/lib.rt:90:5
 put-line-requires : tie.Need-put-line-requires
 put-line-requires c κs =
     let a = c .before .before .before .args in
     rw line-four (omega (arith, e-length (a .level) (a .target) (a .heat) (a .off)))
 
--- src/lib.rt:85:1
 same-length : tie.Need-same-length
 same-length c = search needs
 
--- src/lib.rt:85:1
 returns : tie.Need-returns
 unfolding eLine
 returns c = c .before .before .put-line .ensures

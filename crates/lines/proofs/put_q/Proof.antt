@@ -9,21 +9,17 @@ use Rattle.lines.proofs.put_q.Reads as reads
 use Rattle.lines.proofs.put_q.Lts as lts
 use Rattle.text.proofs.put_line.Reads as put-line-reads
 
--- src/lib.rt:81:25
 slice-aggregate-put-line : tie.Need-slice-aggregate-put-line
 slice-aggregate-put-line c = search needs
 
--- src/lib.rt:81:5
 put-line-requires : tie.Need-put-line-requires
 put-line-requires c κs =
     let a = c .before .before .before .args in
     rw line-three (omega (arith, q-length (a .first) (a .last) (a .kw)))
 
--- src/lib.rt:76:1
 same-length : tie.Need-same-length
 same-length c = search needs
 
--- src/lib.rt:76:1
 returns : tie.Need-returns
 unfolding qLine
 returns c = c .before .before .put-line .ensures

@@ -46,31 +46,24 @@ middle c = coursesLines (c .before .before .before .before .before .args .u) (co
 front : (c : tie.After-fates-room) → c .fates-room .result + length (middle c) ≤ length (c .before .before .before .before .before .args .out .now)
 front c = omega (arith, prepared c .front (c .fates-room .result) (c .fates-room .ensures), c .before .before .before .before .before .pre .1)
 
--- src/lib.rt:412:9
 validated-requires : tie.Need-validated-requires
 validated-requires c κs = search needs
 
--- src/lib.rt:414:9
 open-course-requires : tie.Need-open-course-requires
 open-course-requires c κs = search needs
 
--- src/lib.rt:415:9
 fates-room-requires : tie.Need-fates-room-requires
 fates-room-requires c κs = search needs
 
--- src/lib.rt:417:24
 sub-follow-day : tie.Need-sub-follow-day
 sub-follow-day c = omega (arith, front c)
 
--- src/lib.rt:417:24
 part-follow-day-start : tie.Need-part-follow-day-start
 part-follow-day-start c = omega (arith, front c)
 
--- src/lib.rt:417:24
 part-follow-day-end : tie.Need-part-follow-day-end
 part-follow-day-end c = search needs
 
--- src/lib.rt:417:9
 follow-day-requires : tie.Need-follow-day-requires
 follow-day-requires c κs =
     let a = c .before .before in
@@ -78,7 +71,6 @@ follow-day-requires c κs =
     let s = a .before .before .before .before .before in
     ((p .few-acts, p .in-order), (((refl, omega (arith, p .begins, first-zeros 49 49)), p .starts), omega (arith, front a, part-length (a .fates-room .result) (s .args .out .now))))
 
--- src/lib.rt:424:9
 lay-fates-requires : tie.Need-lay-fates-requires
 lay-fates-requires c κs =
     let a = c .before .before .before .before .before .before .before in
@@ -94,7 +86,6 @@ fates-wide c =
     ap (λ (x : Fates). length (fateLines (a .before .before .before .before .before .args .count) (x .fates))) (c .lay-fates .ensures)
     ∙ prepared a .wide (c .before .before .before .before .before .follow-day .result .fates) (c .before .before .before .before .before .follow-day .ensures .fates) (a .fates-room .result) (a .fates-room .ensures)
 
--- src/lib.rt:426:9
 put-fates-requires : tie.Need-put-fates-requires
 put-fates-requires c κs =
     let l = c .before .before in
@@ -163,23 +154,18 @@ room c =
     second-room (listingOf (s .args .u) (s .args .o) (s .args .instructions) (s .args .count)) (fates l ++ middle a) (endLines (d .follow-day .last .1 .0) (d .follow-day .result .closing)) (s .args .out .now) (s .pre .1) (in-three c)
     (c .put-fates .last .0) (c .put-fates .result + d .follow-day .result .count) (two-wide c) (two-laid c)
 
--- src/lib.rt:427:14
 add-at : tie.Need-add-at
 add-at c = omega (arith, room (c .before .before .before), c .before .before .before .before .before .before .before .before .before .before .before .before .before .before .before .before .before .before .before .good .0)
 
--- src/lib.rt:429:21
 sub-put-end : tie.Need-sub-put-end
 sub-put-end c = omega (arith, room (c .before .before .before .before))
 
--- src/lib.rt:429:21
 part-put-end-start : tie.Need-part-put-end-start
 part-put-end-start c = omega (arith, room (c .before .before .before .before))
 
--- src/lib.rt:429:21
 part-put-end-end : tie.Need-part-put-end-end
 part-put-end-end c = search needs
 
--- src/lib.rt:429:9
 put-end-requires : tie.Need-put-end-requires
 put-end-requires c κs =
     let a = c .before .before .before .before .before .before in
@@ -187,17 +173,14 @@ put-end-requires c κs =
     let n = a .put-fates .result + d .follow-day .result .count in
     (omega (arith, d .follow-day .ensures .summed .1), omega (arith, part-length n (a .put-fates .last .0), room a))
 
--- src/lib.rt:430:5
 add-result : tie.Need-add-result
 add-result c =
     let a = c .before .before .before .before .before .before .before .before .before in
     omega (arith, room a, c .before .before .put-end .ensures .0, a .before .before .before .before .before .before .before .before .before .before .before .before .before .before .before .before .good .0)
 
--- src/lib.rt:402:1
 same-length : tie.Need-same-length
 same-length c = search needs
 
--- src/lib.rt:402:1
 returns : tie.Need-returns
 returns c =
     let a = c .before .before .before .before .before .before .before .before .before in

@@ -18,58 +18,47 @@ Inv-loop parts twice kw from i₀ i = (from ≤ i) × (i ≤ 48) × (runEnd (par
 abbrev μ-loop : tie.MeasureT-loop
 μ-loop parts twice kw from i₀ i = 48 - i
 
--- src/lib.rt:404:5
 loop-holds : tie.Need-loop-holds Inv-loop μ-loop
 loop-holds c = (omega arith, omega (arith, c .pre .0), refl)
 
--- src/lib.rt:406:9
 add-i : tie.Need-add-i Inv-loop μ-loop
 add-i c = omega arith
 
--- src/lib.rt:407:17
 mul-x : tie.Need-mul-x Inv-loop μ-loop
 mul-x c = omega arith
 
--- src/lib.rt:407:17
 element-copy-out-x : tie.Need-element-copy-out-x Inv-loop μ-loop
 element-copy-out-x c = omega arith
 
--- src/lib.rt:404:5
 loop-less : tie.Need-loop-less Inv-loop μ-loop
 loop-less c = omega arith
 
--- src/lib.rt:404:5
 loop-again : tie.Need-loop-again Inv-loop μ-loop
 loop-again c =
     let s = c .before .before .before .before in
     let l = c .before .before .before .loop in
     (omega arith, omega arith, part-on (s .args .parts .now) (s .args .kw) (l .i) (omega arith) (ap rounded (c .if1 .taken) ∙ sym (s .pre .1)) ∙ l .inv .2)
 
--- src/lib.rt:411:12
 part-kw-requires : tie.Need-part-kw-requires Inv-loop μ-loop
 part-kw-requires c κs =
     let s = c .before .before .before .before in
     part-low (s .args .parts .now) (c .before .before .before .loop .i) (omega arith) (s .pre .2)
 
--- src/lib.rt:412:13
 returns : tie.Need-returns Inv-loop μ-loop
 returns c =
     let s = c .before .before .before .before .before .before in
     let l = c .before .before .before .before .before .loop in
     (part-ends (s .args .parts .now) (s .args .kw) (l .i) (omega arith) (λ e. omega (arith, c .before .part-kw .ensures)) ∙ l .inv .2, l .inv .0, l .inv .1)
 
--- src/lib.rt:404:5
 loop-less-2 : tie.Need-loop-less-2 Inv-loop μ-loop
 loop-less-2 c = omega arith
 
--- src/lib.rt:404:5
 loop-again-2 : tie.Need-loop-again-2 Inv-loop μ-loop
 loop-again-2 c =
     let s = c .before .before .before .before .before .before in
     let l = c .before .before .before .before .before .loop in
     (omega arith, omega arith, part-on (s .args .parts .now) (s .args .kw) (l .i) (omega arith) (omega (arith, c .before .part-kw .ensures)) ∙ l .inv .2)
 
--- src/lib.rt:399:1
 returns-2 : tie.Need-returns-2 Inv-loop μ-loop
 returns-2 c =
     let s = c .before .before in

@@ -6,11 +6,9 @@ use Rattle.onepass.proofs.part_kw.Tie as tie
 use Rattle.onepass.proofs.part_kw.Reads as reads
 use Rattle.onepass.proofs.part_kw.Lts as lts
 
--- src/lib.rt:394:6
 add-result : tie.Need-add-result
 add-result c = search needs
 
--- src/lib.rt:390:1
 returns : tie.Need-returns
 unfolding rounded
 returns c = refl

@@ -25,41 +25,33 @@ room c =
     second-room (endLines (s .args .parts .now) (s .args .closing)) (partLines (s .args .parts .now)) (closingLine (s .args .closing)) (s .args .out .now) (s .pre .1) (end-lines (s .args .parts .now) (s .args .closing))
     (p .last .0) (p .result) (p .ensures .0) (p .ensures .1)
 
--- src/lib.rt:443:9
 put-parts-requires : tie.Need-put-parts-requires
 put-parts-requires c κs =
     let s = c .before .before in
     (s .pre .0, first-room (endLines (s .args .parts .now) (s .args .closing)) (partLines (s .args .parts .now)) (closingLine (s .args .closing)) (s .args .out .now) (s .pre .1) (end-lines (s .args .parts .now) (s .args .closing)))
 
--- src/lib.rt:444:35
 sub-put-closing : tie.Need-sub-put-closing
 sub-put-closing c = omega (arith, room (c .before .before))
 
--- src/lib.rt:444:35
 part-put-closing-start : tie.Need-part-put-closing-start
 part-put-closing-start c = omega (arith, room (c .before .before))
 
--- src/lib.rt:444:35
 part-put-closing-end : tie.Need-part-put-closing-end
 part-put-closing-end c = search needs
 
--- src/lib.rt:444:9
 put-closing-requires : tie.Need-put-closing-requires
 put-closing-requires c κs =
     let p = c .before .before .before .put-parts in
     omega (arith, part-length (p .result) (p .last .0), room (c .before .before .before))
 
--- src/lib.rt:445:5
 add-result : tie.Need-add-result
 add-result c =
     let a = c .before .before .before .before .before .before in
     omega (arith, room a, c .before .before .put-closing .ensures .0, a .before .before .before .good .0)
 
--- src/lib.rt:438:1
 same-length : tie.Need-same-length
 same-length c = search needs
 
--- src/lib.rt:438:1
 returns : tie.Need-returns
 returns c =
     let a = c .before .before .before .before .before .before in

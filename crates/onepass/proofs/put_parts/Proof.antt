@@ -49,57 +49,44 @@ room c =
     let end = c .part-end .result in
     lay-next (left 0) (left (l .i)) (qLine (l .i + 1) end (c .before .part-kw .result)) (left end) (a .out .now) (l .out) (l .at) (fits (c .before .before .before .before)) (next c) (l .inv .1)
 
--- src/lib.rt:425:5
 loop-holds : tie.Need-loop-holds Inv-loop μ-loop
 loop-holds c = (omega arith, lay-none (quantities-left (partAt (c .before .args .parts .now)) 0) (c .before .args .out .now))
 
--- src/lib.rt:426:21
 add-first : tie.Need-add-first Inv-loop μ-loop
 add-first c = omega arith
 
--- src/lib.rt:427:21
 mul-twice : tie.Need-mul-twice Inv-loop μ-loop
 mul-twice c = omega arith
 
--- src/lib.rt:427:21
 element-copy-out-twice : tie.Need-element-copy-out-twice Inv-loop μ-loop
 element-copy-out-twice c = omega arith
 
--- src/lib.rt:428:13
 part-kw-requires : tie.Need-part-kw-requires Inv-loop μ-loop
 part-kw-requires c κs = let s = c .before .before .before .before in part-low (s .args .parts .now) (c .before .before .loop .i) (omega arith) (s .pre .0)
 
--- src/lib.rt:429:13
 part-end-requires : tie.Need-part-end-requires Inv-loop μ-loop
 part-end-requires c κs = (omega arith, c .part-kw .ensures, c .before .before .before .before .before .pre .0)
 
--- src/lib.rt:430:30
 sub-put-q : tie.Need-sub-put-q Inv-loop μ-loop
 sub-put-q c = omega (arith, room c)
 
--- src/lib.rt:430:30
 part-put-q-start : tie.Need-part-put-q-start Inv-loop μ-loop
 part-put-q-start c = omega (arith, room c)
 
--- src/lib.rt:430:30
 part-put-q-end : tie.Need-part-put-q-end Inv-loop μ-loop
 part-put-q-end c = search needs
 
--- src/lib.rt:430:13
 put-q-requires : tie.Need-put-q-requires Inv-loop μ-loop
 put-q-requires c κs =
     let l = c .before .before .before .before .before .loop in
     omega (arith, part-length (l .at) (l .out), room (c .before))
 
--- src/lib.rt:431:9
 add-at : tie.Need-add-at Inv-loop μ-loop
 add-at c = let w = c .before .before .before .before in omega (arith, room w, c .before .before .put-q .ensures .0, w .before .before .before .before .before .before .good .0)
 
--- src/lib.rt:425:5
 loop-less : tie.Need-loop-less Inv-loop μ-loop
 loop-less c = let e = c .before .before .before .before .part-end .ensures in omega (arith, e .1, e .2)
 
--- src/lib.rt:425:5
 loop-again : tie.Need-loop-again Inv-loop μ-loop
 loop-again c =
     let w = c .before .before .before .before in
@@ -113,7 +100,6 @@ loop-again c =
           (fits (w .before .before .before .before)) (next w) (l .inv .1) (p .ensures .0) (p .ensures .1),
     )
 
--- src/lib.rt:419:1
 same-length : tie.Need-same-length Inv-loop μ-loop
 same-length c =
     let a = c .before .before .before .args in
@@ -121,7 +107,6 @@ same-length c =
     let left = quantities-left (partAt (a .parts .now)) in
     lay-room (left 0) (left (l .i)) (a .out .now) (l .out) (l .at) (fits (c .before)) (l .inv .1) .1
 
--- src/lib.rt:419:1
 returns : tie.Need-returns Inv-loop μ-loop
 returns c =
     let a = c .before .before .before .args in

@@ -7,21 +7,17 @@ use Rattle.onepass.proofs.validated.Lts as lts
 use Rattle.choosing.proofs.no_one.Reads as no-one-reads
 use Rattle.keeping.proofs.validate.Reads as validate-reads
 
--- src/lib.rt:454:13
 no-one-requires : tie.Need-no-one-requires
 no-one-requires c κs = search needs
 
--- src/lib.rt:457:9
 returns : tie.Need-returns
 returns c =
     let a = c .before .before .args in
     rw (c .no-one .ensures) (none-entered (a .instructions) (a .count) 86400 (c .before .if1 .taken))
 
--- src/lib.rt:463:5
 validate-requires : tie.Need-validate-requires
 validate-requires c κs = search needs
 
--- src/lib.rt:450:1
 returns-2 : tie.Need-returns-2
 returns-2 c = search needs
 

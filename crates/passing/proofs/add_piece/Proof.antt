@@ -13,31 +13,24 @@ use Rattle.passing.proofs.add_piece.Lts as lts
 use Rattle.passing.proofs.add_line.Reads as add-line-reads
 use Rattle.stops.proofs.gap_between.Reads as gap-between-reads
 
--- src/lib.rt:46:16
 add-half : tie.Need-add-half
 add-half c = search needs
 
--- src/lib.rt:47:17
 sub-time : tie.Need-sub-time
 sub-time c = search needs
 
--- src/lib.rt:47:16
 cast-time : tie.Need-cast-time
 cast-time c = search needs
 
--- src/lib.rt:48:8
 mul-if1 : tie.Need-mul-if1
 mul-if1 c = search needs
 
--- src/lib.rt:49:13
 gap-between-requires : tie.Need-gap-between-requires
 gap-between-requires c κs = search needs
 
--- src/lib.rt:50:38
 div-add-line : tie.Need-div-add-line
 div-add-line c = search needs
 
--- src/lib.rt:50:9
 add-line-requires : tie.Need-add-line-requires
 add-line-requires c κs = let s = c .before .before .before .before .before .before .before in
     let h = headed (s .args .up) in
@@ -52,7 +45,6 @@ add-line-requires c κs = let s = c .before .before .before .before .before .bef
       s .pre .1 .1,
     )
 
--- src/lib.rt:51:9
 returns : tie.Need-returns
 returns c = let s = c .before .before .before .before .before .before .before .before in
     let p = s .args .p in
@@ -61,19 +53,15 @@ returns c = let s = c .before .before .before .before .before .before .before .b
     subst (λ (w : ℕ). AddsLine (headed (s .args .up)) (p .level) (w / d) (p .second) (q .second) (s .args .parts .now) (c .add-line .last .0) × Summed (q .second) (c .add-line .last .0))
     (c .before .before .gap-between .ensures) (c .add-line .ensures)
 
--- src/lib.rt:53:13
 cast-b : tie.Need-cast-b
 cast-b c = search needs
 
--- src/lib.rt:54:16
 mul-parts : tie.Need-mul-parts
 mul-parts c = search needs
 
--- src/lib.rt:54:16
 element-copy-out-parts : tie.Need-element-copy-out-parts
 element-copy-out-parts c = search needs
 
--- src/lib.rt:54:35
 add-parts : tie.Need-add-parts
 add-parts c = search needs
 
@@ -87,23 +75,18 @@ fits c = let s = c .before .before .before .before .before .before .before .befo
     piece-fits (headed (s .args .up)) (s .args .p) (s .args .q) (s .pre .0 .0) (s .pre .0 .1) (s .args .parts .now) (s .pre .1 .0 .0) (s .pre .1 .0 .1) (s .pre .1 .0 .2)
     (omega (arith, c .before .before .before .if1 .left)) (s .pre .1 .1)
 
--- src/lib.rt:54:27
 mul-parts-2 : tie.Need-mul-parts-2
 mul-parts-2 c = let f = fits c in omega (arith, f)
 
--- src/lib.rt:54:16
 add-parts-2 : tie.Need-add-parts-2
 add-parts-2 c = record { fits = fits c }
 
--- src/lib.rt:54:5
 mul-parts-3 : tie.Need-mul-parts-3
 mul-parts-3 c = search needs
 
--- src/lib.rt:54:5
 element-write-parts : tie.Need-element-write-parts
 element-write-parts c = search needs
 
--- src/lib.rt:40:1
 returns-2 : tie.Need-returns-2
 returns-2 c = let s = c .before .before .before .before .before .before .before .before in
     piece-adds (headed (s .args .up)) (s .args .p) (s .args .q) (s .pre .0 .0) (s .pre .0 .1) (s .args .parts .now) (s .pre .1 .0 .0) (s .pre .1 .0 .1) (s .pre .1 .0 .2)

@@ -37,11 +37,9 @@ lay-piece-requires c κs = let s = c .before .before .before .before .before .be
     let e = ap length (last-some (s .args .p) (s .args .q) lt) in
     ((lt, s .pre .0 .0 lt), (s .pre .1 .0, (s .pre .1 .1 .0, omega (arith, e, s .pre .1 .1 .1))))
 
--- src/lib.rt:192:1
 same-length : tie.Need-same-length
 same-length c = search needs
 
--- src/lib.rt:192:1
 returns-2 : tie.Need-returns-2
 returns-2 c = let s = c .before .before .before .before .before .before .before .before .before in
     let r = c .before .before .lay-piece .ensures in

@@ -25,13 +25,11 @@ Inv-loop out₀ parts₀ l c up before n p₀ off₀ count₀ out parts p off co
 abbrev μ-loop : tie.MeasureT-loop
 μ-loop out₀ parts₀ l c up before n p₀ off₀ count₀ out parts p off count = n - p .second
 
--- src/lib.rt:165:5
 loop-holds : tie.Need-loop-holds Inv-loop μ-loop
 loop-holds c = let s = c .before in
     let a = s .args in
     sofar-none (a .l) (a .c) (a .up) (a .from) (a .before) (a .n) (a .out .now) (a .parts .now) (s .pre .0 .0) (s .pre .0 .2) (s .pre .1 .0) (s .pre .1 .1 .0)
 
--- src/lib.rt:166:13
 walk-on-requires : tie.Need-walk-on-requires Inv-loop μ-loop
 walk-on-requires c κs = (c .if1 .taken, c .before .before .loop .inv .short)
 
@@ -59,36 +57,29 @@ room w ends = let s = w .before .before .before .before .before in
     let l = w .before .before .before .loop in
     sofar-room _ _ _ _ _ _ _ _ (s .pre .1 .1 .1) _ _ _ _ _ (l .inv) _ (target w) (w .before .if1 .taken) (w .walk-on .ensures) ends
 
--- src/lib.rt:167:13
 off-between-requires : tie.Need-off-between-requires Inv-loop μ-loop
 off-between-requires c κs = let g = gone c in omega (arith, g .later)
 
--- src/lib.rt:169:13
 same-length : tie.Need-same-length Inv-loop μ-loop
 same-length c = let s = c .before .before .before .before .before .before .before .before in
     let l = c .before .before .before .before .before .before .loop in
     sofar-length _ _ _ _ _ _ _ _ (s .pre .1 .1 .1) _ _ _ _ _ (l .inv) .1
 
--- src/lib.rt:169:13
 returns : tie.Need-returns Inv-loop μ-loop
 returns c = let w = c .before .before .before in
     let s = w .before .before .before .before .before in
     let l = w .before .before .before .loop in
     sofar-cut _ _ _ _ _ _ _ _ (s .pre .1 .1 .1) _ _ _ _ _ (l .inv) _ (target w) (w .before .if1 .taken) (w .walk-on .ensures) _ (c .before .before .off-between .ensures) (c .if2 .taken)
 
--- src/lib.rt:177:27
 sub-lay-piece : tie.Need-sub-lay-piece Inv-loop μ-loop
 sub-lay-piece c = let r = room (c .before .before .before) (omega (arith, c .if2 .left)) in omega (arith, r)
 
--- src/lib.rt:177:27
 part-lay-piece-start : tie.Need-part-lay-piece-start Inv-loop μ-loop
 part-lay-piece-start c = let r = room (c .before .before .before) (omega (arith, c .if2 .left)) in omega (arith, r)
 
--- src/lib.rt:177:27
 part-lay-piece-end : tie.Need-part-lay-piece-end Inv-loop μ-loop
 part-lay-piece-end c = search needs
 
--- src/lib.rt:177:13
 lay-piece-requires : tie.Need-lay-piece-requires Inv-loop μ-loop
 lay-piece-requires c κs = let w = c .before .before .before .before .before in
     let s = w .before .before .before .before .before in
@@ -102,16 +93,13 @@ lay-piece-requires c κs = let w = c .before .before .before .before .before in
       ),
     )
 
--- src/lib.rt:178:9
 add-count : tie.Need-add-count Inv-loop μ-loop
 add-count c = let w = c .before .before .before .before .before .before .before .before in
     omega (arith, room w (omega (arith, c .before .before .before .before .before .if2 .left)), c .before .before .lay-piece .ensures .0)
 
--- src/lib.rt:165:5
 loop-less : tie.Need-loop-less Inv-loop μ-loop
 loop-less c = let g = gone (c .before .before .before .before .before .before .before .before) in omega (arith, g .later, g .within)
 
--- src/lib.rt:165:5
 loop-again : tie.Need-loop-again Inv-loop μ-loop
 loop-again c = let w = c .before .before .before .before .before .before .before .before in
     let s = w .before .before .before .before .before in
@@ -123,13 +111,11 @@ loop-again c = let w = c .before .before .before .before .before .before .before
     sofar-more _ _ _ _ _ _ _ _ (s .pre .1 .1 .1) _ _ _ _ _ (l .inv) _ (target w) (w .before .if1 .taken) (w .walk-on .ensures) _ (c .before .before .before .before .before .before .before .off-between .ensures)
     (omega (arith, c .before .before .before .before .before .if2 .left)) (r .last .0) (r .last .1 .0) (r .result) (r .ensures .0) (r .ensures .1) on (r .ensures .3)
 
--- src/lib.rt:147:1
 same-length-2 : tie.Need-same-length-2 Inv-loop μ-loop
 same-length-2 c = let s = c .before .before .before .before in
     let l = c .before .before .loop in
     sofar-length _ _ _ _ _ _ _ _ (s .pre .1 .1 .1) _ _ _ _ _ (l .inv) .1
 
--- src/lib.rt:147:1
 returns-2 : tie.Need-returns-2 Inv-loop μ-loop
 returns-2 c = let s = c .before .before .before .before in
     let l = c .before .before .loop in

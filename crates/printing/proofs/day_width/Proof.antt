@@ -10,35 +10,27 @@ use Rattle.daylines.proofs.courses_width.Reads as courses-width-reads
 use Rattle.daylines.proofs.fates_width.Reads as fates-width-reads
 use Rattle.daylines.proofs.quantities_width.Reads as quantities-width-reads
 
--- src/lib.rt:271:9
 fates-width-requires : tie.Need-fates-width-requires
 fates-width-requires c κs = search needs
 
--- src/lib.rt:274:9
 courses-width-requires : tie.Need-courses-width-requires
 courses-width-requires c κs = search needs
 
--- src/lib.rt:276:9
 quantities-width-requires : tie.Need-quantities-width-requires
 quantities-width-requires c κs = search needs
 
--- src/lib.rt:278:9
 closing-width-requires : tie.Need-closing-width-requires
 closing-width-requires c κs = search needs
 
--- src/lib.rt:279:5
 add-result : tie.Need-add-result
 add-result c = search needs
 
--- src/lib.rt:279:5
 add-result-2 : tie.Need-add-result-2
 add-result-2 c = search needs
 
--- src/lib.rt:279:5
 add-result-3 : tie.Need-add-result-3
 add-result-3 c = search needs
 
--- src/lib.rt:267:1
 returns : tie.Need-returns
 returns c =
     omega (

@@ -12,45 +12,36 @@ use Rattle.printing.proofs.day_width.Reads as day-width-reads
 use Rattle.printing.proofs.put_day.Reads as put-day-reads
 use Rattle.printing.proofs.refused.Reads as refused-reads
 
--- src/lib.rt:341:9
 refused-requires : tie.Need-refused-requires
 refused-requires c κs = search needs
 
--- src/lib.rt:341:9
 returns : tie.Need-returns
 returns c =
     let s = c .before .before .before .before in
     let a = ask-open (s .args .day) (s .args .out .now) (c .before .if1 .taken) in
     (c .refused .ensures ∙ a .0, a .1)
 
--- src/lib.rt:343:9
 day-width-requires : tie.Need-day-width-requires
 day-width-requires c κs = search needs
 
--- src/lib.rt:345:9
 refused-requires-2 : tie.Need-refused-requires-2
 refused-requires-2 c κs = search needs
 
--- src/lib.rt:345:9
 returns-2 : tie.Need-returns-2
 returns-2 c =
     let s = c .before .before .before .before .before .before in
     let a = ask-short (s .args .day) (s .args .out .now) (c .before .before .before .if1 .left) (omega (arith, c .before .if2 .taken, c .before .before .day-width .ensures)) in
     (c .refused2 .ensures ∙ a .0, a .1)
 
--- src/lib.rt:347:9
 put-day-requires : tie.Need-put-day-requires
 put-day-requires c κs = search needs
 
--- src/lib.rt:348:5
 accepted-requires : tie.Need-accepted-requires
 accepted-requires c κs = search needs
 
--- src/lib.rt:337:1
 same-length : tie.Need-same-length
 same-length c = search needs
 
--- src/lib.rt:337:1
 returns-3 : tie.Need-returns-3
 returns-3 c =
     let s = c .before .before .before .before .before .before .before .before .before .before in

@@ -35,39 +35,31 @@ room c =
     let p = c .before .before .put-fates in
     second-room (printedDay (s .args .day)) (front (s .args .day)) (back (s .args .day)) (s .args .out .now) (s .pre) (from-f (s .args .day)) (p .last .0) (p .result) (p .ensures .0) (p .ensures .1)
 
--- src/lib.rt:312:9
 put-fates-requires : tie.Need-put-fates-requires
 put-fates-requires c κs =
     let s = c .before .before .before in
     first-room (printedDay (s .args .day)) (front (s .args .day)) (back (s .args .day)) (s .args .out .now) (s .pre) (from-f (s .args .day))
 
--- src/lib.rt:313:24
 sub-put-from-s : tie.Need-sub-put-from-s
 sub-put-from-s c = omega (arith, room c)
 
--- src/lib.rt:313:24
 part-put-from-s-start : tie.Need-part-put-from-s-start
 part-put-from-s-start c = omega (arith, room c)
 
--- src/lib.rt:313:24
 part-put-from-s-end : tie.Need-part-put-from-s-end
 part-put-from-s-end c = search needs
 
--- src/lib.rt:313:9
 put-from-s-requires : tie.Need-put-from-s-requires
 put-from-s-requires c κs =
     let p = c .before .before .before .put-fates in
     omega (arith, part-length (p .result) (p .last .0), room (c .before))
 
--- src/lib.rt:314:5
 add-result : tie.Need-add-result
 add-result c = omega (arith, room (c .before .before .before .before), c .before .before .put-from-s .ensures .0)
 
--- src/lib.rt:307:1
 same-length : tie.Need-same-length
 same-length c = search needs
 
--- src/lib.rt:307:1
 returns : tie.Need-returns
 returns c =
     let w = c .before .before .before .before in

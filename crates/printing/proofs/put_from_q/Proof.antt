@@ -34,39 +34,31 @@ room c =
     let p = c .before .before .before .put-quantities in
     second-room (fromQ (s .args .day)) (front (s .args .day)) (back (s .args .day)) (s .args .out .now) (s .pre) (from-q (s .args .day)) (p .last .0) (p .result) (p .ensures .0) (p .ensures .1)
 
--- src/lib.rt:288:9
 put-quantities-requires : tie.Need-put-quantities-requires
 put-quantities-requires c κs =
     let s = c .before .before .before in
     first-room (fromQ (s .args .day)) (front (s .args .day)) (back (s .args .day)) (s .args .out .now) (s .pre) (from-q (s .args .day))
 
--- src/lib.rt:290:25
 sub-put-closing : tie.Need-sub-put-closing
 sub-put-closing c = omega (arith, room c)
 
--- src/lib.rt:290:25
 part-put-closing-start : tie.Need-part-put-closing-start
 part-put-closing-start c = omega (arith, room c)
 
--- src/lib.rt:290:25
 part-put-closing-end : tie.Need-part-put-closing-end
 part-put-closing-end c = search needs
 
--- src/lib.rt:290:9
 put-closing-requires : tie.Need-put-closing-requires
 put-closing-requires c κs =
     let p = c .before .before .before .before .put-quantities in
     omega (arith, part-length (p .result) (p .last .0), room (c .before))
 
--- src/lib.rt:291:5
 add-result : tie.Need-add-result
 add-result c = omega (arith, room (c .before .before .before .before), c .before .before .put-closing .ensures .0)
 
--- src/lib.rt:283:1
 same-length : tie.Need-same-length
 same-length c = search needs
 
--- src/lib.rt:283:1
 returns : tie.Need-returns
 returns c =
     let w = c .before .before .before .before in

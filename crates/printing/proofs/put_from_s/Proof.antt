@@ -34,39 +34,31 @@ room c =
     let p = c .before .before .put-courses in
     second-room (fromS (s .args .day)) (front (s .args .day)) (back (s .args .day)) (s .args .out .now) (s .pre) (from-s (s .args .day)) (p .last .0) (p .result) (p .ensures .0) (p .ensures .1)
 
--- src/lib.rt:301:9
 put-courses-requires : tie.Need-put-courses-requires
 put-courses-requires c κs =
     let s = c .before .before .before .before in
     first-room (fromS (s .args .day)) (front (s .args .day)) (back (s .args .day)) (s .args .out .now) (s .pre) (from-s (s .args .day))
 
--- src/lib.rt:302:24
 sub-put-from-q : tie.Need-sub-put-from-q
 sub-put-from-q c = omega (arith, room c)
 
--- src/lib.rt:302:24
 part-put-from-q-start : tie.Need-part-put-from-q-start
 part-put-from-q-start c = omega (arith, room c)
 
--- src/lib.rt:302:24
 part-put-from-q-end : tie.Need-part-put-from-q-end
 part-put-from-q-end c = search needs
 
--- src/lib.rt:302:9
 put-from-q-requires : tie.Need-put-from-q-requires
 put-from-q-requires c κs =
     let p = c .before .before .before .put-courses in
     omega (arith, part-length (p .result) (p .last .0), room (c .before))
 
--- src/lib.rt:303:5
 add-result : tie.Need-add-result
 add-result c = omega (arith, room (c .before .before .before .before), c .before .before .put-from-q .ensures .0)
 
--- src/lib.rt:295:1
 same-length : tie.Need-same-length
 same-length c = search needs
 
--- src/lib.rt:295:1
 returns : tie.Need-returns
 returns c =
     let w = c .before .before .before .before in

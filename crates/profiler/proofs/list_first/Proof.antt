@@ -8,23 +8,18 @@ use Rattle.profiler.proofs.list_first.Reads as reads
 use Rattle.profiler.proofs.list_first.Lts as lts
 use Rattle.gristpebble.proofs.gristpebble_listing.Reads as gristpebble-listing-reads
 
--- src/main.rt:49:9
 returns : tie.Need-returns
 returns c = search needs
 
--- src/main.rt:51:38
 slice-aggregate-gristpebble-listing : tie.Need-slice-aggregate-gristpebble-listing
 slice-aggregate-gristpebble-listing c = sym (length-take-le _ _ (omega arith))
 
--- src/main.rt:51:5
 gristpebble-listing-requires : tie.Need-gristpebble-listing-requires
 gristpebble-listing-requires c κs = search needs
 
--- src/main.rt:47:1
 same-length : tie.Need-same-length
 same-length c = search needs
 
--- src/main.rt:47:1
 returns-2 : tie.Need-returns-2
 returns-2 c = search needs
 

@@ -16,59 +16,45 @@ Inv-loop buf₀ out₀ n₀ result₀ buf out n result = (length buf ≡ length 
 abbrev μ-loop : tie.MeasureT-loop
 μ-loop buf₀ out₀ n₀ result₀ buf out n result = length buf - n
 
--- src/main.rt:60:5
 loop-holds : tie.Need-loop-holds Inv-loop μ-loop
 loop-holds c = (refl, refl)
 
--- src/main.rt:61:13
 read-on-requires : tie.Need-read-on-requires Inv-loop μ-loop
 read-on-requires c κs = search needs
 
--- src/main.rt:63:13
 same-length : tie.Need-same-length Inv-loop μ-loop
 same-length c = c .before .before .before .read-on .kept .0 ∙ c .before .before .before .before .before .before .loop .inv .0
 
--- src/main.rt:63:13
 same-length-2 : tie.Need-same-length-2 Inv-loop μ-loop
 same-length-2 c = c .before .before .before .before .before .before .loop .inv .1
 
--- src/main.rt:63:13
 returns : tie.Need-returns Inv-loop μ-loop
 returns c = search needs
 
--- src/main.rt:66:9
 list-first-requires : tie.Need-list-first-requires Inv-loop μ-loop
 list-first-requires c κs = search needs
 
--- src/main.rt:68:13
 same-length-3 : tie.Need-same-length-3 Inv-loop μ-loop
 same-length-3 c = c .before .before .before .before .before .before .before .before .before .read-on .kept .0 ∙ c .before .before .before .before .before .before .before .before .before .before .before .before .loop .inv .0
 
--- src/main.rt:68:13
 same-length-4 : tie.Need-same-length-4 Inv-loop μ-loop
 same-length-4 c = c .before .before .before .list-first .kept .1 .1 .0 ∙ c .before .before .before .before .before .before .before .before .before .before .before .before .loop .inv .1
 
--- src/main.rt:68:13
 returns-2 : tie.Need-returns-2 Inv-loop μ-loop
 returns-2 c = search needs
 
--- src/main.rt:60:5
 loop-less : tie.Need-loop-less Inv-loop μ-loop
 loop-less c = omega (arith, c .before .before .before .before .before .before .before .before .before .read-on .kept .0)
 
--- src/main.rt:60:5
 loop-again : tie.Need-loop-again Inv-loop μ-loop
 loop-again c = (c .before .before .before .before .before .before .before .before .before .read-on .kept .0 ∙ c .before .before .before .before .before .before .before .before .before .before .before .before .loop .inv .0, c .before .before .before .list-first .kept .1 .1 .0 ∙ c .before .before .before .before .before .before .before .before .before .before .before .before .loop .inv .1)
 
--- src/main.rt:57:1
 same-length-5 : tie.Need-same-length-5 Inv-loop μ-loop
 same-length-5 c = c .before .loop .inv .0
 
--- src/main.rt:57:1
 same-length-6 : tie.Need-same-length-6 Inv-loop μ-loop
 same-length-6 c = c .before .loop .inv .1
 
--- src/main.rt:57:1
 returns-3 : tie.Need-returns-3 Inv-loop μ-loop
 returns-3 c = search needs
 

@@ -23,31 +23,24 @@ Inv-loop input d₀ at₀ n₀ d at n = (at ≤ length input) × (n ≤ length i
 abbrev μ-loop : tie.MeasureT-loop
 μ-loop input d₀ at₀ n₀ d at n = n
 
--- src/lib.rt:19:17
 empty-day-requires : tie.Need-empty-day-requires Inv-loop μ-loop
 empty-day-requires c κs = search needs
 
--- src/lib.rt:22:5
 loop-holds : tie.Need-loop-holds Inv-loop μ-loop
 loop-holds c = (search needs, search needs, run-first _ _ (c .empty-day .ensures))
 
--- src/lib.rt:23:9
 sub-n : tie.Need-sub-n Inv-loop μ-loop
 sub-n c = search needs
 
--- src/lib.rt:24:58
 sub-lets-in : tie.Need-sub-lets-in Inv-loop μ-loop
 sub-lets-in c = search needs
 
--- src/lib.rt:24:58
 part-lets-in-start : tie.Need-part-lets-in-start Inv-loop μ-loop
 part-lets-in-start c = search needs
 
--- src/lib.rt:24:58
 part-lets-in-end : tie.Need-part-lets-in-end Inv-loop μ-loop
 part-lets-in-end c = search needs
 
--- src/lib.rt:24:12
 lets-in-requires : tie.Need-lets-in-requires Inv-loop μ-loop
 lets-in-requires c κs = search needs
 
@@ -62,47 +55,36 @@ got c =
     let g = c .before .lets-in .ensures (c .if1 .taken) in
     (g, let-in-within (l .n) (l .d) s (l .at) (c .before .before .before .loop-test .taken) g (l .inv .0))
 
--- src/lib.rt:25:24
 add-from : tie.Need-add-from Inv-loop μ-loop
 add-from c = omega (arith, got c .1)
 
--- src/lib.rt:26:22
 add-to : tie.Need-add-to Inv-loop μ-loop
 add-to c = omega (arith, got c .1)
 
--- src/lib.rt:27:45
 sub-instruction-of : tie.Need-sub-instruction-of Inv-loop μ-loop
 sub-instruction-of c = omega (arith, got c .1)
 
--- src/lib.rt:27:45
 part-instruction-of-start : tie.Need-part-instruction-of-start Inv-loop μ-loop
 part-instruction-of-start c = omega (arith, got c .1)
 
--- src/lib.rt:27:45
 part-instruction-of-end : tie.Need-part-instruction-of-end Inv-loop μ-loop
 part-instruction-of-end c = omega (arith, got c .1)
 
--- src/lib.rt:27:17
 instruction-of-requires : tie.Need-instruction-of-requires Inv-loop μ-loop
 instruction-of-requires c κs = search needs
 
--- src/lib.rt:29:13
 mul-i : tie.Need-mul-i Inv-loop μ-loop
 mul-i c = omega (arith, got (c .before .before) .0 .room)
 
--- src/lib.rt:29:13
 element-set-from-i : tie.Need-element-set-from-i Inv-loop μ-loop
 element-set-from-i c = omega (arith, got (c .before .before) .0 .room)
 
--- src/lib.rt:30:23
 add-d : tie.Need-add-d Inv-loop μ-loop
 add-d c = omega (arith, got (c .before .before) .0 .room)
 
--- src/lib.rt:22:5
 loop-less : tie.Need-loop-less Inv-loop μ-loop
 loop-less c = omega (arith, c .before .before .before .before .before .loop-test .taken)
 
--- src/lib.rt:22:5
 loop-again : tie.Need-loop-again Inv-loop μ-loop
 unfolding withInstruction
 loop-again c =
@@ -111,27 +93,21 @@ loop-again c =
     let g = got (c .before .before) in
     (g .1, omega (arith, l .inv .1), sym (run-let-in (l .n) (l .d) s (l .at) (c .before .before .before .before .before .loop-test .taken) (g .0) (c .instruction-of .result) (c .instruction-of .ensures)) ∙ l .inv .2)
 
--- src/lib.rt:33:38
 sub-step : tie.Need-sub-step Inv-loop μ-loop
 sub-step c = search needs
 
--- src/lib.rt:33:38
 part-step-start : tie.Need-part-step-start Inv-loop μ-loop
 part-step-start c = search needs
 
--- src/lib.rt:33:38
 part-step-end : tie.Need-part-step-end Inv-loop μ-loop
 part-step-end c = search needs
 
--- src/lib.rt:33:17
 step-requires : tie.Need-step-requires Inv-loop μ-loop
 step-requires c κs = search needs
 
--- src/lib.rt:37:25
 enum-told : tie.Need-enum-told Inv-loop μ-loop
 enum-told c = search needs
 
--- src/lib.rt:41:25
 returns : tie.Need-returns Inv-loop μ-loop
 returns c =
     let l = c .before .before .before .before .before .before .before .before .before .before .loop in
@@ -147,15 +123,12 @@ within c =
     let st = c .before .before .before .before .step in
     used-within (l .n) (l .d) (c .before .before .before .before .before .before .before .before .before .before .before .before .before .args .input .now) (l .at) (st .result) (st .ensures) (l .inv .0)
 
--- src/lib.rt:44:21
 add-at : tie.Need-add-at Inv-loop μ-loop
 add-at c = omega (arith, within c)
 
--- src/lib.rt:22:5
 loop-less-2 : tie.Need-loop-less-2 Inv-loop μ-loop
 loop-less-2 c = omega (arith, c .before .before .before .before .before .before .before .before .before .loop-test .taken)
 
--- src/lib.rt:22:5
 loop-again-2 : tie.Need-loop-again-2 Inv-loop μ-loop
 loop-again-2 c =
     let l = c .before .before .before .before .before .before .before .before .before .before .loop in
@@ -164,11 +137,9 @@ loop-again-2 c =
     let more = c .before .before .before .before .before .before .before .before .before .loop-test .taken in
     (within c, omega (arith, l .inv .1), sym (run-on (l .n) (l .d) s (l .at) (st .result) (st .ensures) more (c .before .before .enum-told .given .1) (c .if2 .left)) ∙ l .inv .2)
 
--- src/lib.rt:46:33
 enum-known-a : tie.Need-enum-known-a Inv-loop μ-loop
 enum-known-a c = search needs
 
--- src/lib.rt:49:21
 returns-2 : tie.Need-returns-2 Inv-loop μ-loop
 returns-2 c =
     let l = c .before .before .before .before .before .before .before .before .before .before .loop in
@@ -177,7 +148,6 @@ returns-2 c =
     let more = c .before .before .before .before .before .before .before .before .before .loop-test .taken in
     run-stop (l .n) (l .d) s (l .at) (st .result) (st .ensures) more _ (c .before .before .a .given .1) ∙ l .inv .2
 
--- src/lib.rt:16:1
 returns-3 : tie.Need-returns-3 Inv-loop μ-loop
 returns-3 c =
     let l = c .before .loop in

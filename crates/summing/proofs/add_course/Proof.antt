@@ -126,38 +126,30 @@ rested c u o =
     (subst (λ (x : Place). Short h t (x .level)) (sym (e .0)) (g .short))
     (subst (λ (x : Place). x .level < 274877906944) (sym (e .0)) (g .low))
 
--- src/lib.rt:587:9
 is-rising-requires : tie.Need-is-rising-requires Inv-loop μ-loop
 is-rising-requires c κs = search needs
 
--- src/lib.rt:588:9
 own-lists-requires : tie.Need-own-lists-requires Inv-loop μ-loop
 own-lists-requires c κs = search needs
 
 from-kw-requires : tie.Need-from-kw-requires Inv-loop μ-loop
 from-kw-requires c κs = search needs
 
--- src/lib.rt:589:38
 smaller-requires : tie.Need-smaller-requires Inv-loop μ-loop
 smaller-requires c κs = search needs
 
--- src/lib.rt:589:9
 seconds-from-requires : tie.Need-seconds-from-requires Inv-loop μ-loop
 seconds-from-requires c κs = search needs
 
--- src/lib.rt:590:9
 begin-at-requires : tie.Need-begin-at-requires Inv-loop μ-loop
 begin-at-requires c κs = search needs
 
--- src/lib.rt:592:17
 cast-b : tie.Need-cast-b Inv-loop μ-loop
 cast-b c = omega arith
 
--- src/lib.rt:593:17
 mul-x : tie.Need-mul-x Inv-loop μ-loop
 mul-x c = omega arith
 
--- src/lib.rt:594:5
 loop-holds : tie.Need-loop-holds Inv-loop μ-loop
 unfolding beginning
 loop-holds c = let s = c .before .before .before .before .before .before .before in
@@ -176,40 +168,31 @@ loop-holds c = let s = c .before .before .before .before .before .before .before
       ),
     )
 
--- src/lib.rt:595:9
 add-b : tie.Need-add-b Inv-loop μ-loop
 add-b c = omega arith
 
--- src/lib.rt:596:9
 add-x : tie.Need-add-x Inv-loop μ-loop
 add-x c = omega arith
 
--- src/lib.rt:597:39
 smaller-requires-2 : tie.Need-smaller-requires-2 Inv-loop μ-loop
 smaller-requires-2 c κs = search needs
 
--- src/lib.rt:597:13
 seconds-from-requires-2 : tie.Need-seconds-from-requires-2 Inv-loop μ-loop
 seconds-from-requires-2 c κs = search needs
 
--- src/lib.rt:598:12
 is-at-rest-requires : tie.Need-is-at-rest-requires Inv-loop μ-loop
 is-at-rest-requires c κs = search needs
 
--- src/lib.rt:599:17
 rest-to-requires : tie.Need-rest-to-requires Inv-loop μ-loop
 rest-to-requires c κs = let a = ahead (c .before .before) in
     (a .2, omega (arith, a .3), c .before .before .before .before .before .before .loop .inv .3 (c .before .before .before .before .before .before .before .before .before .before .before .before .before .before .args .u) (c .before .before .before .before .before .before .before .before .before .before .before .before .own-lists .ensures) .0 .low)
 
--- src/lib.rt:600:24
 mul-parts : tie.Need-mul-parts Inv-loop μ-loop
 mul-parts c = record { fits = place-fits _ (ahead (c .before .before .before) .0) }
 
--- src/lib.rt:600:24
 element-copy-out-parts : tie.Need-element-copy-out-parts Inv-loop μ-loop
 element-copy-out-parts c = below-last _ (ahead (c .before .before .before) .0)
 
--- src/lib.rt:600:24
 add-parts : tie.Need-add-parts Inv-loop μ-loop
 add-parts c = let s = c .before .before .before .before .before .before .before .before .before .before .before .before .before .before .before .before .before in
     let l = c .before .before .before .before .before .before .before .before .before .loop in
@@ -217,19 +200,15 @@ add-parts c = let s = c .before .before .before .before .before .before .before 
     let g = rested (c .before .before) (s .args .u) o in
     record { fits = part-fits (notedAt (s .args .u) (s .args .c) (s .args .end)) (l .b) (c .before .before .rest-to .result .twice) (s .args .parts .now) (l .parts) (ahead (c .before .before .before .before .before) .0) (g .2) (g .3) (s .pre .1 .1) (l .inv .3 (s .args .u) o .1) }
 
--- src/lib.rt:600:13
 mul-parts-2 : tie.Need-mul-parts-2 Inv-loop μ-loop
 mul-parts-2 c = record { fits = place-fits _ (ahead (c .before .before .before .before .before) .0) }
 
--- src/lib.rt:600:13
 element-write-parts : tie.Need-element-write-parts Inv-loop μ-loop
 element-write-parts c = below-last _ (ahead (c .before .before .before .before .before) .0)
 
--- src/lib.rt:594:5
 loop-less : tie.Need-loop-less Inv-loop μ-loop
 loop-less c = goes-on _ (ahead (c .before .before .before .before .before .before) .0)
 
--- src/lib.rt:594:5
 loop-again : tie.Need-loop-again Inv-loop μ-loop
 loop-again c = let s = c .before .before .before .before .before .before .before .before .before .before .before .before .before .before .before .before .before .before in
     let l = c .before .before .before .before .before .before .before .before .before .before .loop in
@@ -247,22 +226,18 @@ loop-again c = let s = c .before .before .before .before .before .before .before
           ),
     )
 
--- src/lib.rt:603:17
 sum-to-requires : tie.Need-sum-to-requires Inv-loop μ-loop
 sum-to-requires c κs = let l = c .before .before .before .before .before .before .loop in
     let a = ahead (c .before .before) in
     let g = l .inv .3 (c .before .before .before .before .before .before .before .before .before .before .before .before .before .before .args .u) (c .before .before .before .before .before .before .before .before .before .before .before .before .own-lists .ensures) .0 in
     ((a .2, omega (arith, a .3)), (g .short, g .low))
 
--- src/lib.rt:604:24
 mul-parts-3 : tie.Need-mul-parts-3 Inv-loop μ-loop
 mul-parts-3 c = record { fits = place-fits _ (ahead (c .before .before .before) .0) }
 
--- src/lib.rt:604:24
 element-copy-out-parts-2 : tie.Need-element-copy-out-parts-2 Inv-loop μ-loop
 element-copy-out-parts-2 c = below-last _ (ahead (c .before .before .before) .0)
 
--- src/lib.rt:604:24
 add-parts-2 : tie.Need-add-parts-2 Inv-loop μ-loop
 add-parts-2 c = let s = c .before .before .before .before .before .before .before .before .before .before .before .before .before .before .before .before .before in
     let l = c .before .before .before .before .before .before .before .before .before .loop in
@@ -270,19 +245,15 @@ add-parts-2 c = let s = c .before .before .before .before .before .before .befor
     let g = gone (c .before .before) (s .args .u) o in
     record { fits = part-fits (notedAt (s .args .u) (s .args .c) (s .args .end)) (l .b) (c .before .before .sum-to .result .twice) (s .args .parts .now) (l .parts) (ahead (c .before .before .before .before .before) .0) (g .2) (g .3) (s .pre .1 .1) (l .inv .3 (s .args .u) o .1) }
 
--- src/lib.rt:604:13
 mul-parts-4 : tie.Need-mul-parts-4 Inv-loop μ-loop
 mul-parts-4 c = record { fits = place-fits _ (ahead (c .before .before .before .before .before) .0) }
 
--- src/lib.rt:604:13
 element-write-parts-2 : tie.Need-element-write-parts-2 Inv-loop μ-loop
 element-write-parts-2 c = below-last _ (ahead (c .before .before .before .before .before) .0)
 
--- src/lib.rt:594:5
 loop-less-2 : tie.Need-loop-less-2 Inv-loop μ-loop
 loop-less-2 c = goes-on _ (ahead (c .before .before .before .before .before .before) .0)
 
--- src/lib.rt:594:5
 loop-again-2 : tie.Need-loop-again-2 Inv-loop μ-loop
 loop-again-2 c = let s = c .before .before .before .before .before .before .before .before .before .before .before .before .before .before .before .before .before .before in
     let l = c .before .before .before .before .before .before .before .before .before .before .loop in
@@ -300,7 +271,6 @@ loop-again-2 c = let s = c .before .before .before .before .before .before .befo
           ),
     )
 
--- src/lib.rt:581:1
 returns : tie.Need-returns Inv-loop μ-loop
 returns c = let l = c .before .before .loop in
     let s = c .before .before .before .before .before .before .before .before .before .before in

@@ -5,15 +5,12 @@ use Rattle.summing.proofs.is_at_rest.Tie as tie
 use Rattle.summing.proofs.is_at_rest.Reads as reads
 use Rattle.summing.proofs.is_at_rest.Lts as lts
 
--- src/lib.rt:558:9
 returns : tie.Need-returns
 returns c = λ e. never e
 
--- src/lib.rt:561:9
 returns-2 : tie.Need-returns-2
 returns-2 c = λ e. never e
 
--- src/lib.rt:554:1
 returns-3 : tie.Need-returns-3
 returns-3 c = search needs
 

@@ -7,16 +7,13 @@ use Rattle.summing.proofs.quantity_between.Reads as reads
 use Rattle.summing.proofs.quantity_between.Lts as lts
 use Rattle.summing.proofs.round_kw.Reads as round-kw-reads
 
--- src/lib.rt:708:9
 returns : tie.Need-returns
 unfolding rounded
 returns c = omega arith
 
--- src/lib.rt:710:5
 round-kw-requires : tie.Need-round-kw-requires
 round-kw-requires c κs = search needs
 
--- src/lib.rt:704:1
 returns-2 : tie.Need-returns-2
 returns-2 c = search needs
 

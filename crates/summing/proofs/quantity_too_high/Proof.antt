@@ -18,53 +18,42 @@ Inv-loop sums most i₀ before₀ i before = (i ≤ 48) × (before ≡ getD sums
 abbrev μ-loop : tie.MeasureT-loop
 μ-loop sums most i₀ before₀ i before = 48 - i
 
--- src/lib.rt:717:16
 cast-most : tie.Need-cast-most Inv-loop μ-loop
 cast-most c = search needs
 
--- src/lib.rt:719:22
 array-read-before : tie.Need-array-read-before Inv-loop μ-loop
 array-read-before c = omega arith
 
--- src/lib.rt:720:5
 loop-holds : tie.Need-loop-holds Inv-loop μ-loop
 loop-holds c = (omega arith, refl, refl)
 
--- src/lib.rt:721:9
 add-i : tie.Need-add-i Inv-loop μ-loop
 add-i c = omega arith
 
--- src/lib.rt:722:21
 mul-after : tie.Need-mul-after Inv-loop μ-loop
 mul-after c = omega arith
 
--- src/lib.rt:722:21
 array-read-after : tie.Need-array-read-after Inv-loop μ-loop
 array-read-after c = omega arith
 
--- src/lib.rt:723:19
 quantity-between-requires : tie.Need-quantity-between-requires Inv-loop μ-loop
 quantity-between-requires c κs = search needs
 
--- src/lib.rt:724:13
 returns : tie.Need-returns Inv-loop μ-loop
 returns c = let s = c .before .before .before .before .before in
     let l = c .before .before .before .loop in
     let q = c .before .quantity-between .ensures ∙ ap (λ (k : ℕ). rounded (getD (s .args .t2) (l .i + 1) 0 - k)) (l .inv .1) ∙ quantity-is (s .args .t2) (l .i) in
     sym (above-here (s .args .u .maximum) (s .args .t2) (l .i) (omega arith) (omega (arith, q, c .if1 .taken))) ∙ l .inv .2
 
--- src/lib.rt:720:5
 loop-less : tie.Need-loop-less Inv-loop μ-loop
 loop-less c = omega arith
 
--- src/lib.rt:720:5
 loop-again : tie.Need-loop-again Inv-loop μ-loop
 loop-again c = let s = c .before .before .before .before .before in
     let l = c .before .before .before .loop in
     let q = c .before .quantity-between .ensures ∙ ap (λ (k : ℕ). rounded (getD (s .args .t2) (l .i + 1) 0 - k)) (l .inv .1) ∙ quantity-is (s .args .t2) (l .i) in
     (omega arith, refl, sym (above-next (s .args .u .maximum) (s .args .t2) (l .i) (omega arith) (omega (arith, q, c .if1 .left))) ∙ l .inv .2)
 
--- src/lib.rt:714:1
 returns-2 : tie.Need-returns-2 Inv-loop μ-loop
 returns-2 c = let s = c .before .before .before in
     let l = c .before .loop in

@@ -12,24 +12,19 @@ use Rattle.summing.proofs.rest_to.Lts as lts
 low : (n s v : ℕ) → v < 274877906944 → (n - s) * (v + v) ≤ (n - s) * 549755813888
 low n s v h = mul-le-mul-left (n - s) (omega arith)
 
--- src/lib.rt:568:16
 sub-time : tie.Need-sub-time
 sub-time c = search needs
 
--- src/lib.rt:569:16
 cast-wide : tie.Need-cast-wide
 cast-wide c = search needs
 
--- src/lib.rt:570:25
 add-twice : tie.Need-add-twice
 add-twice c = search needs
 
--- src/lib.rt:570:17
 mul-twice : tie.Need-mul-twice
 mul-twice c = let s = c .before .before in
     omega (arith, low (s .args .n) (s .args .p .second) (s .args .p .level) (s .pre .2), mul-le-mul-right {m = s .args .n - s .args .p .second} {n = 16777216} 549755813888 (omega (arith, s .pre .1)))
 
--- src/lib.rt:564:1
 returns : tie.Need-returns
 unfolding afterRest twiceBetween
 returns c = let s = c .before .before in (refl, refl, low (s .args .n) (s .args .p .second) (s .args .p .level) (s .pre .2))

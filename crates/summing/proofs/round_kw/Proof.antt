@@ -6,16 +6,13 @@ use Rattle.summing.proofs.round_kw.Tie as tie
 use Rattle.summing.proofs.round_kw.Reads as reads
 use Rattle.summing.proofs.round_kw.Lts as lts
 
--- src/lib.rt:731:9
 returns : tie.Need-returns
 unfolding rounded
 returns c = omega arith
 
--- src/lib.rt:733:5
 add-result : tie.Need-add-result
 add-result c = search needs
 
--- src/lib.rt:726:1
 returns-2 : tie.Need-returns-2
 unfolding rounded
 returns-2 c = omega arith

@@ -20,42 +20,33 @@ Inv-loop parts out₀ total₀ b₀ out total b =
 abbrev μ-loop : tie.MeasureT-loop
 μ-loop parts out₀ total₀ b₀ out total b = 49 - b
 
--- src/lib.rt:609:5
 loop-holds : tie.Need-loop-holds Inv-loop μ-loop
 unfolding firstSum listFrom
 loop-holds c = (omega arith, refl, refl, refl)
 
--- src/lib.rt:610:18
 mul-total : tie.Need-mul-total Inv-loop μ-loop
 mul-total c = omega arith
 
--- src/lib.rt:610:18
 element-copy-out-total : tie.Need-element-copy-out-total Inv-loop μ-loop
 element-copy-out-total c = omega arith
 
--- src/lib.rt:610:9
 add-total : tie.Need-add-total Inv-loop μ-loop
 add-total c = let s = c .before .before .before in
     let l = c .before .before .loop in
     omega (arith, l .inv .2, first-more (l .b) (s .args .parts .now), first-fewer (suc (l .b)) 49 (s .args .parts .now) (omega arith), s .pre)
 
--- src/lib.rt:611:9
 mul-out : tie.Need-mul-out Inv-loop μ-loop
 mul-out c = omega arith
 
--- src/lib.rt:611:9
 array-write-out : tie.Need-array-write-out Inv-loop μ-loop
 array-write-out c = omega arith
 
--- src/lib.rt:612:9
 add-b : tie.Need-add-b Inv-loop μ-loop
 add-b c = omega arith
 
--- src/lib.rt:609:5
 loop-less : tie.Need-loop-less Inv-loop μ-loop
 loop-less c = omega arith
 
--- src/lib.rt:609:5
 loop-again : tie.Need-loop-again Inv-loop μ-loop
 loop-again c = let s = c .before .before .before in
     let l = c .before .before .loop in
@@ -63,7 +54,6 @@ loop-again c = let s = c .before .before .before in
     let e : l .total + getD ps (l .b) 0 ≡ firstSum (suc (l .b)) ps = omega (arith, l .inv .2, first-more (l .b) ps) in
     (omega arith, simp length-set (l .inv .1), e ∙ ap (λ (k : ℕ). firstSum k ps) {x = suc (l .b)} {y = l .b + 1} (omega arith), list-set (λ (k : ℕ). firstSum (suc k) ps) (l .out) (l .b) _ (omega arith) (l .inv .3) e)
 
--- src/lib.rt:602:1
 returns : tie.Need-returns Inv-loop μ-loop
 returns c = let l = c .before .loop in
     let e : l .b ≡ 49 = omega arith in

@@ -24,33 +24,26 @@ Inv-loop u n courses parts₀ end₀ i₀ parts end i =
 abbrev μ-loop : tie.MeasureT-loop
 μ-loop u n courses parts₀ end₀ i₀ parts end i = i
 
--- src/lib.rt:627:5
 loop-holds : tie.Need-loop-holds Inv-loop μ-loop
 loop-holds c = (omega arith, begin-last 86400 (c .args .t2) (c .args .n) (c .args .n) (omega arith), from-last (c .args .u) (c .args .t2) (c .args .n) (c .args .n) (omega arith), omega (arith, first-zeros 49 49), refl)
 
--- src/lib.rt:628:9
 sub-i : tie.Need-sub-i Inv-loop μ-loop
 sub-i c = omega arith
 
--- src/lib.rt:629:17
 mul-c : tie.Need-mul-c Inv-loop μ-loop
 mul-c c = omega arith
 
--- src/lib.rt:629:17
 array-copy-out-c : tie.Need-array-copy-out-c Inv-loop μ-loop
 array-copy-out-c c = omega arith
 
--- src/lib.rt:630:9
 add-course-requires : tie.Need-add-course-requires Inv-loop μ-loop
 add-course-requires c κs = let s = c .before .before .before .before in
     let l = c .before .before .before .loop in
     (all-first (λ (c : Course). c .start .grains < 274877906944) (s .args .t2) (s .args .n) (l .i - 1) noCourse (omega arith) (omega (arith, s .good .1 .0 .1 .0 .1)) (s .pre .1), (l .inv .4, few (s .args .n) (l .i) _ (omega arith) (omega arith) (l .inv .3)))
 
--- src/lib.rt:627:5
 loop-less : tie.Need-loop-less Inv-loop μ-loop
 loop-less c = omega arith
 
--- src/lib.rt:627:5
 loop-again : tie.Need-loop-again Inv-loop μ-loop
 loop-again c = let s = c .before .before .before .before .before in
     let l = c .before .before .before .before .loop in
@@ -62,12 +55,10 @@ loop-again c = let s = c .before .before .before .before .before in
       c .add-course .ensures .0,
     )
 
--- src/lib.rt:633:5
 running-sums-requires : tie.Need-running-sums-requires Inv-loop μ-loop
 running-sums-requires c κs = let l = c .before .before .loop in
     omega (arith, l .inv .3)
 
--- src/lib.rt:619:1
 returns : tie.Need-returns Inv-loop μ-loop
 unfolding twinTo
 returns c = let s = c .before .before .before .before in

@@ -15,23 +15,18 @@ Inv-loop v left₀ width₀ left width = width + length (decimal left) ≡ lengt
 abbrev μ-loop : tie.MeasureT-loop
 μ-loop v left₀ width₀ left width = left
 
--- src/lib.rt:108:5
 loop-holds : tie.Need-loop-holds Inv-loop μ-loop
 loop-holds c = omega arith
 
--- src/lib.rt:110:9
 add-width : tie.Need-add-width Inv-loop μ-loop
 add-width c = omega (arith, word-width (c .before .before .args .v) (omega arith))
 
--- src/lib.rt:108:5
 loop-less : tie.Need-loop-less Inv-loop μ-loop
 loop-less c = omega arith
 
--- src/lib.rt:108:5
 loop-again : tie.Need-loop-again Inv-loop μ-loop
 loop-again c = omega (arith, high-length (c .before .loop .left) (omega arith))
 
--- src/lib.rt:103:1
 returns : tie.Need-returns Inv-loop μ-loop
 returns c =
     let e = low-length (c .before .loop .left) (omega arith) in

@@ -8,47 +8,36 @@ use Rattle.text.proofs.decimal_width.Reads as reads
 use Rattle.text.proofs.decimal_width.Lts as lts
 use Rattle.text.proofs.counted_width.Reads as counted-width-reads
 
--- src/lib.rt:120:9
 returns : tie.Need-returns
 returns c = (sym (low-length _ (omega arith)), omega arith)
 
--- src/lib.rt:123:9
 returns-2 : tie.Need-returns-2
 returns-2 c = (width-between 1 _ (omega arith) (omega arith), omega arith)
 
--- src/lib.rt:126:9
 returns-3 : tie.Need-returns-3
 returns-3 c = (width-between 2 _ (omega arith) (omega arith), omega arith)
 
--- src/lib.rt:129:9
 returns-4 : tie.Need-returns-4
 returns-4 c = (width-between 3 _ (omega arith) (omega arith), omega arith)
 
--- src/lib.rt:132:9
 returns-5 : tie.Need-returns-5
 returns-5 c = (width-between 4 _ (omega arith) (omega arith), omega arith)
 
--- src/lib.rt:135:9
 returns-6 : tie.Need-returns-6
 returns-6 c = (width-between 5 _ (omega arith) (omega arith), omega arith)
 
--- src/lib.rt:138:9
 returns-7 : tie.Need-returns-7
 returns-7 c = (width-between 6 _ (omega arith) (omega arith), omega arith)
 
--- src/lib.rt:141:9
 returns-8 : tie.Need-returns-8
 returns-8 c = (width-between 7 _ (omega arith) (omega arith), omega arith)
 
--- src/lib.rt:144:9
 returns-9 : tie.Need-returns-9
 returns-9 c = (width-between 8 _ (omega arith) (omega arith), omega arith)
 
--- src/lib.rt:146:5
 counted-width-requires : tie.Need-counted-width-requires
 counted-width-requires c κs = search needs
 
--- src/lib.rt:116:1
 returns-10 : tie.Need-returns-10
 returns-10 c = search needs
 

@@ -18,72 +18,56 @@ Inv-loop out₀ v width left₀ i₀ out left i = (i ≤ 20) × (i ≤ length ou
 abbrev μ-loop : tie.MeasureT-loop
 μ-loop out₀ v width left₀ i₀ out left i = i
 
--- src/lib.rt:12:9
 decimal-width-requires : tie.Need-decimal-width-requires Inv-loop μ-loop
 decimal-width-requires c κs = search needs
 
--- src/lib.rt:15:5
 loop-holds : tie.Need-loop-holds Inv-loop μ-loop
 loop-holds c =
     let w = c .decimal-width .ensures .0 in
     (c .decimal-width .ensures .1, omega arith, ap (λ (l : List ℕ). laid l (c .before .before .args .out .now)) (last-all (c .decimal-width .result) (c .before .before .args .v) w))
 
--- src/lib.rt:16:9
 sub-i : tie.Need-sub-i Inv-loop μ-loop
 sub-i c = omega arith
 
--- src/lib.rt:18:22
 cast-out : tie.Need-cast-out Inv-loop μ-loop
 cast-out c = omega arith
 
--- src/lib.rt:18:22
 add-out : tie.Need-add-out Inv-loop μ-loop
 add-out c = omega arith
 
--- src/lib.rt:18:13
 add-out-2 : tie.Need-add-out-2 Inv-loop μ-loop
 add-out-2 c = omega arith
 
--- src/lib.rt:18:9
 slice-write-out : tie.Need-slice-write-out Inv-loop μ-loop
 slice-write-out c = omega arith
 
--- src/lib.rt:19:18
 cast-out-2 : tie.Need-cast-out-2 Inv-loop μ-loop
 cast-out-2 c = omega arith
 
--- src/lib.rt:19:18
 add-out-3 : tie.Need-add-out-3 Inv-loop μ-loop
 add-out-3 c = omega arith
 
--- src/lib.rt:19:9
 slice-write-out-2 : tie.Need-slice-write-out-2 Inv-loop μ-loop
 slice-write-out-2 c = simp length-set (omega arith)
 
--- src/lib.rt:15:5
 loop-less : tie.Need-loop-less Inv-loop μ-loop
 loop-less c = omega arith
 
--- src/lib.rt:15:5
 loop-again : tie.Need-loop-again Inv-loop μ-loop
 loop-again c =
     let l = c .before .loop in
     let e : l .i - 2 + 2 ≡ l .i = omega arith in
     (omega arith, simp length-set (omega arith), sym (last-two (l .i - 2) (l .left) (l .out) (omega arith)) ∙ (ap (λ (k : ℕ). laid (lastDigits k (l .left)) (l .out)) e ∙ l .inv .2))
 
--- src/lib.rt:23:18
 cast-out-3 : tie.Need-cast-out-3 Inv-loop μ-loop
 cast-out-3 c = omega arith
 
--- src/lib.rt:23:18
 add-out-4 : tie.Need-add-out-4 Inv-loop μ-loop
 add-out-4 c = omega arith
 
--- src/lib.rt:23:9
 slice-write-out-3 : tie.Need-slice-write-out-3 Inv-loop μ-loop
 slice-write-out-3 c = omega arith
 
--- src/lib.rt:24:9
 returns : tie.Need-returns Inv-loop μ-loop
 unfolding lastDigits
 returns c =
@@ -91,13 +75,11 @@ returns c =
     let e : 1 ≡ l .i = omega arith in
     (c .before .before .before .decimal-width .ensures .0, sym (last-put 0 (l .left) (l .out) (omega arith)) ∙ (ap (λ (k : ℕ). laid (lastDigits k (l .left)) (l .out)) e ∙ l .inv .2))
 
--- src/lib.rt:24:9
 same-length : tie.Need-same-length Inv-loop μ-loop
 same-length c =
     let s = c .before .before .before .before .before in
     ap length (returns c .1) ∙ laid-length (decimal (s .args .v)) (s .args .out .now) (s .pre)
 
--- src/lib.rt:8:1
 returns-2 : tie.Need-returns-2 Inv-loop μ-loop
 unfolding lastDigits
 returns-2 c =
@@ -105,7 +87,6 @@ returns-2 c =
     let e : 0 ≡ l .i = omega arith in
     (c .before .before .before .decimal-width .ensures .0, ap (λ (k : ℕ). laid (lastDigits k (l .left)) (l .out)) e ∙ l .inv .2)
 
--- src/lib.rt:8:1
 same-length-2 : tie.Need-same-length-2 Inv-loop μ-loop
 same-length-2 c =
     let s = c .before .before .before .before .before in

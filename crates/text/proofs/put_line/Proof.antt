@@ -33,52 +33,40 @@ more c =
     let a = c .before .before .before .before .args in
     omega (arith, room-more (a .letter) (a .vs .now) (c .before .loop .i) (c .loop-test .taken), c .before .before .before .before .pre, c .before .loop .inv .1)
 
--- src/lib.rt:44:5
 slice-write-out : tie.Need-slice-write-out Inv-loop μ-loop
 slice-write-out c = omega (arith, line-length (c .before .before .args .letter) (c .before .before .args .vs .now))
 
--- src/lib.rt:47:5
 loop-holds : tie.Need-loop-holds Inv-loop μ-loop
 unfolding fields
 loop-holds c = (search needs, refl, start (c .before .before .args .out .now) (c .before .before .args .letter) (slice-write-out c))
 
--- src/lib.rt:48:17
 mul-v : tie.Need-mul-v Inv-loop μ-loop
 mul-v c = omega arith
 
--- src/lib.rt:48:17
 shared-slice-read-v : tie.Need-shared-slice-read-v Inv-loop μ-loop
 shared-slice-read-v c = omega arith
 
--- src/lib.rt:49:27
 sub-put-field : tie.Need-sub-put-field Inv-loop μ-loop
 sub-put-field c = omega (arith, len (c .before .before))
 
--- src/lib.rt:49:27
 part-put-field-start : tie.Need-part-put-field-start Inv-loop μ-loop
 part-put-field-start c = omega (arith, len (c .before .before))
 
--- src/lib.rt:49:27
 part-put-field-end : tie.Need-part-put-field-end Inv-loop μ-loop
 part-put-field-end c = search needs
 
--- src/lib.rt:49:13
 put-field-requires : tie.Need-put-field-requires Inv-loop μ-loop
 put-field-requires c κs = omega (arith, part-length (c .before .before .before .loop .at) (c .before .before .before .loop .out), len (c .before .before .before), more (c .before .before))
 
--- src/lib.rt:50:9
 add-at : tie.Need-add-at Inv-loop μ-loop
 add-at c = omega (arith, more (c .before .before .before .before .before), c .before .before .put-field .ensures .0)
 
--- src/lib.rt:51:9
 add-i : tie.Need-add-i Inv-loop μ-loop
 add-i c = omega arith
 
--- src/lib.rt:47:5
 loop-less : tie.Need-loop-less Inv-loop μ-loop
 loop-less c = omega arith
 
--- src/lib.rt:47:5
 loop-again : tie.Need-loop-again Inv-loop μ-loop
 loop-again c =
     let a = c .before .before .before .before .before .before .before .before .before .args in
@@ -93,19 +81,15 @@ loop-again c =
     let h : length (x ++ f) ≤ length o = omega (arith, ap length (begun-more (a .letter) vs (l .i) lt), begun-length (a .letter) vs (l .i) lt, more (c .before .before .before .before .before)) in
     (omega arith, omega (arith, begun-length (a .letter) vs (l .i) lt, p .ensures .0, l .inv .1), laid-part x f o (l .out) (p .last .0) (l .at) (l .inv .1) h (l .inv .2) (p .ensures .1) ∙ ap (λ (y : List ℕ). laid y o) (begun-more (a .letter) vs (l .i) lt))
 
--- src/lib.rt:53:5
 slice-write-out-2 : tie.Need-slice-write-out-2 Inv-loop μ-loop
 slice-write-out-2 c = omega (arith, len (c .before))
 
--- src/lib.rt:54:5
 add-result : tie.Need-add-result Inv-loop μ-loop
 add-result c = omega (arith, len (c .before))
 
--- src/lib.rt:40:1
 same-length : tie.Need-same-length Inv-loop μ-loop
 same-length c = simp length-set (len (c .before) .0)
 
--- src/lib.rt:40:1
 returns : tie.Need-returns Inv-loop μ-loop
 unfolding line
 returns c =

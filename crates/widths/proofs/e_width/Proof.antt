@@ -7,39 +7,30 @@ use Rattle.widths.proofs.e_width.Reads as reads
 use Rattle.widths.proofs.e_width.Lts as lts
 use Rattle.text.proofs.decimal_width.Reads as decimal-width-reads
 
--- src/lib.rt:171:5
 decimal-width-requires : tie.Need-decimal-width-requires
 decimal-width-requires c κs = search needs
 
--- src/lib.rt:171:28
 decimal-width-requires-2 : tie.Need-decimal-width-requires-2
 decimal-width-requires-2 c κs = search needs
 
--- src/lib.rt:171:5
 add-result : tie.Need-add-result
 add-result c = search needs
 
--- src/lib.rt:171:52
 decimal-width-requires-3 : tie.Need-decimal-width-requires-3
 decimal-width-requires-3 c κs = search needs
 
--- src/lib.rt:171:5
 add-result-2 : tie.Need-add-result-2
 add-result-2 c = search needs
 
--- src/lib.rt:171:74
 decimal-width-requires-4 : tie.Need-decimal-width-requires-4
 decimal-width-requires-4 c κs = search needs
 
--- src/lib.rt:171:5
 add-result-3 : tie.Need-add-result-3
 add-result-3 c = search needs
 
--- src/lib.rt:171:5
 add-result-4 : tie.Need-add-result-4
 add-result-4 c = search needs
 
--- src/lib.rt:168:1
 returns : tie.Need-returns
 returns c =
     let a = c .before .before .before .before .args in

@@ -7,23 +7,18 @@ use Rattle.widths.proofs.f_width.Reads as reads
 use Rattle.widths.proofs.f_width.Lts as lts
 use Rattle.text.proofs.decimal_width.Reads as decimal-width-reads
 
--- src/lib.rt:153:5
 decimal-width-requires : tie.Need-decimal-width-requires
 decimal-width-requires c κs = search needs
 
--- src/lib.rt:153:24
 decimal-width-requires-2 : tie.Need-decimal-width-requires-2
 decimal-width-requires-2 c κs = search needs
 
--- src/lib.rt:153:5
 add-result : tie.Need-add-result
 add-result c = search needs
 
--- src/lib.rt:153:5
 add-result-2 : tie.Need-add-result-2
 add-result-2 c = search needs
 
--- src/lib.rt:150:1
 returns : tie.Need-returns
 returns c =
     let a = c .before .before .args in
