@@ -1,4 +1,4 @@
-//! A benchmark, no test: taking the records of a day, close, and the listing, for days of 0, 10 and 40 instructions.
+//! A benchmark, no test: taking the records of a day, close, and the listing, for days of 0, 1, 10 and 40 instructions.
 //! Side by side: the second implementation second by second, plain Rust by segments, and the product if it is linked.
 
 #[path = "../tests/harness/days.rs"]
@@ -91,10 +91,10 @@ fn text(value: Option<f64>) -> String {
     value.map_or("-".to_string(), |v| format!("{v:.2}"))
 }
 
-/// Days of 0, 10 and 40 instructions.
+/// Days of 0, 1, 10 and 40 instructions.
 fn by_size() {
     println!("instructions  bytes in  bytes out  by second  by segments   product  second/product  product/segments  shorter slice");
-    for count in [0, 10, 40] {
+    for count in [0, 1, 10, 40] {
         let inputs: Vec<Vec<u8>> = (0..DAYS as u64)
             .map(|number| {
                 let r = &mut days::Random::new(77, number * 100 + count);

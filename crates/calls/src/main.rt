@@ -32,7 +32,7 @@ fn take_read(day: Day, buf: &[u8], n: usize) -> Turn {
     if buf.len() < n {
         return malformed(day);
     }
-    let s = taking::step(day, &buf[..n]);
+    let s = taker::take_front(day, &buf[..n]);
     let answer = s.answer;
     put_answer(answer, s.used);
     let next = s.day;

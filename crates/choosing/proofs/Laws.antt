@@ -3,8 +3,9 @@
 use mathlib.Core.Path.{_≡_, refl, sym, ap, _∙_}
 use mathlib.Core.List.{List, [], _∷_, _++_, map, append-assoc, append-nil}
 use mathlib.Core.Bool.{Bool, true, false, _&&_, _||_, not}
-use Prim.Native.Nat.{ℕ, zero, suc, _+_, _-_, _≤_, _<_, min}
+use Prim.Native.Nat.{ℕ, zero, suc, _+_, _-_, _≤_, _<_, min, max}
 use native.Mathlib.Numerals.{add-one}
+use native.Mathlib.Decide.{decLe}
 use native.Mathlib.Omega.{arith}
 use lib.Dec.{leb, ltb, eqb}
 use lib.ListN.{length, take, drop, getD, set, replicate, length-take, length-append, length-replicate, replicate-append-replicate}
@@ -19,7 +20,7 @@ use Rattle.records.specs.declared.Instruction.{Instruction}
 use Rattle.validation.proofs.Few.{numbered-length}
 use Rattle.validation.specs.Kept.{numbered, effectiveOf, effectOf, superseded, group, highest, firstOne, orElse, usedOf, nextTime, usedFrom, used}
 use Rattle.ranking.specs.Found.{foundList, bestFrom, earliest}
-use Rattle.choosing.specs.Working.{noNumbered, entered, holding, pushed, joined, issueOf, Timed, supersedesAt, supersededAt, earlierOf, nextAt}
+use Rattle.choosing.specs.Working.{noNumbered, entered, holding, pushed, joined, issueOf, Timed, laterOf, latestAt, supersededAt, earlierOf, nextAt}
 use Rattle.choosing.specs.declared.Sequence.{Sequence}
 use Rattle.ranking.specs.declared.Found.{Found}
 use Rattle.ranking.specs.declared.Found.the-variants.{One, Nothing}
@@ -107,14 +108,18 @@ joined-count s (One o) = omega arith
 joined-count s Nothing = omega arith
 
 -- ---- the effective times and the issue times
-module _ (x j t issue : ℕ) where
-  pub supersedes-same : x ≡ t → ltb issue j ≡ supersedesAt x j t issue
-  unfolding supersedesAt
-  supersedes-same e = simp (eq-eqb _ _ e)
+module _ (x j t best : ℕ) where
+  pub later-other : (x ≡ t → ⊥) → best ≡ laterOf x j t best
+  unfolding laterOf
+  later-other h = simp (ne-eqb _ _ h)
 
-  pub supersedes-other : (x ≡ t → ⊥) → false ≡ supersedesAt x j t issue
-  unfolding supersedesAt
-  supersedes-other h = simp (ne-eqb _ _ h)
+  pub later-more : x ≡ t → best < j → j ≡ laterOf x j t best
+  unfolding laterOf
+  later-more h k = simp (eq-eqb _ _ h) (omega arith)
+
+  pub later-not : x ≡ t → j ≤ best → best ≡ laterOf x j t best
+  unfolding laterOf
+  later-not h k = simp (eq-eqb _ _ h) (omega arith)
 
 module _ (x t best : ℕ) where
   pub earlier-past : x < t → best ≡ earlierOf x t best
@@ -133,29 +138,33 @@ pub next-none : {ts : List ℕ} (end t : ℕ) → ts ≡ [] → nextAt end ts t 
 unfolding nextAt
 next-none end t e = rw e
 
-pub superseded-none : {ts : List ℕ} (js : List ℕ) (t issue : ℕ) → ts ≡ [] → supersededAt ts js t issue ≡ false
-unfolding supersededAt
-superseded-none js t issue e = rw e
+pub latest-none : {ts : List ℕ} (js : List ℕ) (t : ℕ) → ts ≡ [] → latestAt ts js t ≡ 0
+unfolding latestAt
+latest-none js t e = rw e
 
 module _ (ts : List ℕ) (n : ℕ) (fits : n ≤ length ts) where
   pub next-more : (end t i : ℕ) → i < n → earlierOf (getD ts i 0) t (nextAt end (drop (i + 1) (take n ts)) t) ≡ nextAt end (drop i (take n ts)) t
   unfolding nextAt
   next-more end t i h = rw (left-cons ts n i 0 h fits)
 
-  module _ (js : List ℕ) (room : n ≤ length js) (t issue i : ℕ) (h : i < n) where
-    pub superseded-here : supersedesAt (getD ts i 0) (getD js i 0) t issue ≡ true → supersededAt (drop i (take n ts)) (drop i (take n js)) t issue ≡ true
-    unfolding supersededAt
-    superseded-here e = rw (left-cons ts n i 0 h fits, left-cons js n i 0 h room, e)
-
-    pub superseded-next : supersedesAt (getD ts i 0) (getD js i 0) t issue ≡ false → supersededAt (drop i (take n ts)) (drop i (take n js)) t issue ≡ supersededAt (drop (i + 1) (take n ts)) (drop (i + 1) (take n js)) t issue
-    unfolding supersededAt
-    superseded-next e = rw (left-cons ts n i 0 h fits, left-cons js n i 0 h room, e)
+  pub latest-more : (js : List ℕ) → n ≤ length js → (t i : ℕ) → i < n → laterOf (getD ts i 0) (getD js i 0) t (latestAt (drop (i + 1) (take n ts)) (drop (i + 1) (take n js)) t) ≡ latestAt (drop i (take n ts)) (drop i (take n js)) t
+  unfolding latestAt
+  latest-more js room t i h = rw (left-cons ts n i 0 h fits, left-cons js n i 0 h room)
 
 -- they say of the times what the definitions say of the instructions
+later-either : (e : Bool) (issue j best : ℕ) → ltb issue (pick e (max j best) best) ≡ ((e && ltb issue j) || ltb issue best)
+later-either false issue j best = refl
+later-either true issue j best = elim (decLe (suc issue) j) [
+  | yes h ↦ rw (lt-ltb issue j h, lt-ltb issue (max j best) (omega arith))
+  | no h ↦ rw (le-ltb issue j (omega arith)) (elim (decLe (suc issue) best) [ yes k ↦ rw (lt-ltb issue best k, lt-ltb issue (max j best) (omega arith)) | no k ↦ rw (le-ltb issue best (omega arith), le-ltb issue (max j best) (omega arith)) ])
+]
+
 superseded-times : (os : List Numbered) (o : Numbered) → supersededAt (map effectiveOf os) (map issueOf os) (effectiveOf o) (issueOf o) ≡ superseded os o
-unfolding superseded some supersededAt supersedesAt
-superseded-times [] o = refl
-superseded-times (x ∷ os) o = ap (λ (b : Bool). (eqb (effectiveOf x) (effectiveOf o) && ltb (issueOf o) (issueOf x)) || b) (superseded-times os o)
+unfolding superseded some latestAt laterOf
+superseded-times [] o = le-ltb (issueOf o) 0 (omega arith)
+superseded-times (x ∷ os) o =
+    later-either (eqb (effectiveOf x) (effectiveOf o)) (issueOf o) (issueOf x) (latestAt (map effectiveOf os) (map issueOf os) (effectiveOf o))
+    ∙ ap (λ (b : Bool). (eqb (effectiveOf x) (effectiveOf o) && ltb (issueOf o) (issueOf x)) || b) (superseded-times os o)
 
 next-times : (end : ℕ) (os : List Numbered) (t : ℕ) → nextAt end (map effectiveOf os) t ≡ nextTime end os t
 unfolding nextAt nextTime earlierOf

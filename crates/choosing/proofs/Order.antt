@@ -2,24 +2,25 @@
 -- Assumes nothing.
 use mathlib.Core.Path.{_≡_, refl, sym, ap, _∙_}
 use mathlib.Core.List.{List, [], _∷_, _++_}
-use mathlib.Core.Bool.{Bool, true, false, _&&_, not}
-use Prim.Native.Nat.{ℕ, zero, suc, _+_, _-_, _≤_, _<_, min}
+use mathlib.Core.Bool.{Bool, true, false, _&&_, not, true≢false}
+use Prim.Native.Nat.{ℕ, zero, suc, _+_, _-_, _≤_, _<_, min, max}
 use native.Mathlib.Decide.{ℕ-discrete, decLe}
 use native.Mathlib.Omega.{arith}
 use lib.Dec.{leb, ltb, eqb}
-use lib.ListN.{length, take, getD, length-take}
+use lib.ListN.{length, take, drop, getD, length-take}
 use lib.Seq.{getD-take}
-use borrow.Author.Tests.{le-ltb, le-leb, lt-leb, eq-eqb, ne-eqb}
+use borrow.Author.Tests.{ltb-true, leb-true, eqb-true, not-true, lt-ltb, le-ltb, le-leb, lt-leb, eq-eqb, ne-eqb}
 use Rattle.level.specs.Choice.{pick}
 use Rattle.level.specs.Lists.{some, those}
+use Rattle.level.proofs.Lists.{left-cons, left-none}
 use Rattle.records.specs.Codes.{codeNumber}
 use Rattle.validation.specs.declared.Numbered.{Numbered}
 use Rattle.validation.specs.Kept.{effectiveOf, effectOf, superseded, group, highest, present, merged, usedOf, nextTime, usedFrom, used}
 use Rattle.ranking.specs.Found.{foundList}
-use Rattle.choosing.specs.Working.{noNumbered, holding, joined, issueOf, supersedesAt, supersededAt, Rising, Run, Alone}
+use Rattle.choosing.specs.Working.{noNumbered, holding, joined, issueOf, laterOf, latestAt, rises, Rising, hasTime, followsTime, aloneAt, Run}
 use Rattle.choosing.specs.declared.Sequence.{Sequence}
 use Rattle.ranking.specs.declared.Found.{Found}
-use Rattle.choosing.proofs.Laws.{Begun, begun-none, begun-found, supersedes-same, supersedes-other, used-stop, used-more}
+use Rattle.choosing.proofs.Laws.{Begun, begun-none, begun-found, used-stop, used-more}
 
 -- ---- the next time
 abbrev timeAt : List Numbered → ℕ → ℕ
@@ -172,37 +173,113 @@ module _ (end : ℕ) (os : List Numbered) (ts : List ℕ) (n : ℕ) (long : leng
           | no p ↦ absurd (omega (arith, r .before j (omega arith), r .after i (omega arith) h, at i h, at j (omega arith)))
         ]
 
--- ---- one place more is looked at
-pub rising-more : (ts : List ℕ) (i before : ℕ) → before ≤ getD ts i 0 → ((j : ℕ) → j < i → getD ts j 0 ≤ before) → Rising ts i → Rising ts (i + 1)
-rising-more ts i before h least rising j k p l = elim (ℕ-discrete k i) [
-  | no n ↦ rising j k p (omega arith)
-  | yes e ↦ rw e (elim (ℕ-discrete j i) [ yes q ↦ rw q (omega arith) | no q ↦ omega (arith, least j (omega arith)) ])
-]
+-- ---- the times in order
+and-true : (a b : Bool) → (a && b) ≡ true → (a ≡ true) × (b ≡ true)
+and-true true b e = (refl, e)
+and-true false b e = absurd (true≢false (sym e))
 
-pub least-more : (ts : List ℕ) (i before : ℕ) → before ≤ getD ts i 0 → ((j : ℕ) → j < i → getD ts j 0 ≤ before) → (j : ℕ) → j < i + 1 → getD ts j 0 ≤ getD ts i 0
-least-more ts i before h least j l = elim (ℕ-discrete j i) [ yes e ↦ rw e (omega arith) | no n ↦ omega (arith, least j (omega arith)) ]
+-- any two of them
+rising-any : (before : ℕ) (ts : List ℕ) → rises before ts ≡ true → (i j : ℕ) → i ≤ j → j < length ts → (before ≤ getD ts i 0) × (getD ts i 0 ≤ getD ts j 0)
+unfolding rises
+rising-any before [] e i j p l = absurd (omega arith)
+rising-any before (t ∷ ts) e i j p l =
+    let a = and-true (leb before t) (rises t ts) e in
+    go i j p l (leb-true before t (a .0)) (rising-any t ts (a .1))
+  where
+    go : (i j : ℕ) → i ≤ j → j < suc (length ts) → before ≤ t → ((i j : ℕ) → i ≤ j → j < length ts → (t ≤ getD ts i 0) × (getD ts i 0 ≤ getD ts j 0)) →
+        (before ≤ getD (t ∷ ts) i 0) × (getD (t ∷ ts) i 0 ≤ getD (t ∷ ts) j 0)
+    go zero zero p l b ih = omega arith
+    go zero (suc j) p l b ih = omega (arith, ih j j (omega arith) (omega arith))
+    go (suc i) zero p l b ih = absurd (omega arith)
+    go (suc i) (suc j) p l b ih = omega (arith, ih i j (omega arith) (omega arith))
+
+module _ (ts : List ℕ) (n : ℕ) (fits : n ≤ length ts) where
+  pub rises-rising : rises 0 (take n ts) ≡ true → Rising ts n
+  rises-rising e i j p l = rw (getD-take n ts i 0 (omega arith), getD-take n ts j 0 l) at (rising-any 0 (take n ts) e i j p (omega (arith, length-take n ts)) .1)
+
+  -- from the place i on: it is not earlier; it is earlier; none is left
+  module _ (before i : ℕ) where
+    pub rises-next : i < n → before ≤ getD ts i 0 → rises (getD ts i 0) (drop (i + 1) (take n ts)) ≡ rises before (drop i (take n ts))
+    unfolding rises
+    rises-next h e = rw (left-cons ts n i 0 h fits, le-leb before (getD ts i 0) e)
+
+    pub rises-not : i < n → getD ts i 0 < before → false ≡ rises before (drop i (take n ts))
+    unfolding rises
+    rises-not h e = rw (left-cons ts n i 0 h fits, lt-leb before (getD ts i 0) e)
+
+    pub rises-all : n ≤ i → true ≡ rises before (drop i (take n ts))
+    unfolding rises
+    rises-all h = rw (left-none ts n i h)
 
 pub same-more : (ts : List ℕ) (from i t : ℕ) → getD ts i 0 ≡ t → ((j : ℕ) → from ≤ j → j < i → getD ts j 0 ≡ t) → (j : ℕ) → from ≤ j → j < i + 1 → getD ts j 0 ≡ t
 same-more ts from i t e same j p l = elim (ℕ-discrete j i) [ yes q ↦ rw q e | no n ↦ same j p (omega arith) ]
 
--- ---- alone
-pub alone-between : (ts : List ℕ) (n at from r : ℕ) → Rising ts n → at < n → (0 < at → getD ts (at - 1) 0 ≡ getD ts at 0 → ⊥) → from ≡ at + 1 → r ≡ from → Run ts n (getD ts at 0) from r → Alone ts n at
-alone-between ts n at from r rising h before f e run j l ne q = elim (decLe at j) [
-  | yes p ↦ run .other (omega arith) (omega (arith, rising at r (omega arith) (omega arith), rising r j (omega arith) l))
-  | no p ↦ before (omega arith) (omega (arith, rising j (at - 1) (omega arith) (omega arith), rising (at - 1) at (omega arith) h))
-]
+-- ---- neighbours
+pub follows-so : (ts : List ℕ) (at t : ℕ) → followsTime ts at t ≡ true → (0 < at) × (getD ts (at - 1) 0 ≡ t)
+unfolding followsTime
+follows-so ts at t e =
+    let a = and-true (ltb 0 at) (eqb (getD ts (at - 1) 0) t) e in
+    (ltb-true 0 at (a .0), eqb-true (getD ts (at - 1) 0) t (a .1))
 
-supersedes-none : (ts js : List ℕ) (t issue : ℕ) → ((j : ℕ) → j < length ts → supersedesAt (getD ts j 0) (getD js j 0) t issue ≡ false) → supersededAt ts js t issue ≡ false
-unfolding supersededAt
-supersedes-none [] js t issue h = refl
-supersedes-none (x ∷ xs) [] t issue h = refl
-supersedes-none (x ∷ xs) (j ∷ js) t issue h = rw (h 0 (omega arith)) (supersedes-none xs js t issue (λ k l. h (suc k) (omega arith)))
+module _ (ts : List ℕ) (n at : ℕ) where
+  pub alone-no-next : hasTime ts n (at + 1) (getD ts at 0) ≡ true → false ≡ aloneAt ts n at
+  unfolding aloneAt
+  alone-no-next e = rw e
 
-pub alone-stays : (ts js : List ℕ) (n at : ℕ) → at < n → Alone ts n at → supersededAt (take n ts) (take n js) (getD ts at 0) (getD js at 0) ≡ false
-alone-stays ts js n at h alone = supersedes-none (take n ts) (take n js) (getD ts at 0) (getD js at 0) (λ j l. each j (omega (arith, length-take n ts)))
+  pub alone-before : hasTime ts n (at + 1) (getD ts at 0) ≡ false → not (followsTime ts at (getD ts at 0)) ≡ aloneAt ts n at
+  unfolding aloneAt
+  alone-before e = rw e
+
+  -- no other of the first n times is that at this place
+  alone-only : Rising ts n → at < n → aloneAt ts n at ≡ true → (j : ℕ) → j < n → (j ≡ at → ⊥) → getD ts j 0 ≡ getD ts at 0 → ⊥
+  unfolding aloneAt hasTime followsTime
+  alone-only rising h e j l ne q =
+      let t = getD ts at 0 in
+      let next = ltb (at + 1) n && eqb (getD ts (at + 1) 0) t in
+      let before = ltb 0 at && eqb (getD ts (at - 1) 0) t in
+      let a = and-true (not next) (not before) e in
+      elim (decLe at j) [
+        | yes p ↦
+            let s : getD ts (at + 1) 0 ≡ t = omega (arith, rising at (at + 1) (omega arith) (omega arith), rising (at + 1) j (omega arith) l) in
+            true≢false (rw (lt-ltb (at + 1) n (omega arith), eq-eqb _ t s) at (not-true next (a .0)))
+        | no p ↦
+            let s : getD ts (at - 1) 0 ≡ t = omega (arith, rising j (at - 1) (omega arith) (omega arith), rising (at - 1) at (omega arith) h) in
+            true≢false (rw (lt-ltb 0 at (omega arith), eq-eqb _ t s) at (not-true before (a .1)))
+      ]
+
+latest-low : (ts js : List ℕ) (t most : ℕ) → ((j : ℕ) → j < length ts → getD ts j 0 ≡ t → getD js j 0 ≤ most) → latestAt ts js t ≤ most
+unfolding latestAt laterOf
+latest-low [] js t most h = omega arith
+latest-low (x ∷ xs) [] t most h = omega arith
+latest-low (x ∷ xs) (j ∷ js) t most h = go (ℕ-discrete x t) (latest-low xs js t most (λ k l. h (suc k) (omega arith)))
   where
-    each : (j : ℕ) → j < n → supersedesAt (getD (take n ts) j 0) (getD (take n js) j 0) (getD ts at 0) (getD js at 0) ≡ false
-    each j l = rw (getD-take n ts j 0 l, getD-take n js j 0 l) (elim (ℕ-discrete j at) [
-      | no ne ↦ sym (supersedes-other _ _ _ _ (alone j l ne))
-      | yes e ↦ rw e (sym (supersedes-same (getD ts at 0) (getD js at 0) (getD ts at 0) (getD js at 0) refl) ∙ le-ltb (getD js at 0) (getD js at 0) (omega arith))
-    ])
+    go : Dec (x ≡ t) → latestAt xs js t ≤ most → pick (eqb x t) (max j (latestAt xs js t)) (latestAt xs js t) ≤ most
+    go (yes e) ih = rw (eq-eqb x t e) (omega (arith, h 0 (omega arith) e))
+    go (no n) ih = rw (ne-eqb x t n) ih
+
+latest-high : (ts js : List ℕ) (t j : ℕ) → j < length ts → j < length js → getD ts j 0 ≡ t → getD js j 0 ≤ latestAt ts js t
+unfolding latestAt laterOf
+latest-high [] js t j h k e = absurd (omega arith)
+latest-high (x ∷ xs) [] t j h k e = absurd (omega arith)
+latest-high (x ∷ xs) (y ∷ js) t zero h k e = rw (eq-eqb x t e) (omega arith)
+latest-high (x ∷ xs) (y ∷ js) t (suc j) h k e = go (eqb x t) (latest-high xs js t j (omega arith) (omega arith) e)
+  where
+    go : (b : Bool) → getD js j 0 ≤ latestAt xs js t → getD js j 0 ≤ pick b (max y (latestAt xs js t)) (latestAt xs js t)
+    go true ih = omega arith
+    go false ih = ih
+
+-- one alone has the latest issue time itself
+pub alone-latest : (ts js : List ℕ) (n at : ℕ) → at < n → n ≤ length ts → n ≤ length js → (rises 0 (take n ts) && aloneAt ts n at) ≡ true → getD js at 0 ≡ latestAt (take n ts) (take n js) (getD ts at 0)
+alone-latest ts js n at h fits room alone =
+    let low = latest-low (take n ts) (take n js) (getD ts at 0) (getD js at 0) (λ j l. each j (omega (arith, length-take n ts))) in
+    let high = latest-high (take n ts) (take n js) (getD ts at 0) at (omega (arith, length-take n ts)) (omega (arith, length-take n js)) (getD-take n ts at 0 h) in
+    omega (arith, getD-take n js at 0 h)
+  where
+    both : (rises 0 (take n ts) ≡ true) × (aloneAt ts n at ≡ true)
+    both = and-true (rises 0 (take n ts)) (aloneAt ts n at) alone
+
+    only : (j : ℕ) → j < n → (j ≡ at → ⊥) → getD ts j 0 ≡ getD ts at 0 → ⊥
+    only = alone-only ts n at (rises-rising ts n fits (both .0)) h (both .1)
+
+    each : (j : ℕ) → j < n → getD (take n ts) j 0 ≡ getD ts at 0 → getD (take n js) j 0 ≤ getD js at 0
+    each j l = rw (getD-take n ts j 0 l, getD-take n js j 0 l) (elim (ℕ-discrete j at) [ no ne ↦ λ q. absurd (only j l ne q) | yes e ↦ λ q. rw e (omega arith) ])

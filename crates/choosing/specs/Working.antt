@@ -1,9 +1,9 @@
 -- What the code of steps 1 and 2 works with, beside the definitions.
 -- Assumes nothing.
-use Prim.Native.Nat.{ℕ, _+_, _<_, _≤_, min}
+use Prim.Native.Nat.{ℕ, _+_, _-_, _<_, _≤_, min, max}
 use mathlib.Core.Path.{_≡_}
 use mathlib.Core.List.{List, [], _∷_, map}
-use mathlib.Core.Bool.{Bool, false, _&&_, _||_}
+use mathlib.Core.Bool.{Bool, true, _&&_, not}
 use lib.Dec.{leb, ltb, eqb}
 use lib.ListN.{length, set, getD}
 use Rattle.level.specs.Lists.{filled}
@@ -48,14 +48,18 @@ pub record Timed (os : List Numbered) (times issues : List ℕ) : Type 0 where
   pub effective : times ≡ map effectiveOf os
   pub issued : issues ≡ map issueOf os
 
--- the effective time x is t, and its issue time j is later; one of the times is so
-unfoldable pub supersedesAt : ℕ → ℕ → ℕ → ℕ → Bool
-supersedesAt x j t issue = eqb x t && ltb issue j
+-- the latest so far, with one more looked at; the latest issue time of those at the effective time t, 0 where there is none
+unfoldable pub laterOf : ℕ → ℕ → ℕ → ℕ → ℕ
+laterOf x j t best = pick (eqb x t) (max j best) best
 
-unfoldable pub supersededAt : List ℕ → List ℕ → ℕ → ℕ → Bool
-supersededAt [] js t issue = false
-supersededAt (x ∷ xs) [] t issue = false
-supersededAt (x ∷ xs) (j ∷ js) t issue = supersedesAt x j t issue || supersededAt xs js t issue
+unfoldable pub latestAt : List ℕ → List ℕ → ℕ → ℕ
+latestAt [] js t = 0
+latestAt (x ∷ xs) [] t = 0
+latestAt (x ∷ xs) (j ∷ js) t = laterOf x j t (latestAt xs js t)
+
+-- one of those at the effective time t has a later issue time
+abbrev pub supersededAt : List ℕ → List ℕ → ℕ → ℕ → Bool
+supersededAt ts js t issue = ltb issue (latestAt ts js t)
 
 -- the least so far, with one more looked at; the least of the times from t on, else the day's end
 unfoldable pub earlierOf : ℕ → ℕ → ℕ → ℕ
@@ -65,9 +69,26 @@ unfoldable pub nextAt : ℕ → List ℕ → ℕ → ℕ
 nextAt end [] t = end
 nextAt end (x ∷ xs) t = earlierOf x t (nextAt end xs t)
 
--- the first n times stand in order
+-- each of the times is at least the one before it, the first at least `before`
+unfoldable pub rises : ℕ → List ℕ → Bool
+rises before [] = true
+rises before (t ∷ ts) = leb before t && rises t ts
+
+-- so stand the first n times, any two of them
 abbrev pub Rising : List ℕ → ℕ → Type 0
 Rising ts n = (i j : ℕ) → i ≤ j → j < n → getD ts i 0 ≤ getD ts j 0
+
+-- a place is among the first n and has the time t
+unfoldable pub hasTime : List ℕ → ℕ → ℕ → ℕ → Bool
+hasTime ts n at t = ltb at n && eqb (getD ts at 0) t
+
+-- the place before, where there is one, has the time t
+unfoldable pub followsTime : List ℕ → ℕ → ℕ → Bool
+followsTime ts at t = ltb 0 at && eqb (getD ts (at - 1) 0) t
+
+-- neither the next place nor the one before has the time at a place
+unfoldable pub aloneAt : List ℕ → ℕ → ℕ → Bool
+aloneAt ts n at = not (hasTime ts n (at + 1) (getD ts at 0)) && not (followsTime ts at (getD ts at 0))
 
 -- among the first n times, from a place on, the run of t ends before the place r
 pub record Run (ts : List ℕ) (n t from r : ℕ) : Type 0 where
@@ -75,7 +96,3 @@ pub record Run (ts : List ℕ) (n t from r : ℕ) : Type 0 where
   pub ends : r ≤ n
   pub same : (j : ℕ) → from ≤ j → j < r → getD ts j 0 ≡ t
   pub other : r < n → getD ts r 0 ≡ t → ⊥
-
--- no other of the first n times is that at this place
-abbrev pub Alone : List ℕ → ℕ → ℕ → Type 0
-Alone ts n at = (j : ℕ) → j < n → (j ≡ at → ⊥) → getD ts j 0 ≡ getD ts at 0 → ⊥

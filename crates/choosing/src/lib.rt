@@ -1,13 +1,12 @@
 // Which instruction is used at each effective time, steps 1 and 2: over up to forty instructions with their numbers.
 ghost use mathlib.Core.Path.{_≡_};
-ghost use Prim.Native.Nat.{_<_, _≤_};
-ghost use mathlib.Core.Bool.{true};
+ghost use Prim.Native.Nat.{_-_, _<_, _≤_};
+ghost use mathlib.Core.Bool.{_&&_};
 ghost use mathlib.Core.List.{[]};
-ghost use lib.ListN.{length, take};
-ghost use Rattle.validation.specs.declared.Numbered.{Numbered};
+ghost use lib.ListN.{length, take, getD};
 ghost use Rattle.validation.specs.Kept.{numbered, group, usedOf, used};
 ghost use Rattle.ranking.specs.Found.{foundList};
-ghost use Rattle.choosing.specs.Working.{noNumbered, entered, holding, pushed, joined, Timed, supersedesAt, supersededAt, earlierOf, nextAt, Rising, Run, Alone};
+ghost use Rattle.choosing.specs.Working.{noNumbered, entered, holding, pushed, joined, Timed, laterOf, latestAt, hasTime, followsTime, aloneAt, rises, earlierOf, nextAt, Rising, Run};
 
 // Some of the instructions, in order: the first `count` places.
 pub struct Sequence {
@@ -91,31 +90,93 @@ fn push_found(s: Sequence, found: ranking::Found) -> Sequence
 
 // ---- step 1: of equal effective times only the latest issue time stays
 
-// The effective time x is t, and its issue time j is later.
-fn supersedes(x: u32, j: u32, t: u32, issue: u32) -> bool
-    ensures { λ r. ⌜ r ≡ supersedesAt x j t issue ⌝ }
+// The later of the best so far and the issue time j, where its effective time x is t.
+fn later(x: u32, j: u32, t: u32, best: u32) -> u32
+    ensures { λ r. ⌜ r ≡ laterOf x j t best ⌝ }
 {
-    if x == t {
-        return issue < j;
+    if x != t {
+        return best;
     }
-    false
+    if best < j {
+        return j;
+    }
+    best
 }
 
-// One of the first n has the effective time t and a later issue time.
-pub fn is_superseded(times: &[u32; 40], issues: &[u32; 40], n: usize, t: u32, issue: u32) -> bool
+// The latest issue time of those of the first n at the effective time t; 0 where there is none.
+fn latest_at(times: &[u32; 40], issues: &[u32; 40], n: usize, t: u32) -> u32
     requires { ⌜ (n ≤ 40) × (n ≤ length (now times)) × (n ≤ length (now issues)) ⌝ }
-    ensures { λ r. ⌜ r ≡ supersededAt (take n (now (times .entry))) (take n (now (issues .entry))) t issue ⌝ }
+    ensures { λ r. ⌜ r ≡ latestAt (take n (now (times .entry))) (take n (now (issues .entry))) t ⌝ }
 {
-    let mut i: usize = 0;
-    while i < n {
+    let mut best: u32 = 0;
+    let mut i = n;
+    while 0 < i {
+        i -= 1;
         let x = times[i];
         let j = issues[i];
-        if supersedes(x, j, t, issue) {
-            return true;
-        }
-        i += 1;
+        best = later(x, j, t, best);
     }
-    false
+    best
+}
+
+// A place is among the first n and has the time t.
+fn has_time(times: &[u32; 40], n: usize, at: usize, t: u32) -> bool
+    requires { ⌜ n ≤ 40 ⌝ }
+    ensures { λ r. ⌜ r ≡ hasTime (now (times .entry)) n at t ⌝ }
+{
+    if n <= at {
+        return false;
+    }
+    times[at] == t
+}
+
+// The place before has the time t.
+fn follows_time(times: &[u32; 40], at: usize, t: u32) -> bool
+    requires { ⌜ at ≤ 40 ⌝ }
+    ensures { λ r. ⌜ r ≡ followsTime (now (times .entry)) at t ⌝ }
+{
+    if at == 0 {
+        return false;
+    }
+    times[at - 1] == t
+}
+
+// The times stand in order, and neither neighbour of a place has its time: no other has it.
+fn stands_alone(times: &[u32; 40], n: usize, at: usize, ordered: bool) -> bool
+    requires { ⌜ (at < n) × (n ≤ 40) ⌝ }
+    ensures { λ r. ⌜ r ≡ (ordered && aloneAt (now (times .entry)) n at) ⌝ }
+{
+    if !ordered {
+        return false;
+    }
+    let t = times[at];
+    if has_time(times, n, at + 1, t) {
+        return false;
+    }
+    !follows_time(times, at, t)
+}
+
+// The latest issue time of those at the effective time of a place; `before` is that for the place before it.
+pub fn latest_of(
+    times: &[u32; 40],
+    issues: &[u32; 40],
+    n: usize,
+    at: usize,
+    ordered: bool,
+    before: u32,
+) -> u32
+    requires { ⌜ (at < n) × (n ≤ 40) × (n ≤ length (now times)) × (n ≤ length (now issues)) × (ordered ≡ rises 0 (take n (now times))) ⌝ }
+    requires { ⌜ (0 < at → before ≡ latestAt (take n (now times)) (take n (now issues)) (getD (now times) (at - 1) 0)) ⌝ }
+    ensures { λ r. ⌜ r ≡ latestAt (take n (now (times .entry))) (take n (now (issues .entry))) (getD (now (times .entry)) at 0) ⌝ }
+{
+    if stands_alone(times, n, at, ordered) {
+        return issues[at];
+    }
+    let t = times[at];
+    if follows_time(times, at, t) {
+        return before;
+    }
+    latest_at(times, issues, n, t)
 }
 
 // ---- step 2: the one that is used of those left at one effective time
@@ -131,6 +192,7 @@ fn used_at(
     requires { ⌜ (n ≤ 40) × Timed (numbered 1 (take n instructions)) (take n (now times)) (take n (now issues)) ⌝ }
     ensures { λ r. ⌜ foundList r ≡ usedOf (group (numbered 1 (take n instructions)) t) ⌝ }
 {
+    let latest = latest_at(times, issues, n, t);
     let mut best = ranking::Found::Nothing;
     let mut sync = ranking::Found::Nothing;
     let mut desy = ranking::Found::Nothing;
@@ -141,8 +203,7 @@ fn used_at(
         if times[at] != t {
             continue;
         }
-        let issue = issues[at];
-        if is_superseded(times, issues, n, t, issue) {
+        if issues[at] < latest {
             continue;
         }
         let instruction = instructions[at];
@@ -186,10 +247,10 @@ fn next_time(times: &[u32; 40], n: usize, t: u32, end: u32) -> u32
     best
 }
 
-// The times stand in order.
+// The first n times stand in order.
 pub fn in_order(times: &[u32; 40], n: usize) -> bool
-    requires { ⌜ n ≤ 40 ⌝ }
-    ensures { λ r. ⌜ (r ≡ true → Rising (now (times .entry)) n) ⌝ }
+    requires { ⌜ (n ≤ 40) × (n ≤ length (now times)) ⌝ }
+    ensures { λ r. ⌜ r ≡ rises 0 (take n (now (times .entry))) ⌝ }
 {
     let mut before: u32 = 0;
     let mut i: usize = 0;
@@ -217,24 +278,6 @@ fn run_end(times: &[u32; 40], n: usize, t: u32, from: usize) -> usize
         i += 1;
     }
     i
-}
-
-// In order, and with another time on either side: no other has the time at this place.
-pub fn stands_alone(times: &[u32; 40], n: usize, at: usize, ordered: bool) -> bool
-    requires { ⌜ (at < n) × (n ≤ 40) × (ordered ≡ true → Rising (now times) n) ⌝ }
-    ensures { λ r. ⌜ (r ≡ true → Alone (now (times .entry)) n at) ⌝ }
-{
-    if !ordered {
-        return false;
-    }
-    let t = times[at];
-    if at == 0 {
-        return run_end(times, n, t, 1) == 1;
-    }
-    if times[at - 1] == t {
-        return false;
-    }
-    run_end(times, n, t, at + 1) == at + 1
 }
 
 // Those used, where the times stand in order: those at one time stand side by side, and one alone is used as it is.
@@ -312,11 +355,12 @@ pub fn used_in(
     issues: &[u32; 40],
     n: usize,
     end: u32,
+    ordered: bool,
 ) -> Sequence
-    requires { ⌜ (n ≤ 40) × Timed (numbered 1 (take n instructions)) (take n (now times)) (take n (now issues)) ⌝ }
+    requires { ⌜ (n ≤ 40) × (n ≤ length (now times)) × Timed (numbered 1 (take n instructions)) (take n (now times)) (take n (now issues)) × (ordered ≡ rises 0 (take n (now times))) ⌝ }
     ensures { λ r. ⌜ (r ≡ holding (used end (numbered 1 (take n instructions)))) × (r .count ≤ 40) ⌝ }
 {
-    if in_order(times, n) {
+    if ordered {
         return used_ordered(instructions, times, issues, n, end);
     }
     used_any(instructions, times, issues, n, end)

@@ -26,7 +26,7 @@ use Rattle.profile.specs.declared.State.{State}
 use Rattle.profile.specs.State.{byRule}
 use Rattle.profile.specs.Effects.{Followed, idle, begun, goesOn, replaces, stateAt, follow}
 use Rattle.close.specs.declared.Fates.{Fates}
-use Rattle.close.specs.Walk.{fateIn}
+use Rattle.following.specs.Walk.{fateIn}
 use Rattle.close.specs.Laying.{overFate, overAll, laid, laidAll, marksFrom}
 
 -- ---- one fate, case by case

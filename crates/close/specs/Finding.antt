@@ -1,18 +1,14 @@
 -- What close finds, as arrays.
 -- Assumes nothing.
-use Prim.Native.Nat.{ℕ, suc}
+use Prim.Native.Nat.{ℕ}
 use mathlib.Core.List.{List}
 use lib.ListN.{length, take}
-use Rattle.level.specs.Lists.{filled, listFrom}
+use Rattle.level.specs.Lists.{filled}
 use Rattle.records.specs.declared.UnitData.{UnitData}
 use Rattle.records.specs.declared.Opening.{Opening}
 use Rattle.records.specs.declared.Instruction.{Instruction}
-use Rattle.profile.specs.State.{byRule}
-use Rattle.profile.specs.Effects.{stateAt}
-use Rattle.profile.specs.Profile.{Found, found, paper, spansOf, twinTo, closingBy}
-use Rattle.day.specs.Day.{halfHours, daySeconds, noCourse}
-use Rattle.close.specs.declared.Walk.{Walk}
-use Rattle.close.specs.declared.Fates.{Fates}
+use Rattle.profile.specs.Profile.{Found, found, paper}
+use Rattle.day.specs.Day.{halfHours, noCourse}
 use Rattle.close.specs.declared.Finding.{Finding}
 
 -- what is found, as arrays of a fixed length
@@ -28,13 +24,3 @@ arraysOf f = record {
 -- from the first so many of the instructions let in; a count above forty reads like forty
 unfoldable pub findingOf : UnitData → Opening → List Instruction → ℕ → Finding
 findingOf u o is count = arraysOf (found paper halfHours u o (take count is))
-
--- the same, from the walk and the fates laid over
-unfoldable pub findingBy : UnitData → Walk → Fates → Finding
-findingBy u w f = record {
-  fates = f .fates;
-  started = w .started;
-  courses = w .courses;
-  sums = listFrom (twinTo (spansOf u daySeconds (take (w .started) (w .courses)))) 0 (suc halfHours);
-  closing = closingBy (w .now) (stateAt byRule u (w .now) daySeconds);
-}

@@ -15,25 +15,33 @@ use Rattle.level.specs.Choice.{pick}
 use Rattle.level.specs.Level.{grains}
 use Rattle.level.specs.Lists.{listFrom}
 use Rattle.level.proofs.Lists.{by-bool}
+use Rattle.records.specs.declared.Ramp.{Ramp}
 use Rattle.records.specs.declared.UnitData.{UnitData}
 use Rattle.course.specs.declared.Course.{Course}
 use Rattle.course.specs.declared.Piece.{Piece}
+use Rattle.course.specs.Lists.{placeOf}
 use Rattle.course.specs.Course.{trajectoryOf}
 use Rattle.course.specs.Pieces.{piecesIn}
 use Rattle.course.proofs.Near.{Short}
-use Rattle.profile.specs.Profile.{beginOf, spansOf, dayPieces}
-use Rattle.day.specs.Day.{halfHours, daySeconds, noCourse}
+use Rattle.profile.specs.Profile.{beginOf, spansOf, dayPieces, rounded}
+use Rattle.day.specs.Day.{halfHours, daySeconds, noCourse, quantityAt}
 use Rattle.rates.specs.declared.OwnLists.{OwnLists}
 use Rattle.trajectory.specs.declared.Place.{Place}
+use Rattle.trajectory.specs.declared.Reached.{Reached}
+use Rattle.rates.proofs.Anew.{Shared, setAnew, own-anew}
 use Rattle.rates.specs.Ways.{headed, ownLists, listsBy}
-use Rattle.trajectory.specs.Walk.{beginning, pieceBetween, onward, piecesLeft}
+use Rattle.trajectory.specs.Walk.{Known, reachedAt, beginning, pieceBetween, onward}
 use Rattle.trajectory.proofs.Left.{left-none, onward-first, all-left}
 use Rattle.trajectory.proofs.Own.{own-left}
+use Rattle.trajectory.proofs.Courses.{begins-short}
+use Rattle.trajectory.proofs.Goes.{Goes, onward-goes}
+use Rattle.trajectory.proofs.Rest.{known-at}
+use Rattle.summing.proofs.Above.{quantity-is}
 use Rattle.lines.specs.Lines.{fLine, sLine, qLine}
 use Rattle.text.specs.Text.{laid}
 use Rattle.text.proofs.Laws.{laid-part, laid-length}
 use Rattle.listing.specs.Listing.{fLines, sLines, runLines, qLines}
-use Rattle.daylines.specs.Rest.{pieceLine, courseLines, coursesLines, runsFrom, runEnd}
+use Rattle.daylines.specs.Rest.{pieceLine, linesLeft, courseLines, coursesLines, twiceAt, runsFrom, runEnd}
 
 -- what is left, by x and the rest
 pub left-shorter : (left x rest : List ℕ) → left ≡ x ++ rest → length left ≡ length x + length rest
@@ -49,6 +57,10 @@ pub record Laying (whole rest o out : List ℕ) (at : ℕ) : Type 0 where
 -- nothing yet
 pub lay-none : (whole o : List ℕ) → Laying whole whole o o 0
 lay-none whole o = record { done = []; parts = refl; count = refl; filled = refl }
+
+-- x, which comes first, laid at the front
+pub lay-first : (whole x rest o out : List ℕ) (at : ℕ) → whole ≡ x ++ rest → at ≡ length x → out ≡ laid x o → Laying whole rest o out at
+lay-first whole x rest o out at e n f = record { done = x; parts = sym e; count = n; filled = f }
 
 -- what is to come has room, and out is as long as it was
 pub lay-room : (whole rest o out : List ℕ) (at : ℕ) → length whole ≤ length o → Laying whole rest o out at → (at + length rest ≡ length whole) × (length out ≡ length o)
@@ -102,24 +114,49 @@ module _ (fs : List ℕ) (n i : ℕ) where
 
 -- ---- S lines of a course
 
--- those of the pieces from the place p on, up to the second n
-abbrev pub pieces-left : OwnLists → Course → Bool → ℕ → Place → List ℕ
-pieces-left l c up n p = sLines (piecesLeft (headed up) (listsBy l c) (grains (c .target)) n p)
-
 module _ (l : OwnLists) (c : Course) (up : Bool) (n : ℕ) where
   pub pieces-more : (p q : Place) → p .second < n → Short (headed up) (grains (c .target)) (p .level) → q ≡ onward (headed up) (listsBy l c) (grains (c .target)) n p →
-      pieces-left l c up n p ≡ pieceLine p q ++ pieces-left l c up n q
+      linesLeft l c up n p ≡ pieceLine p q ++ linesLeft l c up n q
   unfolding sLines pieceLine pieceBetween
   pieces-more p q h sh e = rw e (ap sLines (onward-first (headed up) (listsBy l c) (grains (c .target)) n p h sh))
 
-  pub pieces-none : (p : Place) → n ≤ p .second → pieces-left l c up n p ≡ []
+  pub pieces-none : (p : Place) → n ≤ p .second → linesLeft l c up n p ≡ []
   unfolding sLines
   pieces-none p h = ap sLines (left-none (headed up) (listsBy l c) (grains (c .target)) n p h)
 
   -- from the beginning: those of the course
   pub pieces-all : (u : UnitData) → l ≡ ownLists u c up → up ≡ ltb (c .start .grains) (grains (c .target)) → (p : Place) → p ≡ beginning c (c .begin) →
-      pieces-left l c up n p ≡ courseLines u c n
+      linesLeft l c up n p ≡ courseLines u c n
   pieces-all u o rises p e = rw e (ap sLines (own-left u c up l o (grains (c .target)) n (beginning c (c .begin)) ∙ all-left u c up rises (c .begin) n))
+
+-- how far a course has been followed: not past its target, with the segment that is known there, if any
+pub record Along (l : OwnLists) (c : Course) (up : Bool) (r : Reached) : Type 0 where
+  pub short : Short (headed up) (grains (c .target)) (r .place .level)
+  pub known : Known (headed up) (listsBy l c) (grains (c .target)) r
+
+-- one piece on, up to the second n: of the lines left, its line comes first
+pub record PieceOn (l : OwnLists) (c : Course) (up : Bool) (n : ℕ) (from to : Reached) : Type 0 where
+  pub along : Along l c up to
+  pub later : from .place .second < to .place .second
+  pub within : to .place .second ≤ n
+  pub line : linesLeft l c up n (from .place) ≡ pieceLine (from .place) (to .place) ++ linesLeft l c up n (to .place)
+
+module _ (l : OwnLists) (c : Course) (up : Bool) where
+  pub along-begins : Short (headed up) (grains (c .target)) (c .start .grains) → Along l c up (reachedAt (headed up) (listsBy l c) (grains (c .target)) (beginning c (c .begin)))
+  unfolding beginning reachedAt
+  along-begins sh = record { short = sh; known = known-at (headed up) (listsBy l c) (grains (c .target)) (beginning c (c .begin)) sh }
+
+  pub piece-on : (n : ℕ) (from to : Reached) → from .place .second < n → Along l c up from →
+      (to .place ≡ onward (headed up) (listsBy l c) (grains (c .target)) n (from .place)) × Known (headed up) (listsBy l c) (grains (c .target)) to → PieceOn l c up n from to
+  piece-on n from to h a e =
+      let p : Place = from .place in
+      let g : Goes (headed up) (listsBy l c) (grains (c .target)) n p (to .place) = rw (e .0) (onward-goes (headed up) (listsBy l c) (grains (c .target)) n p h (a .short)) in
+      record {
+        along = record { short = g .short; known = e .1 };
+        later = g .later;
+        within = g .within;
+        line = pieces-more l c up n p (to .place) h (a .short) (e .0);
+      }
 
 -- ---- S lines of courses
 s-append : (ps qs : List Piece) → sLines (ps ++ qs) ≡ sLines ps ++ sLines qs
@@ -130,18 +167,18 @@ s-append (p ∷ ps) qs =
     ap (λ (l : List ℕ). x ++ l) (s-append ps qs) ∙ sym (append-assoc x (sLines ps) (sLines qs))
 
 -- where the next course begins, else the day's end
-pub end-next : (cs : List Course) (n i : ℕ) → i < min n (length cs) → getD cs i noCourse .begin ≡ beginOf daySeconds (drop i (take n cs))
+end-next : (cs : List Course) (n i : ℕ) → i < min n (length cs) → getD cs i noCourse .begin ≡ beginOf daySeconds (drop i (take n cs))
 unfolding beginOf
 end-next cs n i h =
     let ds : List Course = take n cs in
     sym (ap (beginOf daySeconds) (drop-cons ds i noCourse (omega (arith, length-take n cs))) ∙ ap (λ (c : Course). c .begin) (getD-take n cs i noCourse (omega arith)))
 
-pub end-last : (cs : List Course) (n i : ℕ) → min n (length cs) ≤ i → 86400 ≡ beginOf daySeconds (drop i (take n cs))
+end-last : (cs : List Course) (n i : ℕ) → min n (length cs) ≤ i → 86400 ≡ beginOf daySeconds (drop i (take n cs))
 unfolding beginOf
 end-last cs n i h = sym (ap (beginOf daySeconds) (drop-of-length-le (take n cs) {i = i} (omega (arith, length-take n cs))))
 
 -- where the course at the place i ends, of the first `started`
-pub end-is : (cs : List Course) (started n i : ℕ) → length cs ≡ 41 → n ≡ min started 41 → i < n →
+end-is : (cs : List Course) (started n i : ℕ) → length cs ≡ 41 → n ≡ min started 41 → i < n →
     pick (ltb (i + 1) n) (getD cs (min (i + 1) 40) noCourse .begin) daySeconds ≡ beginOf daySeconds (drop (i + 1) (take started cs))
 end-is cs started n i e f h = elim (decLe (suc (i + 1)) n) [
   | yes k ↦ simp (lt-ltb (i + 1) n k) (ap (λ (j : ℕ). getD cs j noCourse .begin) {x = min (i + 1) 40} {y = i + 1} (omega arith) ∙ end-next cs started (i + 1) (omega arith))
@@ -153,7 +190,7 @@ abbrev pub courses-left : UnitData → List Course → ℕ → ℕ → List ℕ
 courses-left u cs n i = coursesLines u (drop i (take n cs))
 
 module _ (u : UnitData) (cs : List Course) (n i : ℕ) where
-  pub courses-more : (end : ℕ) → i < min n (length cs) → end ≡ beginOf daySeconds (drop (i + 1) (take n cs)) →
+  courses-more : (end : ℕ) → i < min n (length cs) → end ≡ beginOf daySeconds (drop (i + 1) (take n cs)) →
       courses-left u cs n i ≡ courseLines u (getD cs i noCourse) end ++ courses-left u cs n (i + 1)
   unfolding coursesLines spansOf dayPieces
   courses-more end h e =
@@ -168,6 +205,25 @@ module _ (u : UnitData) (cs : List Course) (n i : ℕ) where
   pub courses-none : min n (length cs) ≤ i → courses-left u cs n i ≡ []
   unfolding coursesLines spansOf dayPieces sLines
   courses-none h = ap (coursesLines u) (drop-of-length-le (take n cs) {i = i} (omega (arith, length-take n cs)))
+
+-- the lines of the course at the place i come next
+module _ (u : UnitData) (cs : List Course) (started n i : ℕ) (all : length cs ≡ 41) (few : n ≡ min started 41) (within : i < n) where
+  abbrev this : Course
+  this = getD cs i noCourse
+
+  pub course-next : (l : OwnLists) (up : Bool) (at j end : ℕ) (ramp : Ramp) → Shared u l → up ≡ ltb (this .start .grains) (grains (this .target)) →
+      at ≡ placeOf (this .heat) → ramp ≡ pick up (u .up) (u .down) → j ≡ min (i + 1) 40 → end ≡ pick (ltb (i + 1) n) (getD cs j noCourse .begin) daySeconds →
+      Short (headed up) (grains (this .target)) (this .start .grains)
+      × (courses-left u cs started i ≡ linesLeft (setAnew u l at ramp) this up end (beginning this (this .begin)) ++ courses-left u cs started (i + 1))
+  unfolding beginning
+  course-next l up at j end ramp s rises e r k ends =
+      let own : setAnew u l at ramp ≡ ownLists u this up = own-anew u l this up at ramp s e r in
+      let to : end ≡ beginOf daySeconds (drop (i + 1) (take started cs)) = ends
+      ∙ ap (λ (m : ℕ). pick (ltb (i + 1) n) (getD cs m noCourse .begin) daySeconds) k ∙ end-is cs started n i all few within in
+      let lines = pieces-all (setAnew u l at ramp) this up end u own rises (beginning this (this .begin)) refl in (
+        begins-short u this up rises (this .begin),
+        courses-more u cs started i end (omega arith) to ∙ ap (λ (ls : List ℕ). ls ++ courses-left u cs started (i + 1)) (sym lines),
+      )
 
 -- ---- Q lines
 
@@ -218,7 +274,7 @@ module _ (f : ℕ → ℕ) where
   quantities-all = refl
 
   -- where a run ends
-  pub end-on : (k i n : ℕ) → 0 < n → f i ≡ k → runEnd f k i n ≡ runEnd f k (i + 1) (n - 1)
+  end-on : (k i n : ℕ) → 0 < n → f i ≡ k → runEnd f k i n ≡ runEnd f k (i + 1) (n - 1)
   unfolding runEnd
   end-on k i zero h e = absurd (omega arith)
   end-on k i (suc n) h e = simp (eq-eqb (f i) k e) (λ j. runEnd f k (sym (add-one i) j) (less j))
@@ -226,7 +282,7 @@ module _ (f : ℕ → ℕ) where
       less : n ≡ suc n - 1
       less = omega arith
 
-  pub end-here : (k i n : ℕ) → 0 < n → (f i ≡ k → ⊥) → runEnd f k i n ≡ i
+  end-here : (k i n : ℕ) → 0 < n → (f i ≡ k → ⊥) → runEnd f k i n ≡ i
   unfolding runEnd
   end-here k i zero h e = absurd (omega arith)
   end-here k i (suc n) h e = simp (ne-eqb (f i) k e)
@@ -235,3 +291,18 @@ module _ (f : ℕ → ℕ) where
   unfolding runEnd
   end-none k i zero h = refl
   end-none k i (suc n) h = absurd (omega arith)
+
+-- a quantity by twice the area of its half-hour
+module _ (sums : List ℕ) (i : ℕ) where
+  pub quantity-here : (twice kw : ℕ) → twice ≡ twiceAt sums i → kw ≡ rounded twice → kw ≡ quantityAt sums i
+  quantity-here twice kw t e = e ∙ ap rounded t ∙ quantity-is sums i
+
+  -- a run of kw goes on, or ends here
+  module _ (kw : ℕ) (within : i < 48) where
+    pub run-on : quantityAt sums i ≡ kw → runEnd (quantityAt sums) kw (i + 1) (48 - (i + 1)) ≡ runEnd (quantityAt sums) kw i (48 - i)
+    run-on e =
+        ap (runEnd (quantityAt sums) kw (i + 1)) {x = 48 - (i + 1)} {y = 48 - i - 1} (omega arith)
+        ∙ sym (end-on (quantityAt sums) kw i (48 - i) (omega arith) e)
+
+    pub run-ends : (quantityAt sums i ≡ kw → ⊥) → i ≡ runEnd (quantityAt sums) kw i (48 - i)
+    run-ends ne = sym (end-here (quantityAt sums) kw i (48 - i) (omega arith) ne)

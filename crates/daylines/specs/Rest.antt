@@ -1,10 +1,12 @@
 -- The lines of a day, kind by kind, and what is left of each kind to print.
 -- Assumes nothing.
-use Prim.Native.Nat.{ℕ, zero, suc}
+use Prim.Native.Nat.{ℕ, zero, suc, _+_, _-_}
+use mathlib.Core.Bool.{Bool}
 use mathlib.Core.List.{List, []}
 use lib.Dec.{eqb}
-use lib.ListN.{take}
+use lib.ListN.{take, getD}
 use Rattle.level.specs.Choice.{pick}
+use Rattle.level.specs.Level.{grains}
 use Rattle.level.specs.Lists.{listFrom}
 use Rattle.records.specs.declared.UnitData.{UnitData}
 use Rattle.course.specs.declared.Course.{Course}
@@ -13,7 +15,10 @@ use Rattle.course.specs.Pieces.{piecesIn}
 use Rattle.profile.specs.declared.Closing.{Closing}
 use Rattle.profile.specs.Profile.{spansOf, dayPieces}
 use Rattle.day.specs.Day.{halfHours, daySeconds, quantityAt}
+use Rattle.rates.specs.declared.OwnLists.{OwnLists}
+use Rattle.rates.specs.Ways.{headed, listsBy}
 use Rattle.trajectory.specs.declared.Place.{Place}
+use Rattle.trajectory.specs.Walk.{piecesLeft}
 use Rattle.lines.specs.Lines.{sLine, eLine}
 use Rattle.listing.specs.Listing.{fLines, sLines, runLines, qLines}
 
@@ -24,6 +29,10 @@ fateLines n fates = fLines 1 (take n fates)
 -- the S line of the straight piece from one place of a course to another
 unfoldable pub pieceLine : Place → Place → List ℕ
 pieceLine p q = sLine (p .second) (q .second) (p .level) (q .level)
+
+-- the S lines from the place p on, of a course that goes by its own lists and lasts to the second n
+abbrev pub linesLeft : OwnLists → Course → Bool → ℕ → Place → List ℕ
+linesLeft l c up n p = sLines (piecesLeft (headed up) (listsBy l c) (grains (c .target)) n p)
 
 -- the S lines of a course that lasts to the second n
 abbrev pub courseLines : UnitData → Course → ℕ → List ℕ
@@ -36,6 +45,10 @@ coursesLines u cs = sLines (dayPieces (spansOf u daySeconds cs))
 -- the Q lines of a day of these sums
 abbrev pub quantityLines : List ℕ → List ℕ
 quantityLines sums = qLines (listFrom (quantityAt sums) 0 halfHours)
+
+-- twice the area of the half-hour from the boundary i on
+abbrev pub twiceAt : List ℕ → ℕ → ℕ
+twiceAt sums i = getD sums (i + 1) 0 - getD sums i 0
 
 -- the Q lines of the half-hours from the boundary i on, n of them, where f gives the quantity of each
 unfoldable pub runsFrom : (ℕ → ℕ) → ℕ → ℕ → List ℕ

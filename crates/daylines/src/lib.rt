@@ -3,9 +3,14 @@ ghost use mathlib.Core.Path.{_≡_};
 ghost use Prim.Native.Nat.{_+_, _-_, min, _<_, _≤_};
 ghost use lib.ListN.{length, take};
 ghost use Rattle.level.specs.Choice.{pick};
+ghost use Rattle.level.specs.Level.{grains};
+ghost use Rattle.course.proofs.Near.{Short};
+ghost use Rattle.profile.specs.Profile.{rounded};
 ghost use Rattle.day.specs.Day.{daySeconds, quantityAt};
+ghost use Rattle.rates.specs.Ways.{headed};
+ghost use Rattle.trajectory.specs.Walk.{beginning};
 ghost use Rattle.text.specs.Text.{laid};
-ghost use Rattle.daylines.specs.Rest.{fateLines, pieceLine, courseLines, coursesLines, quantityLines, runEnd, closingLine};
+ghost use Rattle.daylines.specs.Rest.{fateLines, pieceLine, linesLeft, coursesLines, quantityLines, twiceAt, runEnd, closingLine};
 
 // A count that reads like the places there are, where it is larger.
 fn at_most(n: usize, places: usize) -> usize
@@ -65,7 +70,7 @@ fn piece_width(p: trajectory::Place, q: trajectory::Place) -> usize
 }
 
 // The line of the straight piece from p to q.
-pub fn put_piece(out: &mut [u8], p: trajectory::Place, q: trajectory::Place) -> usize
+fn put_piece(out: &mut [u8], p: trajectory::Place, q: trajectory::Place) -> usize
     requires { ⌜ length (pieceLine p q) ≤ length (now out) ⌝ }
     ensures { λ r. ⌜ (r ≡ length (pieceLine p q)) × (now (out .exit) ≡ laid (pieceLine p q) (now (out .entry))) ⌝ }
 {
@@ -74,64 +79,71 @@ pub fn put_piece(out: &mut [u8], p: trajectory::Place, q: trajectory::Place) -> 
     lines::put_s(out, from, to, p.level, q.level)
 }
 
-// The width of the lines of a course, from where it begins to the second n.
-fn course_width(u: records::UnitData, c: course::Course, n: u32) -> usize
-    ensures { λ r. ⌜ (r ≡ length (courseLines u c n)) × (r ≤ 369367187370) ⌝ }
+// The width of the lines of a course that goes by its own lists, from where it begins to the second n.
+fn course_width(l: rates::OwnLists, c: course::Course, up: bool, n: u32) -> usize
+    requires { ⌜ Short (headed up) (grains (c .target)) (c .start .grains) ⌝ }
+    ensures { λ r. ⌜ (r ≡ length (linesLeft l c up n (beginning c (c .begin)))) × (r ≤ 369367187370) ⌝ }
 {
-    let up = trajectory::is_rising(c);
-    let l = rates::own_lists(u, c, up);
-    let mut p = trajectory::begin_at(c, c.begin);
+    let mut from = trajectory::begin_at(l, c, up, 0);
     let mut width: usize = 0;
-    while p.second < n {
-        let q = trajectory::walk_on(l, c, up, p, n);
+    while from.place.second < n {
+        let to = trajectory::walk_on(l, c, up, from, n);
+        let p = from.place;
+        let q = to.place;
         width += piece_width(p, q);
-        p = q;
+        from = to;
     }
     width
 }
 
-// The lines of a course, from where it begins to the second n.
-fn put_course(out: &mut [u8], u: records::UnitData, c: course::Course, n: u32) -> usize
-    requires { ⌜ length (courseLines u c n) ≤ length (now out) ⌝ }
-    ensures { λ r. ⌜ (r ≡ length (courseLines u c n)) × (now (out .exit) ≡ laid (courseLines u c n) (now (out .entry))) ⌝ }
+// The lines of a course that goes by its own lists, from where it begins to the second n.
+fn put_course(out: &mut [u8], l: rates::OwnLists, c: course::Course, up: bool, n: u32) -> usize
+    requires { ⌜ Short (headed up) (grains (c .target)) (c .start .grains) ⌝ }
+    requires { ⌜ length (linesLeft l c up n (beginning c (c .begin))) ≤ length (now out) ⌝ }
+    ensures { λ r. ⌜ (r ≡ length (linesLeft l c up n (beginning c (c .begin)))) × (now (out .exit) ≡ laid (linesLeft l c up n (beginning c (c .begin))) (now (out .entry))) ⌝ }
 {
-    let up = trajectory::is_rising(c);
-    let l = rates::own_lists(u, c, up);
-    let mut p = trajectory::begin_at(c, c.begin);
+    let mut from = trajectory::begin_at(l, c, up, 0);
     let mut at: usize = 0;
-    while p.second < n {
-        let q = trajectory::walk_on(l, c, up, p, n);
+    while from.place.second < n {
+        let to = trajectory::walk_on(l, c, up, from, n);
+        let p = from.place;
+        let q = to.place;
         let w = put_piece(&mut out[at..], p, q);
         at += w;
-        p = q;
+        from = to;
     }
     at
 }
 
 // Where a course ends: where the next one begins, if there is one, else at the day's end.
-fn end_of(more: bool, next: course::Course) -> u32
-    ensures { λ r. ⌜ r ≡ pick more (next .begin) daySeconds ⌝ }
+fn end_of(more: bool, next: u32) -> u32
+    ensures { λ r. ⌜ r ≡ pick more next daySeconds ⌝ }
 {
     if more {
-        return next.begin;
+        return next;
     }
     86400
 }
 
-// The width of the lines of the first `started` courses.
+// The width of the lines of the first `started` courses. Of a course's own lists only column and ramp are set anew.
 pub fn courses_width(u: records::UnitData, cs: [course::Course; 41], started: usize) -> usize
     ensures { λ r. ⌜ (r ≡ length (coursesLines u (take started cs))) × (r ≤ 15144054682170) ⌝ }
 {
     let n = at_most(started, 41);
+    let first = cs[0];
+    let mut l = rates::own_lists(u, first, true);
     let mut width: usize = 0;
     let mut i: usize = 0;
     while i < n {
         let c = cs[i];
-        let j = at_most(i + 1, 40);
-        let next = cs[j];
-        let end = end_of(i + 1 < n, next);
-        width += course_width(u, c, end);
         i += 1;
+        let j = at_most(i, 40);
+        let end = end_of(i < n, cs[j].begin);
+        let up = trajectory::is_rising(c);
+        let heat = rates::place_of(c.heat);
+        l.column = u.columns[heat];
+        l.ramp = rates::ramp_of(up, u.up, u.down);
+        width += course_width(l, c, up, end);
     }
     width
 }
@@ -147,58 +159,72 @@ pub fn put_courses(
     ensures { λ r. ⌜ (r ≡ length (coursesLines u (take started cs))) × (now (out .exit) ≡ laid (coursesLines u (take started cs)) (now (out .entry))) ⌝ }
 {
     let n = at_most(started, 41);
+    let first = cs[0];
+    let mut l = rates::own_lists(u, first, true);
     let mut at: usize = 0;
     let mut i: usize = 0;
     while i < n {
         let c = cs[i];
-        let j = at_most(i + 1, 40);
-        let next = cs[j];
-        let end = end_of(i + 1 < n, next);
-        let w = put_course(&mut out[at..], u, c, end);
-        at += w;
         i += 1;
+        let j = at_most(i, 40);
+        let end = end_of(i < n, cs[j].begin);
+        let up = trajectory::is_rising(c);
+        let heat = rates::place_of(c.heat);
+        l.column = u.columns[heat];
+        l.ramp = rates::ramp_of(up, u.up, u.down);
+        let w = put_course(&mut out[at..], l, c, up, end);
+        at += w;
     }
     at
 }
 
 // ---- Q lines
 
-// The quantity (kW) of the half-hour from the boundary i on.
-fn quantity_at(sums: &[u64; 49], i: usize) -> u64
+// Twice the area of the half-hour from the boundary i on; 0 where the sums fall.
+fn twice_at(sums: &[u64; 49], i: usize) -> u64
     requires { ⌜ i < 48 ⌝ }
-    ensures { λ r. ⌜ r ≡ quantityAt (now (sums .entry)) i ⌝ }
+    ensures { λ r. ⌜ r ≡ twiceAt (now (sums .entry)) i ⌝ }
 {
     let before = sums[i];
     let after = sums[i + 1];
-    summing::quantity_between(before, after)
+    if after < before {
+        return 0;
+    }
+    after - before
 }
 
-// The boundary at which a run of the quantity kw ends, from the boundary `from` on.
-fn run_end(sums: &[u64; 49], kw: u64, from: usize) -> usize
-    requires { ⌜ from ≤ 48 ⌝ }
+// The boundary at which a run of the quantity kw ends, from the boundary `from` on; `twice` is an area that gives kw, and
+// the same area needs no rounding.
+fn run_end(sums: &[u64; 49], twice: u64, kw: u64, from: usize) -> usize
+    requires { ⌜ (from ≤ 48) × (kw ≡ rounded twice) ⌝ }
     ensures { λ r. ⌜ (r ≡ runEnd (quantityAt (now (sums .entry))) kw from (48 - from)) × (from ≤ r) × (r ≤ 48) ⌝ }
 {
     let mut i = from;
     while i < 48 {
-        let q = quantity_at(sums, i);
-        if q != kw {
-            return i;
-        }
+        let at = i;
         i += 1;
+        let x = twice_at(sums, at);
+        if x == twice {
+            continue;
+        }
+        if summing::quantity_of(x) != kw {
+            return at;
+        }
     }
     i
 }
 
 // The width of the lines of the day's quantities.
-pub fn quantities_width(sums: [u64; 49]) -> usize
-    ensures { λ r. ⌜ (r ≡ length (quantityLines sums)) × (r ≤ 3120) ⌝ }
+pub fn quantities_width(sums: &[u64; 49]) -> usize
+    ensures { λ r. ⌜ (r ≡ length (quantityLines (now (sums .entry)))) × (r ≤ 3120) ⌝ }
 {
     let mut width: usize = 0;
     let mut i: usize = 0;
     while i < 48 {
-        let kw = quantity_at(&sums, i);
+        let twice = twice_at(sums, i);
+        let kw = summing::quantity_of(twice);
         let first = i + 1;
-        let last = run_end(&sums, kw, first);
+        let last = run_end(sums, twice, kw, first);
         width += widths::q_width(first as u64, last as u64, kw);
         i = last;
     }
@@ -206,17 +232,18 @@ pub fn quantities_width(sums: [u64; 49]) -> usize
 }
 
 // The lines of the day's quantities.
-pub fn put_quantities(out: &mut [u8], sums: [u64; 49]) -> usize
-    requires { ⌜ length (quantityLines sums) ≤ length (now out) ⌝ }
-    ensures { λ r. ⌜ (r ≡ length (quantityLines sums)) × (now (out .exit) ≡ laid (quantityLines sums) (now (out .entry))) ⌝ }
+pub fn put_quantities(out: &mut [u8], sums: &[u64; 49]) -> usize
+    requires { ⌜ length (quantityLines (now sums)) ≤ length (now out) ⌝ }
+    ensures { λ r. ⌜ (r ≡ length (quantityLines (now (sums .entry)))) × (now (out .exit) ≡ laid (quantityLines (now (sums .entry))) (now (out .entry))) ⌝ }
 {
     let mut at: usize = 0;
     let mut i: usize = 0;
     while i < 48 {
-        let quantity = quantity_at(&sums, i);
+        let twice = twice_at(sums, i);
+        let kw = summing::quantity_of(twice);
         let first = i + 1;
-        let last = run_end(&sums, quantity, first);
-        let w = lines::put_q(&mut out[at..], first as u64, last as u64, quantity);
+        let last = run_end(sums, twice, kw, first);
+        let w = lines::put_q(&mut out[at..], first as u64, last as u64, kw);
         at += w;
         i = last;
     }

@@ -7,24 +7,18 @@ use mathlib.Core.Bool.{Bool, true, false, _&&_}
 use native.Mathlib.Nat.{mul-le-mul-right}
 use native.Mathlib.Decide.{ℕ-discrete}
 use native.Mathlib.Omega.{arith}
-use lib.Dec.{eqb, ltb}
+use lib.Dec.{eqb}
 use borrow.Author.Tests.{eq-eqb, ne-eqb, lt-ltb}
 use Rattle.level.specs.Choice.{pick}
-use Rattle.level.specs.Level.{grains}
-use Rattle.records.specs.declared.UnitData.{UnitData}
-use Rattle.course.specs.declared.Course.{Course}
-use Rattle.course.specs.Course.{Trajectory, Heading, rising, falling, Moment, heading, second, after, momentAt, levelAt, trajectoryOf}
+use Rattle.course.specs.Course.{Trajectory, Heading, rising, falling, Moment, heading, second, after, momentAt, levelAt}
 use Rattle.course.specs.Pieces.{piece}
-use Rattle.course.proofs.Near.{Short}
 use Rattle.course.proofs.Pieces.{Along, Line, Traces}
 use Rattle.trajectory.specs.declared.Place.{Place}
-use Rattle.rates.specs.Ways.{headed, listsIn}
-use Rattle.trajectory.specs.Walk.{momentOf, beginning, onward}
+use Rattle.trajectory.specs.Walk.{momentOf}
 use Rattle.trajectory.proofs.Seconds.{after-add}
-use Rattle.trajectory.proofs.Goes.{Goes, onward-goes}
-use Rattle.trajectory.proofs.Courses.{heading-is, begins-short}
+use Rattle.trajectory.proofs.Goes.{Goes}
 use Rattle.profile.specs.State.{held, watchNext, watch, byRule}
-use Rattle.effects.specs.Watching.{offStarting, offBetween}
+use Rattle.effects.specs.Watching.{offBetween}
 
 -- the one piece of a straight part
 the-line : (h : Heading) (f : ℕ → ℕ) (a b v w : ℕ) → a < b → Traces h f a b (piece a b v w) → Line h f (record { from = a; to = b; enter = v; leave = w })
@@ -151,41 +145,3 @@ module _ (c : Trajectory) (off : ℕ) where
   state-there p k at e =
       (λ i. record { level = (ap (λ (m : Moment). m .level) (e ∙ sym (watch-moment (p .second)))) i; off = watch c off (p .second) .off })
       ∙ ap (λ (j : ℕ). record { level = watch c off j .moment .level; off = watch c off j .off }) at
-
--- ---- along a course, up to the second k
-module _ (u : UnitData) (c : Course) (before k : ℕ) (up : Bool) where
-  -- at the place p, with so many seconds off
-  pub record Watched (p : Place) (off : ℕ) : Type 0 where
-    pub rises : up ≡ ltb (c .start .grains) (grains (c .target))
-    pub within : p .second ≤ k
-    pub short : Short (headed up) (grains (c .target)) (p .level)
-    pub moment : momentOf p ≡ momentAt (trajectoryOf u c) (p .second)
-    pub off-is : off ≡ watch (trajectoryOf u c) before (p .second) .off
-
-  pub watched-start : up ≡ ltb (c .start .grains) (grains (c .target)) → Watched (beginning c 0) (offStarting c before)
-  unfolding beginning offStarting momentAt after watch trajectoryOf
-  watched-start r = record { rises = r; within = omega arith; short = begins-short u c up r 0; moment = refl; off-is = refl }
-
-  module _ (p : Place) (off : ℕ) (w : Watched p off) (to-go : p .second < k) where
-    pub watched-goes : Goes (headed up) (listsIn u c) (grains (c .target)) k p (onward (headed up) (listsIn u c) (grains (c .target)) k p)
-    watched-goes = onward-goes (headed up) (listsIn u c) (grains (c .target)) k p to-go (w .short)
-
-    turned : Goes (heading (trajectoryOf u c)) (trajectoryOf u c .lists) (trajectoryOf u c .target) k p (onward (headed up) (listsIn u c) (grains (c .target)) k p)
-    unfolding trajectoryOf
-    turned = rw (heading-is u c up (w .rises)) watched-goes
-
-    pub watched-on : (q : Place) (o : ℕ) → q ≡ onward (headed up) (listsIn u c) (grains (c .target)) k p → o ≡ offBetween p q off → Watched q o
-    watched-on q o e f =
-        let g : Goes (heading (trajectoryOf u c)) (trajectoryOf u c .lists) (trajectoryOf u c .target) k p q = rw e turned in
-        let h : Goes (headed up) (listsIn u c) (grains (c .target)) k p q = rw e watched-goes in
-        record {
-          rises = w .rises;
-          within = h .within;
-          short = h .short;
-          moment = moment-on (trajectoryOf u c) before k p q (w .moment) g;
-          off-is = f ∙ ap (offBetween p q) (w .off-is) ∙ sym (off-on (trajectoryOf u c) before k p q (w .moment) g);
-        }
-
-  pub watched-end : (p : Place) (off : ℕ) → Watched p off → k ≤ p .second → (record { level = p .level; off = off }) ≡ byRule (trajectoryOf u c) before k
-  watched-end p off w h =
-      (λ i. record { level = p .level; off = (w .off-is) i }) ∙ state-there (trajectoryOf u c) before p k (omega (arith, w .within)) (w .moment)

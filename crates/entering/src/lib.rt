@@ -1,189 +1,142 @@
-// Taking a unit, an opening or an instruction into a day.
+// A unit, an opening or an instruction at the front of the input, as a day with this state answers it: the refusals in the
+// paper's order, and what the record says. A slice of any kind is read as one of the kind asked for.
 ghost use mathlib.Core.Path.{_≡_};
-ghost use Prim.Native.Nat.{_<_, _≤_};
-ghost use lib.ListN.{length, getD};
-ghost use mathlib.Core.Bool.{true};
-ghost use Rattle.day.specs.Step.{tooHigh, stepOf};
-ghost use Rattle.entering.specs.Kinds.{refuse, accept, unitStep, openingTaken, openingStep, instructionStep, LetsIn};
-use day::Day;
-use day::Stepped;
+ghost use Prim.Native.Nat.{_<_};
+ghost use Rattle.day.specs.Step.{tooHigh};
+ghost use Rattle.entering.specs.Fronts.{unitRefused, openingRefused, instructionRefused, unitFront, belowMaximum, openingFront, instructionFront, closeFront};
+use fields::InstructionRead;
+use fields::OpeningRead;
 use records::Answer;
 use records::Refusal;
+use units::UnitRead;
 
-// A refusal: its number, the same day, nothing used.
-pub fn refused(day: Day, r: Refusal) -> Stepped
-    ensures { λ s. ⌜ s ≡ refuse r day ⌝ }
+// A unit that is refused unread: zeros.
+fn refuse_unit(r: Refusal) -> UnitRead
+    ensures { λ u. ⌜ u ≡ unitRefused r ⌝ }
 {
     let answer = Answer::Refused(r);
-    Stepped {
-        answer,
-        day,
-        used: 0,
-    }
-}
-
-pub fn accepted(day: Day, used: usize) -> Stepped
-    ensures { λ s. ⌜ s ≡ accept day used ⌝ }
-{
-    let answer = Answer::Accepted;
-    Stepped { answer, day, used }
-}
-
-// The step of a unit's body.
-fn unit_step(day: Day, body: &[u8]) -> Stepped
-    ensures { λ r. ⌜ r ≡ unitStep day (now (body .entry)) ⌝ }
-{
-    if day.hasUnit {
-        return refused(day, Refusal::SecondOne);
-    }
-    let ns = unitbody::unit_numbers(body);
-    let answer = units::unit_answer(ns);
-    match answer {
-        Answer::Refused(r) => refused(day, r),
-        Answer::Accepted => {
-            let unit = unitbody::unit_of(ns);
-            let next = day::with_unit(day, unit);
-            accepted(next, 249)
-        }
-    }
-}
-
-// Refusal 22: level or target above the short-term maximum, or seconds off with a level above 0.
-pub fn too_high(unit: records::UnitData, o: records::Opening) -> bool
-    ensures { λ r. ⌜ r ≡ tooHigh unit o ⌝ }
-{
-    let most = level::Level::from_kw(unit.maximum);
-    let level = o.level as u64;
-    if most.grains < level {
-        return true;
-    }
-    if unit.maximum < o.target {
-        return true;
-    }
-    if level == 0 {
-        return false;
-    }
-    0 < o.off
-}
-
-// An opening whose fields fit, of a day with a unit and no opening.
-fn opening_taken(day: Day, o: records::Opening) -> Stepped
-    ensures { λ r. ⌜ r ≡ openingTaken day o ⌝ }
-{
-    let unit = day.unit;
-    let high = too_high(unit, o);
-    if high {
-        return refused(day, Refusal::OpeningTooHigh);
-    }
-    let next = day::with_opening(day, o);
-    accepted(next, 17)
-}
-
-// The step of an opening's body.
-fn opening_step(day: Day, body: &[u8]) -> Stepped
-    ensures { λ r. ⌜ r ≡ openingStep day (now (body .entry)) ⌝ }
-{
-    if day.hasOpening {
-        return refused(day, Refusal::SecondOne);
-    }
-    if !day.hasUnit {
-        return refused(day, Refusal::BeforeUnit);
-    }
-    let answer = fields::opening_answer(body);
-    match answer {
-        Answer::Refused(r) => refused(day, r),
-        Answer::Accepted => {
-            let o = fields::opening_of(body);
-            opening_taken(day, o)
-        }
-    }
-}
-
-// The step of an instruction's body.
-fn instruction_step(day: Day, body: &[u8]) -> Stepped
-    ensures { λ r. ⌜ r ≡ instructionStep day (now (body .entry)) ⌝ }
-{
-    if !day.hasUnit {
-        return refused(day, Refusal::BeforeUnit);
-    }
-    if 40 <= day.count {
-        return refused(day, Refusal::TooManyInstructions);
-    }
-    let answer = fields::instruction_answer(86400, body);
-    match answer {
-        Answer::Refused(r) => refused(day, r),
-        Answer::Accepted => {
-            let i = fields::instruction_of(body);
-            let next = day::with_instruction(day, i);
-            accepted(next, 22)
-        }
-    }
+    let unit = day::no_unit();
+    UnitRead { answer, unit }
 }
 
 // A unit at the front of the input.
-pub fn unit_front(day: Day, input: &[u8]) -> Stepped
-    requires { ⌜ (1 ≤ length (now input)) × (getD (now input) 0 0 ≡ 1) ⌝ }
-    ensures { λ r. ⌜ r ≡ stepOf day (now (input .entry)) ⌝ }
+pub fn unit_front(hasUnit: bool, closed: bool, input: &[u8]) -> UnitRead
+    ensures { λ r. ⌜ r ≡ unitFront hasUnit closed (now (input .entry)) ⌝ }
 {
     if input.len() < 249 {
-        return refused(day, Refusal::TooFewBytes);
+        return refuse_unit(Refusal::TooFewBytes);
     }
-    if day.closed {
-        return refused(day, Refusal::AfterClose);
+    if closed {
+        return refuse_unit(Refusal::AfterClose);
     }
-    unit_step(day, &input[1..249])
+    if hasUnit {
+        return refuse_unit(Refusal::SecondOne);
+    }
+    units::read_unit(&input[1..249])
+}
+
+// Refusal 22: level or target above the short-term maximum, or seconds off with a level above 0.
+fn too_high(unit: records::UnitData, o: records::Opening) -> bool
+    ensures { λ r. ⌜ r ≡ tooHigh unit o ⌝ }
+{
+    let most = level::Level::from_kw(unit.maximum);
+    let wide = o.level as u64;
+    let level = most.grains < wide;
+    let target = unit.maximum < o.target;
+    let running_off = (0 < o.level) & (0 < o.off);
+    level | (target | running_off)
+}
+
+// An opening whose fields are answered, held to the unit's short-term maximum.
+fn below_maximum(unit: records::UnitData, read: OpeningRead) -> OpeningRead
+    ensures { λ r. ⌜ r ≡ belowMaximum unit read ⌝ }
+{
+    let opening = read.opening;
+    let given = read.answer;
+    let fits = records::is_accepted(given);
+    let high = too_high(unit, opening);
+    if fits & high {
+        let answer = Answer::Refused(Refusal::OpeningTooHigh);
+        return OpeningRead { answer, opening };
+    }
+    read
+}
+
+// An opening that is refused unread: zeros.
+fn refuse_opening(r: Refusal) -> OpeningRead
+    ensures { λ o. ⌜ o ≡ openingRefused r ⌝ }
+{
+    let answer = Answer::Refused(r);
+    let opening = day::no_opening();
+    OpeningRead { answer, opening }
 }
 
 // An opening at the front of the input.
-pub fn opening_front(day: Day, input: &[u8]) -> Stepped
-    requires { ⌜ (1 ≤ length (now input)) × (getD (now input) 0 0 ≡ 2) ⌝ }
-    ensures { λ r. ⌜ r ≡ stepOf day (now (input .entry)) ⌝ }
+pub fn opening_front(
+    hasUnit: bool,
+    hasOpening: bool,
+    closed: bool,
+    unit: records::UnitData,
+    input: &[u8],
+) -> OpeningRead
+    ensures { λ r. ⌜ r ≡ openingFront hasUnit hasOpening closed unit (now (input .entry)) ⌝ }
 {
     if input.len() < 17 {
-        return refused(day, Refusal::TooFewBytes);
+        return refuse_opening(Refusal::TooFewBytes);
     }
-    if day.closed {
-        return refused(day, Refusal::AfterClose);
+    if closed {
+        return refuse_opening(Refusal::AfterClose);
     }
-    opening_step(day, &input[1..17])
+    if hasOpening {
+        return refuse_opening(Refusal::SecondOne);
+    }
+    if !hasUnit {
+        return refuse_opening(Refusal::BeforeUnit);
+    }
+    let read = fields::read_opening(&input[1..17]);
+    below_maximum(unit, read)
+}
+
+// An instruction that is refused unread: zeros.
+fn refuse_instruction(r: Refusal) -> InstructionRead
+    ensures { λ i. ⌜ i ≡ instructionRefused r ⌝ }
+{
+    let answer = Answer::Refused(r);
+    let instruction = day::no_instruction();
+    InstructionRead {
+        answer,
+        instruction,
+    }
 }
 
 // An instruction at the front of the input.
-pub fn instruction_front(day: Day, input: &[u8]) -> Stepped
-    requires { ⌜ (1 ≤ length (now input)) × (getD (now input) 0 0 ≡ 3) ⌝ }
-    ensures { λ r. ⌜ r ≡ stepOf day (now (input .entry)) ⌝ }
+pub fn instruction_front(hasUnit: bool, closed: bool, count: usize, input: &[u8]) -> InstructionRead
+    ensures { λ r. ⌜ r ≡ instructionFront hasUnit closed count (now (input .entry)) ⌝ }
 {
     if input.len() < 22 {
-        return refused(day, Refusal::TooFewBytes);
-    }
-    if day.closed {
-        return refused(day, Refusal::AfterClose);
-    }
-    instruction_step(day, &input[1..22])
-}
-
-// An instruction at the front of the input that a day takes: one that has a unit, is not closed and has room for it.
-pub fn lets_in(unit: bool, closed: bool, count: usize, input: &[u8]) -> bool
-    ensures { λ r. ⌜ (r ≡ true → LetsIn unit closed count (now (input .entry))) ⌝ }
-{
-    if input.len() < 22 {
-        return false;
-    }
-    if input[0] != 3 {
-        return false;
-    }
-    if !unit {
-        return false;
+        return refuse_instruction(Refusal::TooFewBytes);
     }
     if closed {
-        return false;
+        return refuse_instruction(Refusal::AfterClose);
+    }
+    if !hasUnit {
+        return refuse_instruction(Refusal::BeforeUnit);
     }
     if 40 <= count {
-        return false;
+        return refuse_instruction(Refusal::TooManyInstructions);
     }
-    let answer = fields::instruction_answer(86400, &input[1..22]);
-    match answer {
-        Answer::Accepted => true,
-        Answer::Refused(r) => false,
+    fields::read_instruction(86400, &input[1..22])
+}
+
+// A close, before anything is found.
+pub fn close_front(hasOpening: bool, closed: bool) -> Answer
+    ensures { λ r. ⌜ r ≡ closeFront hasOpening closed ⌝ }
+{
+    if closed {
+        return Answer::Refused(Refusal::AfterClose);
     }
+    if !hasOpening {
+        return Answer::Refused(Refusal::NotReady);
+    }
+    Answer::Accepted
 }

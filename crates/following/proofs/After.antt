@@ -1,49 +1,36 @@
--- What is to come of a day: the courses after the one under way, their lines and their areas.
+-- What is to come of a day: the courses after the one under way, and their areas.
 -- Assumes nothing.
 use Prim.Native.Nat.{ℕ, _+_, _*_, _-_, min, _≤_}
 use mathlib.Core.Path.{_≡_, refl, ap, sym, _∙_}
 use mathlib.Core.Bool.{Bool, true, false}
-use mathlib.Core.List.{List, [], _∷_, _++_, append-assoc}
+use mathlib.Core.List.{List, [], _∷_}
 use native.Mathlib.Omega.{arith}
 use lib.Dec.{ltb}
-use lib.ListN.{drop}
 use Rattle.level.specs.Level.{grains}
 use Rattle.level.proofs.Lists.{by-bool}
 use Rattle.segments.specs.Segments.{area}
 use Rattle.records.specs.declared.UnitData.{UnitData}
 use Rattle.course.specs.declared.Course.{Course}
 use Rattle.course.specs.Course.{trajectoryOf, levelAt}
-use Rattle.course.specs.declared.Piece.{Piece}
 use Rattle.course.specs.Pieces.{piecesIn, twiceArea}
 use Rattle.course.proofs.Pieces.{pieces-area}
 use Rattle.validation.specs.declared.Numbered.{Numbered}
-use Rattle.validation.specs.Kept.{mark, acting}
+use Rattle.validation.specs.Kept.{acting}
 use Rattle.profile.specs.declared.UnderWay.{UnderWay}
 use Rattle.profile.specs.declared.State.{State}
 use Rattle.profile.specs.State.{byRule}
 use Rattle.profile.specs.Effects.{idle, begun, underWay, courseFrom, goesOn, replaces, stateAt, follow}
-use Rattle.profile.specs.Profile.{beginOf, spansOf, piecesTo, dayPieces}
+use Rattle.profile.specs.Profile.{beginOf, spansOf, piecesTo}
 use Rattle.day.specs.Day.{daySeconds}
+use Rattle.rates.specs.declared.OwnLists.{OwnLists}
 use Rattle.rates.specs.Ways.{headed, listsIn, ownLists, listsBy}
-use Rattle.trajectory.specs.Walk.{beginning, twiceTo}
+use Rattle.trajectory.specs.Walk.{reachedAt, beginning, twiceTo}
 use Rattle.trajectory.proofs.Goes.{standing-here}
 use Rattle.trajectory.proofs.Areas.{twice-is}
 use Rattle.trajectory.proofs.Own.{own-twice}
-use Rattle.close.specs.Walk.{lastOf}
-use Rattle.daylines.specs.Rest.{courseLines, coursesLines}
-use Rattle.daylines.proofs.Laws.{pieces-all}
-use Rattle.lines.specs.Lines.{sLine}
-use Rattle.listing.specs.Listing.{sLines}
+use Rattle.trajectory.proofs.Rest.{known-at}
 use Rattle.passing.proofs.Watch.{watching-start}
-use Rattle.following.specs.Following.{setOut, Ordered, LowStart, OnIt, coursesFrom, coursesAfter, endOf, linesAfter, sumAfter}
-
--- lines, in parts
-s-append : (ps qs : List Piece) → sLines (ps ++ qs) ≡ sLines ps ++ sLines qs
-unfolding sLines
-s-append [] qs = refl
-s-append (p ∷ ps) qs =
-    let x : List ℕ = sLine (p .from) (p .to) (p .enter) (p .leave) in
-    ap (λ (l : List ℕ). x ++ l) (s-append ps qs) ∙ sym (append-assoc x (sLines ps) (sLines qs))
+use Rattle.following.specs.Following.{setOut, secondOf, Ordered, LowStart, OnIt, coursesFrom, coursesAfter, endOf, sumAfter}
 
 -- ---- the courses after
 
@@ -90,43 +77,6 @@ module _ (u : UnitData) where
   unfolding coursesFrom coursesAfter replaces
   after-new now o os e = rw (follow-new now o os e) refl
 
-  pub marks-none : (now : UnderWay) → follow byRule u now [] .marks ≡ []
-  unfolding follow
-  marks-none now = refl
-
-  pub marks-idle : (now : UnderWay) (o : Numbered) (os : List Numbered) → isIdle now o ≡ true → follow byRule u now (o ∷ os) .marks ≡ mark 7 o ∷ follow byRule u now os .marks
-  unfolding goesOn
-  marks-idle now o os e = rw (follow-idle now o os e) refl
-
-  pub marks-new : (now : UnderWay) (o : Numbered) (os : List Numbered) → isIdle now o ≡ false → follow byRule u now (o ∷ os) .marks ≡ mark 0 o ∷ follow byRule u (next now o) os .marks
-  unfolding replaces
-  marks-new now o os e = rw (follow-new now o os e) refl
-
-  -- the last of them
-  pub head-is : (now : UnderWay) (os : List Numbered) → follow byRule u now os .courses ≡ now ∷ drop 1 (follow byRule u now os .courses)
-  unfolding goesOn replaces
-  head-is now [] = rw (follow-none now) refl
-  head-is now (o ∷ os) = by-bool (isIdle now o)
-      (λ e. rw (follow-idle now o os e) (head-is now os))
-      (λ e. rw (follow-new now o os e) refl)
-
-  pub last-any : (d now : UnderWay) (os : List Numbered) → lastOf d (follow byRule u now os .courses) ≡ lastOf now (follow byRule u now os .courses)
-  unfolding lastOf
-  last-any d now os = ap (lastOf d) (head-is now os) ∙ sym (ap (lastOf now) (head-is now os))
-
-  pub last-none : (now : UnderWay) → lastOf now (follow byRule u now [] .courses) ≡ now
-  unfolding lastOf follow
-  last-none now = refl
-
-  pub last-idle : (now : UnderWay) (o : Numbered) (os : List Numbered) → isIdle now o ≡ true → lastOf now (follow byRule u now (o ∷ os) .courses) ≡ lastOf now (follow byRule u now os .courses)
-  unfolding goesOn
-  last-idle now o os e = rw (follow-idle now o os e) refl
-
-  pub last-new : (now : UnderWay) (o : Numbered) (os : List Numbered) → isIdle now o ≡ false →
-      lastOf now (follow byRule u now (o ∷ os) .courses) ≡ lastOf (next now o) (follow byRule u (next now o) os .courses)
-  unfolding replaces lastOf
-  last-new now o os e = rw (follow-new now o os e) (last-any now (next now o) os)
-
   -- it begins where it acts
   pub next-begins : (now : UnderWay) (o : Numbered) (s : State) → begun u now o s .course .begin ≡ acting o
   unfolding begun underWay courseFrom
@@ -155,22 +105,10 @@ pub ordered-end : (a : ℕ) (os : List Numbered) → Ordered a os → a ≤ 8640
 ordered-end a [] h = h
 ordered-end a (o ∷ os) h = omega (arith, h .0, ordered-end (acting o) os (h .1))
 
--- ---- their lines
-
-module _ (u : UnitData) where
-  lines-cons : (c : Course) (cs : List Course) → coursesLines u (c ∷ cs) ≡ courseLines u c (beginOf daySeconds cs) ++ coursesLines u cs
-  unfolding coursesLines spansOf dayPieces
-  lines-cons c cs = s-append (piecesIn (trajectoryOf u c) (c .begin) (beginOf daySeconds cs)) (dayPieces (spansOf u daySeconds cs))
-
-  -- of the course under way from its beginning, and of those after it
-  pub set-out-lines : (now : UnderWay) (os : List Numbered) → coursesLines u (coursesFrom u now os) ≡ linesAfter u (setOut u now) os
-  unfolding linesAfter setOut
-  set-out-lines now os =
-      let c : Course = now .course in
-      let up : Bool = ltb (c .start .grains) (grains (c .target)) in
-      ap (coursesLines u) (from-head u now os) ∙ lines-cons c (coursesAfter u now os)
-      ∙ ap (λ (xs : List ℕ). xs ++ coursesLines u (coursesAfter u now os))
-      (sym (pieces-all (ownLists u c up) c up (endOf u now os) u refl refl (beginning c (c .begin)) refl))
+-- the first of those left acts no earlier, and they act in order from there
+pub ordered-next : (a : ℕ) (os : List Numbered) → Ordered a os → (a ≤ secondOf os) × (secondOf os ≤ 86400) × Ordered (secondOf os) os
+ordered-next a [] h = (h, omega arith, omega arith)
+ordered-next a (o ∷ os) h = (h .0, ordered-end (acting o) os (h .1), (omega arith, h .1))
 
 -- ---- their areas
 
@@ -192,17 +130,19 @@ module _ (u : UnitData) (c : Course) where
       begins : (a : ℕ) → a ≡ beginning c a .second
       begins a = refl
 
-pub set-out-sum : (u : UnitData) (now : UnderWay) (os : List Numbered) (j : ℕ) → piecesTo (spansOf u daySeconds (coursesFrom u now os)) (1800 * j) ≡ sumAfter u (setOut u now) os j
-unfolding sumAfter setOut spansOf piecesTo
-set-out-sum u now os j =
-    ap (λ (cs : List Course). piecesTo (spansOf u daySeconds cs) (1800 * j)) (from-head u now os)
-    ∙ ap (λ (k : ℕ). k + piecesTo (spansOf u daySeconds (coursesAfter u now os)) (1800 * j)) (course-area u (now .course) (min (endOf u now os) (1800 * j)))
+module _ (u : UnitData) (now : UnderWay) (l : OwnLists) (up : Bool) (total : ℕ) (rises : up ≡ ltb (now .course .start .grains) (grains (now .course .target))) (own : l ≡ ownLists u (now .course) up) where
+  pub set-out-sum : (os : List Numbered) (j : ℕ) → piecesTo (spansOf u daySeconds (coursesFrom u now os)) (1800 * j) ≡ sumAfter u now l (setOut now l up total) os j
+  unfolding sumAfter setOut reachedAt spansOf piecesTo
+  set-out-sum os j =
+      let n : ℕ = min (endOf u now os) (1800 * j) in
+      ap (λ (cs : List Course). piecesTo (spansOf u daySeconds cs) (1800 * j)) (from-head u now os)
+      ∙ ap (λ (k : ℕ). k + piecesTo (spansOf u daySeconds (coursesAfter u now os)) (1800 * j)) (course-area u (now .course) n
+      ∙ ap (λ (b : Bool). twiceTo (headed b) (listsBy (ownLists u (now .course) b) (now .course)) (grains (now .course .target)) n (beginning (now .course) (now .course .begin))) (sym rises)
+      ∙ ap (λ (x : OwnLists). twiceTo (headed up) (listsBy x (now .course)) (grains (now .course .target)) n (beginning (now .course) (now .course .begin))) (sym own))
 
--- a course set out on is where its rule says
-pub out-on : (u : UnitData) (now : UnderWay) → LowStart (now .course) → OnIt u (setOut u now)
-unfolding setOut beginning
-out-on u now low = record {
-  lists = refl;
-  watching = watching-start u (now .course) (now .off) (ltb (now .course .start .grains) (grains (now .course .target))) refl;
-  low = low;
-}
+  -- a course set out on is where its rule says
+  pub out-on : LowStart (now .course) → OnIt u now l (setOut now l up total)
+  unfolding setOut reachedAt beginning
+  out-on low =
+      let w = watching-start u (now .course) (now .off) up rises in
+      record { lists = own; watching = w; known = known-at (headed up) (listsBy l (now .course)) (grains (now .course .target)) (beginning (now .course) (now .course .begin)) (w .short); low = low }

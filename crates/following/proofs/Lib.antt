@@ -1,4 +1,3 @@
+pub mod Walking
 pub mod After
 pub mod Steps
-pub mod Ending
-pub mod Whole

@@ -1,261 +1,242 @@
--- From one instruction that acts to the next.
+-- From one instruction that acts to the next, and to the day's end.
 -- Assumes nothing.
-use Prim.Native.Nat.{ℕ, suc, _+_, _*_, _-_, min, _≤_, _<_}
+use Prim.Native.Nat.{ℕ, zero, suc, _+_, _*_, min, _≤_, _<_}
 use mathlib.Core.Path.{_≡_, refl, ap, sym, _∙_, subst}
 use mathlib.Core.Bool.{Bool, true, false}
-use mathlib.Core.List.{List, [], _∷_, _++_, map, append-assoc, append-nil}
+use mathlib.Core.List.{List, [], _∷_}
 use native.Mathlib.Decide.{decLe}
 use native.Mathlib.Omega.{arith}
 use lib.Dec.{ltb}
+use lib.ListN.{length, getD, take, drop, replicate}
 use borrow.Author.Tests.{lt-ltb, le-ltb}
-use lib.ListN.{length, take, drop, set, length-append, length-map}
 use Rattle.level.specs.Choice.{pick}
 use Rattle.level.specs.Level.{grains}
-use Rattle.level.specs.Lists.{All, filled}
+use Rattle.level.specs.Lists.{All, listFrom}
+use Rattle.level.proofs.Lists.{left-cons, left-none}
 use Rattle.records.specs.declared.UnitData.{UnitData}
-use Rattle.records.specs.declared.Column.{Column}
-use Rattle.records.specs.declared.Ramp.{Ramp}
 use Rattle.course.specs.declared.Course.{Course}
-use Rattle.course.specs.Lists.{columnFor}
+use Rattle.course.specs.Lists.{Lists}
+use Rattle.course.specs.Course.{Heading}
 use Rattle.course.proofs.Near.{Short}
 use Rattle.validation.specs.declared.Numbered.{Numbered}
-use Rattle.validation.specs.Kept.{Mark, mark, acting}
-use Rattle.choosing.proofs.Laws.{filled-push}
+use Rattle.validation.specs.Kept.{acting}
+use Rattle.choosing.specs.Working.{noNumbered}
 use Rattle.profile.specs.declared.UnderWay.{UnderWay}
 use Rattle.profile.specs.State.{byRule}
-use Rattle.profile.specs.Effects.{follow}
-use Rattle.profile.specs.Profile.{beginOf, spansOf, piecesTo}
+use Rattle.profile.specs.Effects.{Followed as Following, follow, stateAt}
+use Rattle.profile.specs.Profile.{Span, beginOf, spansOf, piecesTo, twinTo, closingBy}
 use Rattle.day.specs.Day.{daySeconds}
 use Rattle.rates.specs.declared.OwnLists.{OwnLists}
 use Rattle.trajectory.specs.declared.Place.{Place}
-use Rattle.rates.specs.Ways.{headed, rampFor, ownLists, listsBy}
-use Rattle.trajectory.specs.Walk.{beginning, onward, twiceTo}
+use Rattle.rates.specs.Ways.{headed, ownLists, listsBy}
+use Rattle.trajectory.specs.Walk.{reachedAt, beginning, onward, twiceTo}
 use Rattle.trajectory.proofs.Goes.{Goes, onward-goes}
-use Rattle.text.specs.Text.{laid}
-use Rattle.summing.specs.Summing.{firstSum}
-use Rattle.effects.specs.Watching.{offStarting}
-use Rattle.close.specs.Walk.{fateIn, lastOf}
-use Rattle.daylines.specs.Rest.{pieceLine, coursesLines}
-use Rattle.daylines.proofs.Laws.{Laying, lay-none, lay-room, lay-next, lay-more, pieces-more, pieces-none}
 use Rattle.passing.specs.declared.Passed.{Passed}
+use Rattle.passing.specs.Passing.{summed, upTo, Adds, Fits, pieceFrom, Passing}
+use Rattle.passing.proofs.Adding.{upto-noted, upto-total}
+use Rattle.passing.proofs.Areas.{twice-through, piece-on}
+use Rattle.following.specs.declared.Walk.{Walk}
 use Rattle.following.specs.declared.OnCourse.{OnCourse}
-use Rattle.passing.specs.Passing.{AddsOn, Summed, linesLeft, lastLine, Roomy, Passing}
-use Rattle.following.specs.Following.{setOut, Ordered, LowStart, coursesFrom, coursesAfter, endOf, OnIt, linesAfter, sumAfter, FollowedBy}
-use Rattle.passing.proofs.Areas.{twice-through}
-use Rattle.following.proofs.After.{before, isIdle, next, from-head, after-idle, after-new, marks-none, marks-idle, marks-new, last-none, last-idle, last-new, next-begins, end-new, end-after, ordered-less, set-out-lines, set-out-sum}
-use Rattle.following.proofs.After.{out-on}
+use Rattle.following.specs.declared.Followed.{Followed}
+use Rattle.following.specs.Walk.{walkOf, walkAll, wentOn, replacedBy}
+use Rattle.following.specs.Following.{setOut, wentTo, secondOf, Ordered, LowStart, coursesFrom, coursesAfter, endOf, OnIt, sumAfter, lastIn, FollowedBy}
+use Rattle.following.proofs.Walking.{Going, going-start, going-next, going-end, acts-idle, acts-new}
+use Rattle.following.proofs.After.{before, isIdle, next, from-head, after-none, after-idle, after-new, next-begins, end-none, end-new, end-after, ordered-less, ordered-next, set-out-sum, out-on}
 
--- the lines of a course that ends at the second n, from the last piece on
-module _ (l : OwnLists) (c : Course) (up : Bool) (n : ℕ) (p q : Place) where
-  pub last-lines : Short (headed up) (grains (c .target)) (p .level) → q .second ≡ n → p .second ≤ n →
-      (p .second < n → q ≡ onward (headed up) (listsBy l c) (grains (c .target)) n p) → linesLeft l c up n p ≡ lastLine p q
-  last-lines sh there le run = elim (decLe (suc (p .second)) n) [
-    | yes lt ↦
-        pieces-more l c up n p q lt sh (run lt) ∙ ap (λ (xs : List ℕ). pieceLine p q ++ xs) (pieces-none l c up n q (omega arith)) ∙ append-nil (pieceLine p q)
-        ∙ sym (simp (lt-ltb (p .second) (q .second) (omega arith)))
-    | no ge ↦ pieces-none l c up n p (omega arith) ∙ sym (simp (le-ltb (p .second) (q .second) (omega arith)))
-  ]
+-- the last piece of a course, up to the second n
+pub last-goes : (h : Bool) (l : OwnLists) (c : Course) (n : ℕ) (p q : Place) → Short (headed h) (grains (c .target)) (p .level) → q .second ≡ n →
+    (p .second < n → q ≡ onward (headed h) (listsBy l c) (grains (c .target)) n p) → p .second < q .second → Goes (headed h) (listsBy l c) (grains (c .target)) (q .second) p q
+last-goes h l c n p q sh there run lt =
+    let e : q ≡ onward (headed h) (listsBy l c) (grains (c .target)) n p = run (omega arith) in
+    subst (λ (k : ℕ). Goes (headed h) (listsBy l c) (grains (c .target)) k p q) (sym there)
+    (subst (Goes (headed h) (listsBy l c) (grains (c .target)) n p) (sym e) (onward-goes (headed h) (listsBy l c) (grains (c .target)) n p (omega arith) sh))
 
-  pub last-goes : Short (headed up) (grains (c .target)) (p .level) → q .second ≡ n →
-      (p .second < n → q ≡ onward (headed up) (listsBy l c) (grains (c .target)) n p) → p .second < q .second → Goes (headed up) (listsBy l c) (grains (c .target)) (q .second) p q
-  last-goes sh there run lt =
-      let e : q ≡ onward (headed up) (listsBy l c) (grains (c .target)) n p = run (omega arith) in
-      subst (λ (k : ℕ). Goes (headed up) (listsBy l c) (grains (c .target)) k p q) (sym there)
-      (subst (Goes (headed up) (listsBy l c) (grains (c .target)) n p) (sym e) (onward-goes (headed up) (listsBy l c) (grains (c .target)) n p (omega arith) sh))
+-- those that act all told, and those that are left; the walk so far, the course under way with its lists, and the sums
+pub record Sofar (u : UnitData) (first : UnderWay) (all left : List Numbered) (w : Walk) (g : OnCourse) (l : OwnLists) (ys : List ℕ) : Type 0 where
+  pub going : Going u w left (follow byRule u first all)
+  pub few : w .started ≤ w .acted + 1
+  pub on : OnIt u (w .now) l g
+  pub ordered : Ordered (g .reached .place .second) left
+  pub starts : All LowStart (coursesFrom u (w .now) left)
+  pub sums : (j : ℕ) → j ≤ 48 → upTo (summed (g .reached .place .second) ys (g .total)) j + sumAfter u (w .now) l g left j ≡ piecesTo (spansOf u daySeconds (coursesFrom u first all)) (1800 * j)
+  pub fits : Fits (summed (g .reached .place .second) ys (g .total))
 
--- one fate more
-map-snoc : (xs : List Mark) (x : Mark) → map fateIn (xs ++ (x ∷ [])) ≡ map fateIn xs ++ (fateIn x ∷ [])
-map-snoc [] x = refl
-map-snoc (y ∷ ys) x = ap (λ (zs : List ℕ). fateIn y ∷ zs) (map-snoc ys x)
+-- where the next of those that act does so, else the day's end
+pub second-is : (acts : List Numbered) (n i : ℕ) → n ≤ 40 → length acts ≡ 40 → pick (ltb i n) (acting (getD acts (min i 39) noNumbered)) 86400 ≡ secondOf (drop i (take n acts))
+second-is acts n i few forty = elim (decLe (suc i) n) [
+  | yes lt ↦
+      rw (lt-ltb i n lt) (ap (λ (k : ℕ). acting (getD acts k noNumbered)) {x = min i 39} {y = i} (omega arith))
+      ∙ ap secondOf (sym (left-cons acts n i noNumbered lt (omega arith)))
+  | no ge ↦ rw (le-ltb i n (omega arith)) refl ∙ ap secondOf (sym (left-none acts n i (omega arith)))
+]
 
-fated : (ms : List Mark) (o : Numbered) (fates : List ℕ) (i f : ℕ) → length ms ≡ i → i < 40 → fates ≡ filled 40 0 (map fateIn ms) → set fates i f ≡ filled 40 0 (map fateIn (ms ++ (mark f o ∷ [])))
-fated ms o fates i f n h e =
-    let k : length (map fateIn ms) ≡ i = length-map ms fateIn ∙ n in
-    ap (λ (xs : List ℕ). set xs i f) e ∙ ap (λ (j : ℕ). set (filled 40 0 (map fateIn ms)) j f) (sym k)
-    ∙ filled-push 0 40 (map fateIn ms) f (omega (arith, k)) ∙ ap (filled 40 0) (sym (map-snoc ms (mark f o)))
+-- ---- at 06:00
 
-append-one : (xs : List Mark) (x : Mark) (ys : List Mark) → (xs ++ (x ∷ [])) ++ ys ≡ xs ++ (x ∷ ys)
-append-one xs x ys = append-assoc xs (x ∷ []) ys
+zeros : (n j : ℕ) → getD {A = ℕ} (replicate n 0) j 0 ≡ 0
+zeros zero j = refl
+zeros (suc n) zero = refl
+zeros (suc n) (suc j) = zeros n j
 
--- the next course takes over the lists but for its own column and ramp
-ramp-picked : (u : UnitData) (up : Bool) → pick up (u .up) (u .down) ≡ rampFor u up
-ramp-picked u true = refl
-ramp-picked u false = refl
+nothing : (s j : ℕ) → upTo (summed s (replicate 49 0) 0) j ≡ 0
+nothing s j = elim (decLe (1800 * j) s) [
+  | yes h ↦ upto-noted (summed s (replicate 49 0) 0) j h ∙ zeros 49 j
+  | no h ↦ upto-total (summed s (replicate 49 0) 0) j (omega arith)
+]
 
-pub set-again : (u : UnitData) (c : Course) (before : Bool) (l : OwnLists) (w : UnderWay) (up : Bool) (column : Column) (ramp : Ramp) (place : Place) (off : ℕ) →
-    l ≡ ownLists u c before → up ≡ ltb (w .course .start .grains) (grains (w .course .target)) → column ≡ columnFor u (w .course .heat) → ramp ≡ pick up (u .up) (u .down) →
-    place ≡ beginning (w .course) (w .course .begin) → off ≡ offStarting (w .course) (w .off) →
-    (record { now = w; up = up; lists = record { msg = l .msg; column = column; ramp = ramp; dwells = l .dwells; deload = l .deload }; place = place; off = off }) ≡ setOut u w
-unfolding setOut ownLists
-set-again u c before l w up column ramp place off k e f h p o =
-    let r : ramp ≡ rampFor u (ltb (w .course .start .grains) (grains (w .course .target))) = h ∙ ramp-picked u up ∙ ap (rampFor u) e in
-    λ i. record { now = w; up = e i; lists = record { msg = k i .msg; column = f i; ramp = r i; dwells = k i .dwells; deload = k i .deload }; place = p i; off = o i }
-
--- those that act all told, and those that are left; what was lent was o and xs and is out and ys; the course g is under way, and i
--- have acted
-pub record Sofar (u : UnitData) (first : UnderWay) (all left : List Numbered) (o out xs ys : List ℕ) (g : OnCourse) (fates : List ℕ) (count i : ℕ) : Type 0 where
-  pub on : OnIt u g
-  pub ordered : Ordered (g .place .second) left
-  pub starts : All LowStart (coursesFrom u (g .now) left)
-  pub laying : Laying (coursesLines u (coursesFrom u first all)) (linesAfter u g left) o out count
-  pub sums : (j : ℕ) → j ≤ 48 → firstSum (suc j) ys + sumAfter u g left j ≡ firstSum (suc j) xs + piecesTo (spansOf u daySeconds (coursesFrom u first all)) (1800 * j)
-  pub summed : Summed (g .place .second) ys
-  pub marks : List Mark
-  pub as-many : length marks ≡ i
-  pub marked : marks ++ follow byRule u (g .now) left .marks ≡ follow byRule u first all .marks
-  pub fates-are : fates ≡ filled 40 0 (map fateIn marks)
-  pub last : lastOf (g .now) (follow byRule u (g .now) left .courses) ≡ lastOf first (follow byRule u first all .courses)
-
--- what was written lies within what was lent
-pub has-room : (u : UnitData) (first : UnderWay) (all left : List Numbered) (o out xs ys : List ℕ) (g : OnCourse) (fates : List ℕ) (count i : ℕ) →
-    length (coursesLines u (coursesFrom u first all)) ≤ length o → Sofar u first all left o out xs ys g fates count i → (count ≤ length out) × (length out ≡ length o)
-has-room u first all left o out xs ys g fates count i enough w =
-    let r = lay-room (coursesLines u (coursesFrom u first all)) (linesAfter u g left) o out count enough (w .laying) in
-    (omega (arith, r .0, r .1), r .1)
-
-module _ (u : UnitData) (first : UnderWay) (all : List Numbered) (o xs : List ℕ) where
-  pub sofar-start : (g : OnCourse) (fates : List ℕ) → g ≡ setOut u first → fates ≡ filled 40 0 [] → Ordered (first .course .begin) all → Summed (first .course .begin) xs →
-      All LowStart (coursesFrom u first all) → Sofar u first all all o o xs xs g fates 0 0
-  unfolding setOut beginning
-  sofar-start g fates e f ord sum low = rw e (record {
-    on = out-on u first ((rw (from-head u first all) at low) .0);
+module _ (u : UnitData) (first : UnderWay) (all : List Numbered) where
+  pub sofar-start : (w : Walk) (g : OnCourse) (l : OwnLists) (up : Bool) → w ≡ walkOf first (record { marks = []; courses = first ∷ [] }) → g ≡ setOut first l up 0 →
+      up ≡ ltb (first .course .start .grains) (grains (first .course .target)) → l ≡ ownLists u (first .course) up → Ordered (first .course .begin) all → All LowStart (coursesFrom u first all) → Sofar u first all all w g l (replicate 49 0)
+  unfolding walkOf setOut reachedAt beginning
+  sofar-start w g l up a e r k ord low = rw (a, e) (record {
+    going = going-start u first all;
+    few = omega arith;
+    on = out-on u first l up 0 r k ((rw (from-head u first all) at low) .0);
     ordered = ord;
     starts = low;
-    laying = subst (λ (ls : List ℕ). Laying (coursesLines u (coursesFrom u first all)) ls o o 0) (set-out-lines u first all) (lay-none (coursesLines u (coursesFrom u first all)) o);
-    sums = λ j h. ap (λ (k : ℕ). firstSum (suc j) xs + k) (sym (set-out-sum u first all j));
-    summed = sum;
-    marks = [];
-    as-many = refl;
-    marked = refl;
-    fates-are = f;
-    last = refl;
+    sums = λ j h. omega (arith, nothing (first .course .begin) j, set-out-sum u first l up 0 r k all j);
+    fits = (refl, omega arith);
   })
 
-  module _ (act : Numbered) (left : List Numbered) (out ys : List ℕ) (g : OnCourse) (fates : List ℕ) (count i : ℕ)
-      (enough : length (coursesLines u (coursesFrom u first all)) ≤ length o) (w : Sofar u first all (act ∷ left) o out xs ys g fates count i) where
-    -- how it ends, and room for its lines
-    pub ends-later : acting act ≤ endOf u (g .now) (act ∷ left)
-    ends-later = end-after u (g .now) (act ∷ left) (acting act) (omega arith, w .ordered .1)
+  -- ---- up to the next acting second, or the day's end
+  module _ (left : List Numbered) (w : Walk) (g : OnCourse) (l : OwnLists) (ys : List ℕ) (f : Sofar u first all left w g l ys) where
+    abbrev c : Course
+    c = w .now .course
 
-    pub roomy : (part : List ℕ) → length part ≡ length out - count → Roomy (g .lists) (g .now .course) (g .up) (g .place) (acting act) part
-    unfolding linesAfter
-    roomy part e =
-        let e2 : ℕ = endOf u (g .now) (act ∷ left) in
-        let r = lay-next (coursesLines u (coursesFrom u first all)) (linesAfter u g (act ∷ left)) (linesLeft (g .lists) (g .now .course) (g .up) e2 (g .place)) (coursesLines u (coursesAfter u (g .now) (act ∷ left))) o out count enough refl (w .laying) in
-        record { end = e2; within = ends-later; room = omega (arith, r .0) }
+    pub ends-later : secondOf left ≤ endOf u (w .now) left
+    ends-later = end-after u (w .now) left (secondOf left) (ordered-next (g .reached .place .second) left (f .ordered) .2)
 
-    -- past the pieces before it
-    pub sofar-pass : (s : Passed) (part ys′ : List ℕ) → Passing (g .lists) (g .now .course) (g .up) (g .place) (g .off) (acting act) (take (length out - count) (drop count out)) part ys ys′ s →
-        Sofar u first all (act ∷ left) o (take count out ++ (part ++ drop (length out - count) (drop count out))) xs ys′
-        (record { now = g .now; up = g .up; lists = g .lists; place = s .place; off = s .off }) fates (count + s .count) i
-    unfolding linesAfter sumAfter
-    sofar-pass s part ys′ p =
-        let e : ℕ = endOf u (g .now) (act ∷ left) in
-        let after : List ℕ = coursesLines u (coursesAfter u (g .now) (act ∷ left)) in
-        let c : Course = g .now .course in
-        record {
-          on = record { lists = w .on .lists; watching = p .watched u (g .now .off) (w .on .lists) (w .on .watching) .0; low = p .low };
-          ordered = (p .within, w .ordered .1);
-          starts = w .starts;
-          laying = lay-more (coursesLines u (coursesFrom u first all)) (linesAfter u g (act ∷ left)) (p .lines) (linesLeft (g .lists) c (g .up) e (s .place) ++ after) o out part count (s .count) enough
-              (ap (λ (ls : List ℕ). ls ++ after) (p .rest e ends-later) ∙ append-assoc (p .lines) (linesLeft (g .lists) c (g .up) e (s .place)) after) (w .laying) (p .count) (p .filled);
-          sums = λ j h.
-              let x : ℕ = 1800 * j in
-              let rest : ℕ = piecesTo (spansOf u daySeconds (coursesAfter u (g .now) (act ∷ left))) x in
-              let through = twice-through (headed (g .up)) (listsBy (g .lists) c) (grains (c .target)) (g .place) (s .place) (p .stands) (p .later) e x (omega (arith, p .within, ends-later)) in
-              omega (arith, w .sums j h, p .adds j h, through);
-          summed = p .sums;
-          marks = w .marks;
-          as-many = w .as-many;
-          marked = w .marked;
-          fates-are = w .fates-are;
-          last = w .last;
-        }
-
-    -- without effect: the course goes on
-    pub sofar-idle : i < 40 → isIdle u (g .now) act ≡ true → Sofar u first all left o out xs ys g (set fates i 7) count (i + 1)
-    unfolding linesAfter sumAfter
-    sofar-idle few e =
-        let same : coursesAfter u (g .now) (act ∷ left) ≡ coursesAfter u (g .now) left = after-idle u (g .now) act left e in
-        record {
-          on = w .on;
-          ordered = ordered-less (g .place .second) (acting act) left (w .ordered .0) (w .ordered .1);
-          starts = subst (All LowStart) (from-head u (g .now) (act ∷ left) ∙ ap (λ (cs : List Course). g .now .course ∷ cs) same ∙ sym (from-head u (g .now) left)) (w .starts);
-          laying = subst (λ (cs : List Course). Laying (coursesLines u (coursesFrom u first all)) (linesLeft (g .lists) (g .now .course) (g .up) (beginOf daySeconds cs) (g .place) ++ coursesLines u cs) o out count) same (w .laying);
-          sums = subst (λ (cs : List Course). (j : ℕ) → j ≤ 48 → firstSum (suc j) ys
-              + (twiceTo (headed (g .up)) (listsBy (g .lists) (g .now .course)) (grains (g .now .course .target)) (min (beginOf daySeconds cs) (1800 * j)) (g .place) + piecesTo (spansOf u daySeconds cs) (1800 * j))
-              ≡ firstSum (suc j) xs + piecesTo (spansOf u daySeconds (coursesFrom u first all)) (1800 * j)) same (w .sums);
-          summed = w .summed;
-          marks = w .marks ++ (mark 7 act ∷ []);
-          as-many = length-append (w .marks) (mark 7 act ∷ []) ∙ omega (arith, w .as-many);
-          marked = append-one (w .marks) (mark 7 act) (follow byRule u (g .now) left .marks) ∙ ap (λ (ms : List Mark). w .marks ++ ms) (sym (marks-idle u (g .now) act left e)) ∙ w .marked;
-          fates-are = fated (w .marks) act fates i 7 (w .as-many) few (w .fates-are);
-          last = sym (last-idle u (g .now) act left e) ∙ w .last;
-        }
-
-    -- with effect: it ends, and the next one begins
-    module _ (new : isIdle u (g .now) act ≡ false) (q : Place) (there : q .second ≡ acting act)
-        (run : g .place .second < acting act → q ≡ onward (headed (g .up)) (listsBy (g .lists) (g .now .course)) (grains (g .now .course .target)) (acting act) (g .place)) where
-      abbrev then : UnderWay
-      then = next u (g .now) act
-
-      by-end : (j : ℕ) → sumAfter u g (act ∷ left) j
-          ≡ twiceTo (headed (g .up)) (listsBy (g .lists) (g .now .course)) (grains (g .now .course .target)) (min (acting act) (1800 * j)) (g .place) + piecesTo (spansOf u daySeconds (coursesFrom u then left)) (1800 * j)
-      unfolding sumAfter
-      by-end j = λ k.
-          twiceTo (headed (g .up)) (listsBy (g .lists) (g .now .course)) (grains (g .now .course .target)) (min (end-new u (g .now) act left new k) (1800 * j)) (g .place)
-          + piecesTo (spansOf u daySeconds (after-new u (g .now) act left new k)) (1800 * j)
-
-      last-left : linesAfter u g (act ∷ left) ≡ lastLine (g .place) q ++ coursesLines u (coursesFrom u then left)
-      unfolding linesAfter
-      last-left =
-          (λ k. linesLeft (g .lists) (g .now .course) (g .up) (end-new u (g .now) act left new k) (g .place) ++ coursesLines u (after-new u (g .now) act left new k))
-          ∙ ap (λ (ls : List ℕ). ls ++ coursesLines u (coursesFrom u then left))
-          (last-lines (g .lists) (g .now .course) (g .up) (acting act) (g .place) q (w .on .watching .short) there (w .ordered .0) run)
-
-      last-sum : (j : ℕ) → sumAfter u g (act ∷ left) j
-          ≡ twiceTo (headed (g .up)) (listsBy (g .lists) (g .now .course)) (grains (g .now .course .target)) (min (q .second) (1800 * j)) (g .place) + sumAfter u (setOut u then) left j
-      last-sum j = by-end j ∙ (λ k. twiceTo (headed (g .up)) (listsBy (g .lists) (g .now .course)) (grains (g .now .course .target)) (min (sym there k) (1800 * j)) (g .place) + set-out-sum u then left j k)
-
-      pub last-room : (part : List ℕ) → length part ≡ length out - count → length (lastLine (g .place) q) ≤ length part
-      last-room part e =
-          let r = lay-next (coursesLines u (coursesFrom u first all)) (linesAfter u g (act ∷ left)) (lastLine (g .place) q) (coursesLines u (coursesFrom u then left)) o out count enough last-left (w .laying) in
-          omega (arith, r .0)
-
-      pub sofar-new : i < 40 → (part ys′ : List ℕ) (n : ℕ) (g′ : OnCourse) → g′ ≡ setOut u then → n ≡ length (lastLine (g .place) q) → part ≡ laid (lastLine (g .place) q) (take (length out - count) (drop count out)) →
-          AddsOn (headed (g .up)) (listsBy (g .lists) (g .now .course)) (grains (g .now .course .target)) (g .place) (q .second) ys ys′ → Summed (q .second) ys′ →
-          Sofar u first all left o (take count out ++ (part ++ drop (length out - count) (drop count out))) xs ys′ g′ (set fates i 0) (count + n) (i + 1)
-      unfolding setOut beginning
-      sofar-new few part ys′ n g′ out-is e f a sum = rw out-is (record {
-        on = out-on u then ((rw (from-head u then left) at later-starts) .0);
-        ordered = subst (λ (k : ℕ). Ordered k left) (sym (next-begins u (g .now) act (before u (g .now) act))) (w .ordered .1);
-        starts = later-starts;
-        laying = subst (λ (ls : List ℕ). Laying (coursesLines u (coursesFrom u first all)) ls o (take count out ++ (part ++ drop (length out - count) (drop count out))) (count + n)) (set-out-lines u then left)
-            (lay-more (coursesLines u (coursesFrom u first all)) (linesAfter u g (act ∷ left)) (lastLine (g .place) q) (coursesLines u (coursesFrom u then left)) o out part count n enough last-left (w .laying) e f);
-        sums = λ j h. omega (arith, w .sums j h, a j h, last-sum j);
-        summed = subst (λ (k : ℕ). Summed k ys′) (there ∙ sym (next-begins u (g .now) act (before u (g .now) act))) sum;
-        marks = w .marks ++ (mark 0 act ∷ []);
-        as-many = length-append (w .marks) (mark 0 act ∷ []) ∙ omega (arith, w .as-many);
-        marked = append-one (w .marks) (mark 0 act) (follow byRule u then left .marks) ∙ ap (λ (ms : List Mark). w .marks ++ ms) (sym (marks-new u (g .now) act left new)) ∙ w .marked;
-        fates-are = fated (w .marks) act fates i 0 (w .as-many) few (w .fates-are);
-        last = sym (last-new u (g .now) act left new) ∙ w .last;
-      })
-        where
-          later-starts : All LowStart (coursesFrom u then left)
-          later-starts = (subst (All LowStart) (from-head u (g .now) (act ∷ left) ∙ ap (λ (cs : List Course). g .now .course ∷ cs) (after-new u (g .now) act left new)) (w .starts)) .1
-
--- none is left
-pub sofar-all : (u : UnitData) (first : UnderWay) (all left : List Numbered) (o out xs ys : List ℕ) (g : OnCourse) (fates : List ℕ) (count i : ℕ) → left ≡ [] →
-    Sofar u first all left o out xs ys g fates count i → FollowedBy u first all o out xs ys (record { last = g; fates = fates; count = count })
-sofar-all u first all left o out xs ys g fates count i none w =
-    let v : Sofar u first all [] o out xs ys g fates count i = subst (λ (os : List Numbered). Sofar u first all os o out xs ys g fates count i) none w in
-    let marks : v .marks ≡ follow byRule u first all .marks = sym (append-nil (v .marks)) ∙ ap (λ (ms : List Mark). v .marks ++ ms) (sym (marks-none u (g .now))) ∙ v .marked in
-    record {
-      on = v .on;
-      within = v .ordered;
-      laying = v .laying;
-      sums = v .sums;
-      summed = v .summed;
-      fates = v .fates-are ∙ ap (λ (ms : List Mark). filled 40 0 (map fateIn ms)) marks;
-      last = sym (last-none u (g .now)) ∙ v .last;
+    pub sofar-pass : (s : Passed) (zs : List ℕ) → Passing l c (g .up) (g .reached .place) (g .off) (secondOf left) (summed (g .reached .place .second) ys (g .total)) zs s →
+        Sofar u first all left w (wentTo (g .up) s) l zs
+    unfolding sumAfter
+    sofar-pass s zs p = record {
+      going = f .going;
+      few = f .few;
+      on = record { lists = f .on .lists; watching = p .watched u (w .now .off) (f .on .lists) (f .on .watching) .0; known = p .known; low = p .low };
+      ordered = ordered-less (s .reached .place .second) (secondOf left) left (p .within) (ordered-next (g .reached .place .second) left (f .ordered) .2);
+      starts = f .starts;
+      sums = λ j h.
+          omega (
+            arith,
+            f .sums j h,
+            p .adds j h,
+            twice-through (headed (g .up)) (listsBy l c) (grains (c .target)) (g .reached .place) (s .reached .place) (p .stands) (p .later) (endOf u (w .now) left) (1800 * j) (omega (arith, p .within, ends-later)),
+          );
+      fits = p .fits;
     }
+
+-- ---- an instruction acts
+module _ (u : UnitData) (first : UnderWay) (all : List Numbered) (act : Numbered) (left : List Numbered) (w : Walk) (g : OnCourse) (l : OwnLists) (ys : List ℕ)
+    (f : Sofar u first all (act ∷ left) w g l ys) (room : w .acted < 40) where
+  abbrev whole : Following
+  whole = follow byRule u first all
+
+  -- without effect: the course goes on
+  pub sofar-idle : isIdle u (w .now) act ≡ true → Sofar u first all left (wentOn w) g l ys
+  unfolding sumAfter wentOn
+  sofar-idle e =
+      let same : coursesAfter u (w .now) (act ∷ left) ≡ coursesAfter u (w .now) left = after-idle u (w .now) act left e in
+      record {
+        going = subst (λ (x : Walk). Going u x left whole) (sym (acts-idle u w act (before u (w .now) act) true refl (sym e) refl)) (going-next u w act left whole room (omega (arith, f .few)) (f .going));
+        few = omega (arith, f .few);
+        on = f .on;
+        ordered = ordered-less (g .reached .place .second) (acting act) left (f .ordered .0) (f .ordered .1);
+        starts = subst (All LowStart) (from-head u (w .now) (act ∷ left) ∙ ap (λ (cs : List Course). w .now .course ∷ cs) same ∙ sym (from-head u (w .now) left)) (f .starts);
+        sums = subst (λ (cs : List Course). (j : ℕ) → j ≤ 48 → upTo (summed (g .reached .place .second) ys (g .total)) j
+            + (twiceTo (headed (g .up)) (listsBy l (w .now .course)) (grains (w .now .course .target)) (min (beginOf daySeconds cs) (1800 * j)) (g .reached .place) + piecesTo (spansOf u daySeconds cs) (1800 * j))
+            ≡ piecesTo (spansOf u daySeconds (coursesFrom u first all)) (1800 * j)) same (f .sums);
+        fits = f .fits;
+      }
+
+  -- with effect: it ends at the place q, and the next one begins
+  module _ (new : isIdle u (w .now) act ≡ false) (q : Place) (there : q .second ≡ acting act)
+      (run : g .reached .place .second < acting act → q ≡ onward (headed (g .up)) (listsBy l (w .now .course)) (grains (w .now .course .target)) (acting act) (g .reached .place)) where
+    abbrev then : UnderWay
+    then = next u (w .now) act
+
+    abbrev h : Heading
+    h = headed (g .up)
+
+    abbrev ls : Lists
+    ls = listsBy l (w .now .course)
+
+    abbrev t : ℕ
+    t = grains (w .now .course .target)
+
+    by-end : (j : ℕ) → sumAfter u (w .now) l g (act ∷ left) j ≡ twiceTo h ls t (min (q .second) (1800 * j)) (g .reached .place) + piecesTo (spansOf u daySeconds (coursesFrom u then left)) (1800 * j)
+    unfolding sumAfter
+    by-end j = λ k.
+        twiceTo h ls t (min ((end-new u (w .now) act left new ∙ sym there) k) (1800 * j)) (g .reached .place)
+        + piecesTo (spansOf u daySeconds (after-new u (w .now) act left new k)) (1800 * j)
+
+    later-starts : All LowStart (coursesFrom u then left)
+    later-starts = (subst (All LowStart) (from-head u (w .now) (act ∷ left) ∙ ap (λ (cs : List Course). w .now .course ∷ cs) (after-new u (w .now) act left new)) (f .starts)) .1
+
+    begins : then .course .begin ≡ q .second
+    begins = next-begins u (w .now) act (before u (w .now) act) ∙ sym there
+
+    pub sofar-new : (zs : List ℕ) (total : ℕ) (d : UnderWay) (g′ : OnCourse) (l′ : OwnLists) (up : Bool) → d ≡ then → g′ ≡ setOut then l′ up total →
+        up ≡ ltb (then .course .start .grains) (grains (then .course .target)) → l′ ≡ ownLists u (then .course) up →
+        Adds (pieceFrom h (g .reached .place) q) (summed (g .reached .place .second) ys (g .total)) (summed (q .second) zs total) → Fits (summed (q .second) zs total) →
+        Sofar u first all left (replacedBy w d) g′ l′ zs
+    unfolding setOut reachedAt beginning replacedBy
+    sofar-new zs total d g′ l′ up is out-is rises lists-are added fits = rw (is, out-is) (record {
+      going = subst (λ (x : Walk). Going u x left whole) (sym (acts-new u w act (before u (w .now) act) false refl (sym new) refl)) (going-next u w act left whole room (omega (arith, f .few)) (f .going));
+      few = omega (arith, f .few);
+      on = out-on u then l′ up total rises lists-are ((rw (from-head u then left) at later-starts) .0);
+      ordered = subst (λ (k : ℕ). Ordered k left) (sym (begins ∙ there)) (f .ordered .1);
+      starts = later-starts;
+      sums = λ j k.
+          omega (
+            arith,
+            f .sums j k,
+            by-end j,
+            subst (λ (i : ℕ). upTo (summed i zs total) j ≡ upTo (summed (g .reached .place .second) ys (g .total)) j + twiceTo h ls t (min (q .second) (1800 * j)) (g .reached .place)) (sym begins)
+                (piece-on h ls t (q .second) (g .reached .place) q (summed (g .reached .place .second) ys (g .total)) (summed (q .second) zs total)
+                (last-goes (g .up) l (w .now .course) (acting act) (g .reached .place) q (f .on .watching .short) there run) (omega (arith, f .ordered .0, there)) refl added j k),
+            set-out-sum u then l′ up total rises lists-are left j,
+          );
+      fits = subst (λ (k : ℕ). Fits (summed k zs total)) (sym begins) fits;
+    })
+
+-- ---- the day's end
+
+list-is : (xs : List ℕ) (f : ℕ → ℕ) (a : ℕ) → ((j : ℕ) → j < length xs → getD xs j 0 ≡ f (a + j)) → xs ≡ listFrom f a (length xs)
+unfolding listFrom
+list-is [] f a e = refl
+list-is (x ∷ xs) f a e =
+    λ i. (e 0 (omega arith) ∙ ap f {x = a + 0} {y = a} (omega arith)) i ∷ (list-is xs f (suc a) (λ j h. e (suc j) (omega arith) ∙ ap f {x = a + suc j} {y = suc a + j} (omega arith))) i
+
+module _ (u : UnitData) (first : UnderWay) (all left : List Numbered) (none : left ≡ []) (w : Walk) (g : OnCourse) (l : OwnLists) (ys : List ℕ) (f : Sofar u first all left w g l ys)
+    (q : Place) (off : ℕ) (there : q .second ≡ 86400)
+    (run : g .reached .place .second < 86400 → q ≡ onward (headed (g .up)) (listsBy l (w .now .course)) (grains (w .now .course .target)) 86400 (g .reached .place)) where
+  v : Sofar u first all [] w g l ys
+  v = subst (λ (os : List Numbered). Sofar u first all os w g l ys) none f
+
+  sum-last : (j : ℕ) → sumAfter u (w .now) l g [] j ≡ twiceTo (headed (g .up)) (listsBy l (w .now .course)) (grains (w .now .course .target)) (min (q .second) (1800 * j)) (g .reached .place)
+  unfolding sumAfter spansOf piecesTo
+  sum-last j =
+      (λ k. twiceTo (headed (g .up)) (listsBy l (w .now .course)) (grains (w .now .course .target)) (min ((end-none u (w .now) ∙ sym there) k) (1800 * j)) (g .reached .place)
+      + piecesTo (spansOf u daySeconds (after-none u (w .now) k)) (1800 * j))
+      ∙ omega arith
+
+  pub sofar-ends : (zs : List ℕ) (total : ℕ) (r : Followed) → r .walk ≡ w → r .sums ≡ zs → r .closing ≡ closingBy (w .now) (record { level = q .level; off = off }) →
+      (record { level = q .level; off = off }) ≡ stateAt byRule u (w .now) daySeconds →
+      Adds (pieceFrom (headed (g .up)) (g .reached .place) q) (summed (g .reached .place .second) ys (g .total)) (summed (q .second) zs total) → Fits (summed (q .second) zs total) → FollowedBy u first all r
+  unfolding walkAll walkOf twinTo
+  sofar-ends zs total r walk sums closing state added fits =
+      let ss : List Span = spansOf u daySeconds (coursesFrom u first all) in
+      let all-walked : w ≡ walkOf (lastIn u first all) (follow byRule u first all) = going-end u first w (follow byRule u first all) (v .going) in
+      let noted : (j : ℕ) → j < length zs → getD zs j 0 ≡ piecesTo ss (1800 * j) =
+      λ j h. omega (
+        arith,
+        v .sums j (omega (arith, fits .0)),
+        sum-last j,
+        upto-noted (summed (q .second) zs total) j (omega (arith, fits .0)),
+        piece-on (headed (g .up)) (listsBy l (w .now .course)) (grains (w .now .course .target)) (q .second) (g .reached .place) q (summed (g .reached .place .second) ys (g .total)) (summed (q .second) zs total)
+            (last-goes (g .up) l (w .now .course) 86400 (g .reached .place) q (v .on .watching .short) there run) (omega (arith, v .ordered, there)) refl added j (omega (arith, fits .0)),
+      ) in
+      record {
+        walk = walk ∙ all-walked;
+        sums = sums ∙ list-is zs (twinTo ss) 0 (λ j h. noted j h ∙ ap (twinTo ss) {x = j} {y = 0 + j} (omega arith)) ∙ ap (listFrom (twinTo ss) 0) (fits .0);
+        closing = closing ∙ ap (closingBy (w .now)) state ∙ ap (λ (x : Walk). closingBy (x .now) (stateAt byRule u (x .now) daySeconds)) all-walked;
+      }

@@ -1,57 +1,98 @@
-// The instructions followed once, from 06:00 to the day's end: what each does at its acting second, with the S lines and the areas
-// on the way.
+// The instructions that act, followed along the day from 06:00 to its end: the courses, the fates, twice the area up to each half-hour
+// boundary, and the closing state.
 ghost use mathlib.Core.Path.{_≡_};
-ghost use Prim.Native.Nat.{_+_, _-_, _<_, _≤_};
-ghost use lib.ListN.{length, take};
+ghost use mathlib.Core.Bool.{true};
+ghost use mathlib.Core.List.{[], _∷_};
+ghost use Prim.Native.Nat.{_+_, _-_, min, _<_, _≤_};
+ghost use lib.ListN.{take};
 ghost use Rattle.level.specs.Choice.{pick};
-ghost use Rattle.level.specs.Level.{grains};
 ghost use Rattle.level.specs.Lists.{All};
 ghost use Rattle.validation.specs.Kept.{acting};
 ghost use Rattle.profile.specs.Effects.{begun};
-ghost use Rattle.daylines.specs.Rest.{coursesLines};
-ghost use Rattle.passing.specs.Passing.{Summed, linesLeft};
-ghost use Rattle.following.specs.Following.{setOut, Ordered, LowStart, coursesFrom, Onward, FollowedBy, EndedBy, SettledBy};
+ghost use Rattle.following.specs.Walk.{walkOf};
+ghost use Rattle.following.specs.Following.{setOut, wentTo, Ordered, LowStart, coursesFrom, FollowedBy};
 
 // The day's seconds.
 const DAY: u32 = 86400;
 
-// ---- one instruction after another
+// ---- what is kept on the way
 
-// A course under way, and how far it has been passed: its heading, its own lists, the place and the seconds off there.
-pub struct OnCourse {
+// How far they are followed: the course under way, the courses so far with it as the last (the first `started` places),
+// and the fates, in acting order, of those that have acted.
+pub struct Walk {
     pub now: profile::UnderWay,
-    pub up: bool,
-    pub lists: rates::OwnLists,
-    pub place: trajectory::Place,
-    pub off: u32,
+    pub courses: [course::Course; 41],
+    pub started: usize,
+    pub fates: [u8; 40],
+    pub acted: usize,
 }
 
-// A course at its beginning.
-fn set_out(u: records::UnitData, now: profile::UnderWay) -> OnCourse
-    ensures { λ r. ⌜ r ≡ setOut u now ⌝ }
+// None has acted yet.
+fn begin_walk(now: profile::UnderWay) -> Walk
+    ensures { λ r. ⌜ r ≡ walkOf now (record { marks = []; courses = now ∷ [] }) ⌝ }
+{
+    let none = day::no_course();
+    let first = now.course;
+    let mut courses = [none; 41];
+    courses[0] = first;
+    let fates = [0u8; 40];
+    Walk {
+        now,
+        courses,
+        started: 1,
+        fates,
+        acted: 0,
+    }
+}
+
+// How far the course under way is followed: its heading, where it was reached, the seconds off there, and twice the area of the
+// day up to there.
+pub struct OnCourse {
+    pub up: bool,
+    pub reached: trajectory::Reached,
+    pub off: u32,
+    pub total: u64,
+}
+
+// A course at its beginning, with its lists and the total up to there.
+fn set_out(now: profile::UnderWay, l: rates::OwnLists, up: bool, total: u64) -> OnCourse
+    ensures { λ r. ⌜ r ≡ setOut now l up total ⌝ }
 {
     let c = now.course;
-    let up = trajectory::is_rising(c);
-    let lists = rates::own_lists(u, c, up);
-    let place = trajectory::begin_at(c, c.begin);
+    let reached = trajectory::begin_at(l, c, up, 0);
     let off = effects::off_starting(c, now.off);
     OnCourse {
-        now,
         up,
-        lists,
-        place,
+        reached,
         off,
+        total,
     }
 }
 
-// Ramp-up for a rising course, ramp-down for a falling one.
-fn ramp_of(up: bool, rising: records::Ramp, falling: records::Ramp) -> records::Ramp
-    ensures { λ r. ⌜ r ≡ pick up rising falling ⌝ }
+// The same course further on.
+fn went_to(up: bool, s: passing::Passed) -> OnCourse
+    ensures { λ r. ⌜ r ≡ wentTo up s ⌝ }
 {
-    if up {
-        return rising;
+    let reached = s.reached;
+    OnCourse {
+        up,
+        reached,
+        off: s.off,
+        total: s.total,
     }
-    falling
+}
+
+// ---- one instruction after another
+
+// The second to which a course is followed next: that at which an instruction acts, or the day's end.
+fn next_second(more: bool, o: validation::Numbered) -> u32
+    requires { ⌜ (more ≡ true → acting o < 4294967296) ⌝ }
+    ensures { λ r. ⌜ r ≡ pick more (acting o) 86400 ⌝ }
+{
+    if more {
+        return effects::acting_second(o);
+    }
+    DAY
 }
 
 // The course that an instruction of fate 0 begins, from the place q with so many seconds off.
@@ -70,136 +111,89 @@ fn begin_next(
     effects::begin_course(u, now, o, state)
 }
 
-// The last course that was begun, the fates of those that acted in acting order, and how many bytes were written.
-pub struct Followed {
-    pub last: OnCourse,
-    pub fates: [u8; 40],
-    pub count: usize,
+// The closing state of a course that has come to the place q.
+fn close_at(c: course::Course, q: trajectory::Place, off: u32) -> profile::Closing
+    ensures { λ r. ⌜ r ≡ record { level = record { grains = q .level }; target = c .target; heat = c .heat; off = off } ⌝ }
+{
+    let level = level::Level { grains: q.level };
+    profile::Closing {
+        level,
+        target: c.target,
+        heat: c.heat,
+        off,
+    }
 }
 
-// The first n of those that act, from the course `first` on; each read with the state just before. Fate 7: the course under
-// way goes on. Fate 0: it ends there, and a new one begins. The lists l are kept apart from g: of them a new course picks
-// only its column and its ramp.
-fn follow_on(
-    out: &mut [u8],
-    parts: &mut [u64; 49],
+// The place of an instruction; past the last one the last.
+fn place_in(at: usize) -> usize
+    ensures { λ r. ⌜ r ≡ min at 39 ⌝ }
+{
+    if at < 39 {
+        return at;
+    }
+    39
+}
+
+// What following comes to: the walk, twice the recorded area from 06:00 to each half-hour boundary, and the closing state.
+pub struct Followed {
+    pub walk: Walk,
+    pub sums: [u64; 49],
+    pub closing: profile::Closing,
+}
+
+// The first n of those that act, from the course `first` on, once along the day; each read with the state just before. Fate 7:
+// the course under way goes on. Fate 0: it ends there, and a new one begins. Of its lists a new course picks only its column and
+// its ramp.
+pub fn follow_day(
     u: records::UnitData,
     first: profile::UnderWay,
     acts: [validation::Numbered; 40],
     n: usize,
 ) -> Followed
-    requires { ⌜ (n ≤ 40) × Ordered (first .course .begin) (take n acts) ⌝ }
-    requires { ⌜ Summed (first .course .begin) (now parts) × All LowStart (coursesFrom u first (take n acts)) ⌝ }
-    requires { ⌜ length (coursesLines u (coursesFrom u first (take n acts))) ≤ length (now out) ⌝ }
-    ensures { λ r. ⌜ FollowedBy u first (take n acts) (now (out .entry)) (now (out .exit)) (now (parts .entry)) (now (parts .exit)) r ⌝ }
+    requires { ⌜ (n ≤ 40) × Ordered (first .course .begin) (take n acts) × All LowStart (coursesFrom u first (take n acts)) ⌝ }
+    ensures { λ r. ⌜ FollowedBy u first (take n acts) r ⌝ }
 {
-    let mut g = set_out(u, first);
-    let mut l = g.lists;
-    let mut fates = [0u8; 40];
-    let mut count: usize = 0;
-    let mut i: usize = 0;
-    while i < n {
-        let o = acts[i];
-        let at = i;
-        i += 1;
-        let now = g.now;
+    let mut w = begin_walk(first);
+    let rises = trajectory::is_rising(first.course);
+    let mut l = rates::own_lists(u, first.course, rises);
+    let mut g = set_out(first, l, rises, 0);
+    let mut sums = [0u64; 49];
+    loop {
+        let at = w.acted;
+        let o = acts[place_in(at)];
+        let now = w.now;
         let c = now.course;
-        let t = effects::acting_second(o);
-        let s = passing::pass_to(&mut out[count..], parts, l, c, g.up, g.place, g.off, t);
-        count += s.count;
-        let p = s.place;
+        let t = next_second(at < n, o);
+        let s = passing::pass_to(&mut sums, g.total, l, c, g.up, g.reached, g.off, t);
+        let reached = s.reached;
+        let p = reached.place;
         let q = s.ahead;
-        if effects::stays_idle(o, q.level, now.maximised) {
-            fates[at] = 7;
-            g.place = p;
-            g.off = s.off;
-        } else {
-            count += passing::end_course(&mut out[count..], parts, g.up, p, q);
-            let next = begin_next(u, now, o, q, s.later);
-            fates[at] = 0;
-            let d = next.course;
-            let heat = rates::place_of(d.heat);
-            g.now = next;
-            g.up = trajectory::is_rising(d);
-            l.column = u.columns[heat];
-            l.ramp = ramp_of(g.up, u.up, u.down);
-            g.place = trajectory::begin_at(d, d.begin);
-            g.off = effects::off_starting(d, next.off);
+        if n <= at {
+            let whole = passing::note_piece(&mut sums, s.total, g.up, p, q);
+            let closing = close_at(c, q, s.later);
+            return Followed {
+                walk: w,
+                sums,
+                closing,
+            };
         }
-    }
-    g.lists = l;
-    Followed {
-        last: g,
-        fates,
-        count,
-    }
-}
-
-// The last course to the day's end: the closing state, and how many bytes were written.
-pub struct Ended {
-    pub closing: profile::Closing,
-    pub count: usize,
-}
-
-fn end_day(out: &mut [u8], parts: &mut [u64; 49], g: OnCourse) -> Ended
-    requires { ⌜ Onward g × (g .place .second ≤ 86400) × Summed (g .place .second) (now parts) ⌝ }
-    requires { ⌜ length (linesLeft (g .lists) (g .now .course) (g .up) 86400 (g .place)) ≤ length (now out) ⌝ }
-    ensures { λ r. ⌜ EndedBy g (now (out .entry)) (now (out .exit)) (now (parts .entry)) (now (parts .exit)) r ⌝ }
-{
-    let now = g.now;
-    let c = now.course;
-    let l = g.lists;
-    let from = g.place;
-    let s = passing::pass_to(out, parts, l, c, g.up, from, g.off, DAY);
-    let at = s.count;
-    let p = s.place;
-    let q = s.ahead;
-    let w = passing::end_course(&mut out[at..], parts, g.up, p, q);
-    let level = level::Level { grains: q.level };
-    let closing = profile::Closing {
-        level,
-        target: c.target,
-        heat: c.heat,
-        off: s.later,
-    };
-    Ended {
-        closing,
-        count: at + w,
-    }
-}
-
-// ---- the day
-
-// The fates of those that acted in acting order, the closing state, and how many bytes of S lines were written.
-pub struct Settled {
-    pub fates: [u8; 40],
-    pub closing: profile::Closing,
-    pub count: usize,
-}
-
-// From 06:00 to the day's end.
-pub fn follow_day(
-    out: &mut [u8],
-    parts: &mut [u64; 49],
-    u: records::UnitData,
-    first: profile::UnderWay,
-    acts: [validation::Numbered; 40],
-    n: usize,
-) -> Settled
-    requires { ⌜ (n ≤ 40) × Ordered (first .course .begin) (take n acts) ⌝ }
-    requires { ⌜ Summed (first .course .begin) (now parts) × All LowStart (coursesFrom u first (take n acts)) ⌝ }
-    requires { ⌜ length (coursesLines u (coursesFrom u first (take n acts))) ≤ length (now out) ⌝ }
-    ensures { λ r. ⌜ SettledBy u first (take n acts) (now (out .entry)) (now (out .exit)) (now (parts .entry)) (now (parts .exit)) r ⌝ }
-{
-    let w = follow_on(out, parts, u, first, acts, n);
-    let at = w.count;
-    let last = w.last;
-    let e = end_day(&mut out[at..], parts, last);
-    let fates = w.fates;
-    let closing = e.closing;
-    Settled {
-        fates,
-        closing,
-        count: at + e.count,
+        w.acted = at + 1;
+        if effects::stays_idle(o, q.level, now.maximised) {
+            w.fates[at] = 7;
+            g = went_to(g.up, s);
+        } else {
+            let total = passing::note_piece(&mut sums, s.total, g.up, p, q);
+            let next = begin_next(u, now, o, q, s.later);
+            let d = next.course;
+            let top = w.started;
+            w.now = next;
+            w.courses[top] = d;
+            w.started = top + 1;
+            w.fates[at] = 0;
+            let up = trajectory::is_rising(d);
+            l.column = u.columns[rates::place_of(d.heat)];
+            l.ramp = rates::ramp_of(up, u.up, u.down);
+            g = set_out(next, l, up, total);
+        }
     }
 }

@@ -1,16 +1,16 @@
 // Which instructions are kept, steps 1 to 4: over up to forty instructions with their numbers. Steps 1 and 2 are in `choosing`.
 ghost use mathlib.Core.Path.{_≡_};
 ghost use Prim.Native.Nat.{ℕ, _-_, _<_, _≤_, min};
-ghost use mathlib.Core.List.{List};
+ghost use mathlib.Core.List.{List, []};
 ghost use lib.ListN.{length, take};
 ghost use Rattle.level.specs.Lists.{filled};
 ghost use Rattle.level.specs.Choice.{pick};
 ghost use Rattle.validation.specs.declared.Numbered.{Numbered};
 ghost use Rattle.validation.specs.Kept.{numbered, acting, actors, lateMarks};
-ghost use Rattle.choosing.specs.Working.{Timed};
+ghost use Rattle.choosing.specs.Working.{Timed, rises};
 ghost use Rattle.keeping.specs.Outcome.{validationOf};
 ghost use Rattle.keeping.specs.Late.{lateAt, LateFates, settled, actingWith, fatesTo};
-ghost use Rattle.checking.specs.Working.{numberOf, Noted, checking, Soon};
+ghost use Rattle.checking.specs.Working.{numberOf, Noted, Soon};
 
 // What steps 1 to 4 come to: the fates by number, those that act in time order, and how many these are.
 pub struct Validation {
@@ -140,25 +140,26 @@ fn final_fate(superseded: bool, later: u8) -> u8
     later
 }
 
-// The fates by number, of the first n with these times.
-fn fates_of(times: &[u32; 40], issues: &[u32; 40], n: usize, later: [u8; 40]) -> [u8; 40]
-    requires { ⌜ (n ≤ 40) × (n ≤ length (now times)) × (n ≤ length (now issues)) ⌝ }
+// The fates by number, of the first n with these times, which stand in order or not.
+fn fates_of(
+    times: &[u32; 40],
+    issues: &[u32; 40],
+    n: usize,
+    ordered: bool,
+    later: [u8; 40],
+) -> [u8; 40]
+    requires { ⌜ (n ≤ 40) × (n ≤ length (now times)) × (n ≤ length (now issues)) × (ordered ≡ rises 0 (take n (now times))) ⌝ }
     ensures { λ r. ⌜ r ≡ filled 40 0 (fatesTo (take n (now (times .entry))) (take n (now (issues .entry))) later n) ⌝ }
 {
     let mut out = [0u8; 40];
-    let ordered = choosing::in_order(times, n);
+    let mut latest: u32 = 0;
     let mut i: usize = 0;
     while i < n {
         let at = i;
         i += 1;
+        latest = choosing::latest_of(times, issues, n, at, ordered, latest);
+        let superseded = issues[at] < latest;
         let fate = later[at];
-        if choosing::stands_alone(times, n, at, ordered) {
-            out[at] = fate;
-            continue;
-        }
-        let t = times[at];
-        let issue = issues[at];
-        let superseded = choosing::is_superseded(times, issues, n, t, issue);
         out[at] = final_fate(superseded, fate);
     }
     out
@@ -183,6 +184,20 @@ fn time_all(
     }
 }
 
+// What comes of no instruction.
+fn none_entered() -> Validation
+    ensures { λ r. ⌜ r ≡ actingWith (filled 40 0 []) [] ⌝ }
+{
+    let fates = [0u8; 40];
+    let none = choosing::no_one();
+    let acts = [none; 40];
+    Validation {
+        fates,
+        acts,
+        acting: 0,
+    }
+}
+
 // A count above forty reads like forty.
 fn at_most_forty(count: usize) -> usize
     ensures { λ r. ⌜ r ≡ min count 40 ⌝ }
@@ -193,15 +208,19 @@ fn at_most_forty(count: usize) -> usize
     40
 }
 
-// Which of the first `count` instructions are kept, in a day of `end` seconds. A count above forty reads like forty.
+// Which of the first `count` instructions are kept, in a day of `end` seconds. A count above forty reads like forty; where there is none, nothing is looked at.
 pub fn validate(instructions: [records::Instruction; 40], count: usize, end: u32) -> Validation
     ensures { λ r. ⌜ r ≡ validationOf instructions count end ⌝ }
 {
+    if count == 0 {
+        return none_entered();
+    }
     let n = at_most_forty(count);
     let mut times = [0u32; 40];
     let mut issues = [0u32; 40];
     time_all(instructions, n, &mut times, &mut issues);
-    let used = choosing::used_in(instructions, &times, &issues, n, end);
+    let ordered = choosing::in_order(&times, n);
+    let used = choosing::used_in(instructions, &times, &issues, n, end, ordered);
     // fate 2, until a later step settles it
     let mut marks = [2u8; 40];
     let mut numbers = [0u32; 40];
@@ -210,6 +229,6 @@ pub fn validate(instructions: [records::Instruction; 40], count: usize, end: u32
     let height = kept.count;
     let late = late_fates(&acting, height, end);
     let later = settle_late(&numbers, height, late, marks);
-    let fates = fates_of(&times, &issues, n, later);
+    let fates = fates_of(&times, &issues, n, ordered, later);
     acts_of(kept, late, fates)
 }

@@ -8,7 +8,7 @@ use native.Mathlib.Omega.{arith}
 use native.Mathlib.Numerals.{add-one}
 use lib.ListN.{length, take, drop, getD, length-drop, length-take, drop-of-length-le}
 use lib.Seq.{take-all, getD-take, drop-cons, length-take-le}
-use Rattle.level.specs.Lists.{All, listFrom}
+use Rattle.level.specs.Lists.{listFrom}
 
 -- by the value of a test
 pub by-bool : {P : Type 0} (b : Bool) → (b ≡ true → P) → (b ≡ false → P) → P
@@ -34,12 +34,3 @@ module _ {A : Type 0} (xs : List A) (n : ℕ) where
 
   pub left-none : (i : ℕ) → n ≤ i → drop i (take n xs) ≡ []
   left-none i h = drop-of-length-le (take n xs) {i = i} (omega (arith, length-take n xs))
-
--- a fact of all is one of each
-pub all-at : {A : Type 0} (P : A → Type 0) (xs : List A) (i : ℕ) (d : A) → i < length xs → All P xs → P (getD xs i d)
-all-at P [] i d h a = absurd (omega arith)
-all-at P (x ∷ xs) zero d h a = a .0
-all-at P (x ∷ xs) (suc i) d h a = all-at P xs i d (omega arith) (a .1)
-
-pub all-first : {A : Type 0} (P : A → Type 0) (xs : List A) (n i : ℕ) (d : A) → i < n → n ≤ length xs → All P (take n xs) → P (getD xs i d)
-all-first P xs n i d h k a = rw (getD-take n xs i d h) at (all-at P (take n xs) i d (omega (arith, length-take-le n xs k)) a)

@@ -2,7 +2,6 @@
 -- Assumes nothing.
 use Prim.Native.Nat.{ℕ, min, _+_, _*_, _-_, _/_, _≤_, _<_}
 use mathlib.Core.Path.{_≡_, refl, ap, sym, _∙_}
-use mathlib.Core.List.{List}
 use native.Mathlib.Decide.{decLe}
 use native.Mathlib.Omega.{arith}
 use borrow.Author.Tests.{lt-ltb}
@@ -17,7 +16,7 @@ use Rattle.trajectory.specs.Walk.{momentOf, standing, twiceTo}
 use Rattle.trajectory.proofs.Seconds.{after-add}
 use Rattle.trajectory.proofs.Goes.{Goes}
 use Rattle.trajectory.proofs.Areas.{area-from, area-same, twice-here}
-use Rattle.passing.specs.Passing.{lineTwice, Straight, AddsPiece, AddsOn}
+use Rattle.passing.specs.Passing.{Summed, Adds, lineTwice, pieceFrom, Straight, AddsOn}
 use Rattle.passing.proofs.Adding.{adds-same}
 use Rattle.passing.proofs.Lines.{line-none, along-toward, straight-rate}
 
@@ -101,15 +100,14 @@ module _ (h : Heading) (l : Lists) (t n : ℕ) (p q : Place) (g : Goes h l t n p
   ]
 
 -- what a piece adds is what the course does there
-pub piece-on : (h : Heading) (l : Lists) (t n : ℕ) (p q : Place) (xs ys : List ℕ) → (p .second < q .second → Goes h l t n p q) → p .second ≤ q .second →
-    AddsPiece h p q xs ys → AddsOn h l t p (q .second) xs ys
-piece-on h l t n p q xs ys go le a = elim (decLe (q .second) (p .second)) [
+pub piece-on : (h : Heading) (l : Lists) (t n : ℕ) (p q : Place) (a b : Summed) → (p .second < q .second → Goes h l t n p q) → p .second ≤ q .second → b .second ≡ q .second →
+    Adds (pieceFrom h p q) a b → AddsOn h l t p a b
+piece-on h l t n p q a b go le to adds = elim (decLe (q .second) (p .second)) [
   | yes same ↦
-      adds-same (λ (i : ℕ). lineTwice h (p .level) (gap (p .level) (q .level) / (q .second - p .second)) (i - p .second)) (λ (i : ℕ). twiceTo h l t i p) (q .second) xs ys
-      (λ i k. line-none h (p .level) (gap (p .level) (q .level) / (q .second - p .second)) (i - p .second) (omega arith) ∙ sym (twice-here h l t i p (omega arith))) a
+      adds-same (pieceFrom h p q) (λ (i : ℕ). twiceTo h l t i p) a b
+      (λ i k. line-none h (p .level) (gap (p .level) (q .level) / (q .second - p .second)) (i - p .second) (omega arith) ∙ sym (twice-here h l t i p (omega arith))) adds
   | no lt ↦
-      adds-same (λ (i : ℕ). lineTwice h (p .level) (gap (p .level) (q .level) / (q .second - p .second)) (i - p .second)) (λ (i : ℕ). twiceTo h l t i p) (q .second) xs ys
-      (line-area h l t n p q (go (omega arith))) a
+      adds-same (pieceFrom h p q) (λ (i : ℕ). twiceTo h l t i p) a b (λ i k. line-area h l t n p q (go (omega arith)) i (omega arith)) adds
 ]
 
 -- to the second n by way of a place between

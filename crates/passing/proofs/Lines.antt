@@ -1,17 +1,17 @@
 -- A straight line, half-hour by half-hour.
 -- Assumes nothing.
-use Prim.Native.Nat.{ℕ, _+_, _*_, _-_, _/_, _≤_, _<_}
+use Prim.Native.Nat.{ℕ, _+_, _*_, _-_, _/_, min, _≤_, _<_}
 use mathlib.Core.Path.{_≡_, refl, ap, sym, _∙_, subst}
 use mathlib.Core.List.{List}
 use native.Mathlib.Nat.{mul-le-mul-left, mul-le-mul-right, zero-mul, div-eq-of-eq-mul-right}
 use native.Mathlib.Omega.{arith}
-use lib.ListN.{getD, set}
+use lib.ListN.{length, set}
 use Rattle.course.specs.Course.{Heading, rising, falling, toward, gap}
 use Rattle.course.proofs.Pieces.{Along}
 use Rattle.trajectory.specs.declared.Place.{Place}
 use Rattle.trajectory.specs.Walk.{Reaches}
-use Rattle.passing.specs.Passing.{lineTwice, StaysLow, Straight, AddsPiece, Summed}
-use Rattle.passing.proofs.Adding.{adds-none, adds-on, summed-on, part-fits}
+use Rattle.passing.specs.Passing.{Summed, summed, Adds, Fits, lineTwice, lineFrom, pieceFrom, StaysLow, Straight}
+use Rattle.passing.proofs.Adding.{adds-none, adds-on, fits-on, total-fits, step-in, step-next}
 
 -- no time, no area
 pub line-none : (h : Heading) (v r k : ℕ) → k ≡ 0 → lineTwice h v r k ≡ 0
@@ -59,6 +59,91 @@ module _ (v r k m d : ℕ) (le : k + m ≤ d) where
   line-more falling s =
       fall-more v (v - (k + m) * r) (v - k * r) (v - (k + m) * r) r k m (omega (arith, less, s .0)) (omega (arith, less, s .0)) refl
 
+-- ---- along a line, half-hour by half-hour
+
+-- up to `at` the line is added, and v is its level there; x is the boundary b, where the half-hour of `at` begins, unless `to` is reached
+pub record Along-line (h : Heading) (level rate from to : ℕ) (a : Summed) (xs : List ℕ) (b x at v t : ℕ) : Type 0 where
+  pub boundary : x ≡ 1800 * b
+  pub begun : min x to ≤ at
+  pub within : at < x + 1800
+  pub after : from ≤ at
+  pub before : at ≤ to
+  pub adds : Adds (lineFrom h level rate from) a (summed at xs t)
+  pub fits : Fits (summed at xs t)
+  pub there : v ≡ toward h level ((at - from) * rate)
+
+module _ (h : Heading) (level rate from to : ℕ) (a : Summed) (day : to ≤ 86400) (low : StaysLow h level ((to - from) * rate)) where
+  pub line-begun : (xs : List ℕ) (t half : ℕ) → a ≡ summed from xs t → half ≡ from / 1800 → from ≤ to → Fits a → Along-line h level rate from to a xs half (half * 1800) from level t
+  line-begun xs t half e k le fits = record {
+    boundary = omega arith;
+    begun = omega arith;
+    within = omega arith;
+    after = omega arith;
+    before = le;
+    adds = subst (Adds (lineFrom h level rate from) a) e (adds-none (lineFrom h level rate from) a (λ i j. line-none h level rate (i - from) (omega (arith, j, ap (λ (x : Summed). x .second) e))));
+    fits = subst Fits e fits;
+    there = line-start h level rate (from - from) (omega arith);
+  }
+
+  -- a step to n, where the half-hour ends, or the line
+  module _ (xs : List ℕ) (b x at v t n : ℕ) (l : Along-line h level rate from to a xs b x at v t) (left : at < to) (next : n ≡ min (x + 1800) to) where
+    abbrev k : ℕ
+    k = at - from
+
+    abbrev m : ℕ
+    m = n - at
+
+    abbrev w : ℕ
+    w = toward h v (m * rate)
+
+    pub in-half : (b ≤ 47) × (1800 * b ≤ at) × (at < n) × (n ≤ 1800 * b + 1800) × (n ≤ to)
+    in-half = step-in b x at to n (l .boundary) day (l .begun) (l .within) left next
+
+    on-line : k + m ≤ to - from
+    on-line = omega (arith, in-half, l .after)
+
+    pub step-low : m * rate ≤ 274877906944
+    step-low = line-step level rate k m (to - from) on-line h low
+
+    pub step-reaches : Reaches h v (m * rate)
+    step-reaches = subst (λ (y : ℕ). Reaches h y (m * rate)) (sym (l .there)) (line-reaches level rate k m (to - from) on-line h low)
+
+    moves : w ≡ toward h level ((k + m) * rate)
+    moves = ap (λ (y : ℕ). toward h y (m * rate)) (l .there) ∙ line-on level rate k m (to - from) on-line h low
+
+    pub levels-low : (v < 274877906944) × (w < 274877906944) × (m * (v + w) ≤ m * 549755813888)
+    levels-low =
+        let lo : v < 274877906944 = omega (arith, line-low level rate k m (to - from) on-line h low, l .there) in
+        let hi : w < 274877906944 = omega (arith, line-low level rate (k + m) 0 (to - from) (omega (arith, on-line)) h low, moves) in
+        (lo, hi, mul-le-mul-left m (omega (arith, lo, hi)))
+
+    line-room : b + 1 < length xs
+    line-room = omega (arith, in-half .0, l .fits .0)
+
+    pub line-fits : t + m * (v + w) < 18446744073709551616
+    line-fits = total-fits b at n (m * (v + w)) t xs (in-half .1) (in-half .2) (in-half .3) line-room (omega (arith, in-half .4)) (levels-low .2) (l .fits)
+
+    adds-up : lineFrom h level rate from at + m * (v + w) ≡ lineFrom h level rate from n
+    adds-up =
+        ap (λ (y : ℕ). lineTwice h level rate k + m * (y + w)) (l .there)
+        ∙ ap (λ (y : ℕ). lineTwice h level rate k + m * (toward h level (k * rate) + y)) moves
+        ∙ line-more level rate k m (to - from) on-line h low
+        ∙ ap (lineTwice h level rate) {x = k + m} {y = n - from} (omega (arith, in-half .2, l .after))
+
+    pub line-further : Along-line h level rate from to a (set xs (b + 1) (t + m * (v + w))) (b + 1) (x + 1800) n w (t + m * (v + w))
+    line-further =
+        let s = step-next b x at to n (l .boundary) day (l .begun) (l .within) left next in
+        record {
+          boundary = s .0;
+          begun = s .1;
+          within = s .2;
+          after = omega (arith, in-half .2, l .after);
+          before = in-half .4;
+          adds = adds-on b at n (m * (v + w)) t xs (in-half .1) (in-half .2) (in-half .3) line-room (lineFrom h level rate from) a adds-up (l .adds);
+          fits = fits-on b at n (m * (v + w)) t xs (in-half .1) (in-half .2) (in-half .3) line-room (levels-low .2) (l .fits);
+          there = moves ∙ ap (λ (y : ℕ). toward h level (y * rate)) {x = k + m} {y = n - from} (omega (arith, in-half .2, l .after));
+        }
+
 -- ---- from one place to another
 
 pub along-toward : (h : Heading) (v m w : ℕ) → Along h v m w → w ≡ toward h v m
@@ -92,30 +177,33 @@ module _ (h : Heading) (p q : Place) (lt : p .second < q .second) (s : Straight 
   straight-low lp lq = stays h (p .level) (time * rate) (q .level) along lp lq
 
   -- within one half-hour
-  module _ (xs : List ℕ) (day : q .second ≤ 86400) (low : p .level < 274877906944) (low-too : q .level < 274877906944)
-      (one : q .second ≤ (p .second / 1800 + 1) * 1800) (sums : Summed (p .second) xs) where
+  module _ (xs : List ℕ) (t : ℕ) (day : q .second ≤ 86400) (low : p .level < 274877906944) (low-too : q .level < 274877906944)
+      (one : q .second ≤ (p .second / 1800 + 1) * 1800) (fits : Fits (summed (p .second) xs t)) where
     abbrev half : ℕ
     half = p .second / 1800
 
     abbrev more : ℕ
     more = time * (p .level + q .level)
 
-    place : (half ≤ 47) × (1800 * half ≤ p .second) × (p .second ≤ q .second) × (q .second ≤ 1800 * half + 1800)
+    place : (1800 * half ≤ p .second) × (q .second ≤ 1800 * half + 1800) × (half + 1 < 49)
     place = omega arith
+
+    room : half + 1 < length xs
+    room = omega (arith, place .2, fits .0)
 
     more-low : more ≤ time * 549755813888
     more-low = mul-le-mul-left time (omega arith)
 
-    pub piece-fits : getD xs (half + 1) 0 + more < 18446744073709551616
-    piece-fits = part-fits half (p .second) (q .second) more xs (place .1) (place .2) (place .3) (place .0) day more-low sums
+    pub piece-fits : t + more < 18446744073709551616
+    piece-fits = total-fits half (p .second) (q .second) more t xs (place .0) lt (place .1) room day more-low fits
 
-    whole : lineTwice h (p .level) rate (p .second - p .second) + more ≡ lineTwice h (p .level) rate time
+    whole : lineFrom h (p .level) rate (p .second) (p .second) + more ≡ lineFrom h (p .level) rate (p .second) (q .second)
     unfolding lineTwice
     whole = ap (λ (v : ℕ). v + more) (line-none h (p .level) rate (p .second - p .second) (omega arith)) ∙ omega arith ∙ ap (λ (v : ℕ). time * (p .level + v)) (along-toward h (p .level) (time * rate) (q .level) along)
 
-    pub piece-adds : AddsPiece h p q xs (set xs (half + 1) (getD xs (half + 1) 0 + more)) × Summed (q .second) (set xs (half + 1) (getD xs (half + 1) 0 + more))
+    pub piece-adds : Adds (pieceFrom h p q) (summed (p .second) xs t) (summed (q .second) (set xs (half + 1) (t + more)) (t + more)) × Fits (summed (q .second) (set xs (half + 1) (t + more)) (t + more))
     piece-adds = (
-      adds-on half (p .second) (q .second) more xs (place .1) (place .2) (place .3) (λ (i : ℕ). lineTwice h (p .level) rate (i - p .second)) xs (omega (arith, place .0, sums .0))
-          whole (adds-none (λ (i : ℕ). lineTwice h (p .level) rate (i - p .second)) (p .second) xs (λ i le. line-none h (p .level) rate (i - p .second) (omega arith))),
-      summed-on half (p .second) (q .second) more xs (place .1) (place .2) (place .3) (place .0) more-low sums,
+      adds-on half (p .second) (q .second) more t xs (place .0) lt (place .1) room (pieceFrom h p q) (summed (p .second) xs t) whole
+          (adds-none (pieceFrom h p q) (summed (p .second) xs t) (λ i le. line-none h (p .level) rate (i - p .second) (omega arith))),
+      fits-on half (p .second) (q .second) more t xs (place .0) lt (place .1) room more-low fits,
     )

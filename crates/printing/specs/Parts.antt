@@ -1,21 +1,23 @@
 -- The parts of a listing, and what asking for it gives.
 -- Assumes nothing.
 use Prim.Native.Nat.{ℕ}
-use mathlib.Core.List.{List, _++_}
+use mathlib.Core.List.{List}
+use lib.ListN.{take}
 use Rattle.records.specs.declared.Refusal.{Refusal}
 use Rattle.records.specs.declared.Answer.the-variants.{Accepted, Refused}
 use Rattle.day.specs.declared.Day.{Day}
-use Rattle.day.specs.Day.{coursesIn, quantitiesIn}
 use Rattle.listing.specs.declared.Listed.{Listed}
-use Rattle.listing.specs.Listing.{qLines}
-use Rattle.daylines.specs.Rest.{coursesLines, closingLine}
+use Rattle.daylines.specs.Rest.{fateLines, coursesLines, quantityLines}
 
--- a day's listing from its Q lines on, and from its S lines on
-unfoldable pub fromQ : Day → List ℕ
-fromQ d = qLines (quantitiesIn d) ++ closingLine (d .closing)
+-- the F, S and Q lines of a day
+abbrev pub linesF : Day → List ℕ
+linesF d = fateLines (d .count) (d .fates)
 
-unfoldable pub fromS : Day → List ℕ
-fromS d = coursesLines (d .unit) (coursesIn d) ++ fromQ d
+abbrev pub linesS : Day → List ℕ
+linesS d = coursesLines (d .unit) (take (d .started) (d .courses))
+
+abbrev pub linesQ : Day → List ℕ
+linesQ d = quantityLines (d .sums)
 
 -- what asking for a listing gives: a refusal, or so many bytes
 abbrev pub noListing : Refusal → Listed

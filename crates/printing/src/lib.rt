@@ -1,10 +1,11 @@
 // The listing of a day into a lent slice: measured first, then written.
 ghost use mathlib.Core.Path.{_≡_};
+ghost use mathlib.Core.Bool.{true};
 ghost use Prim.Native.Nat.{_+_, _-_, _<_, _≤_};
 ghost use lib.ListN.{length};
 ghost use Rattle.text.specs.Text.{laid};
 ghost use Rattle.listing.specs.Listing.{printedDay, listOf, lentAfter};
-ghost use Rattle.printing.specs.Parts.{fromQ, fromS, noListing, someListing};
+ghost use Rattle.printing.specs.Parts.{noListing, someListing};
 use day::Day;
 use listing::Listed;
 use records::Answer;
@@ -21,46 +22,26 @@ pub fn day_width(day: Day) -> usize
     let unit = day.unit;
     let courses = day.courses;
     let s = daylines::courses_width(unit, courses, day.started);
-    let sums = day.sums;
-    let q = daylines::quantities_width(sums);
+    let q = daylines::quantities_width(&day.sums);
     let closing = day.closing;
     let e = daylines::closing_width(closing);
     f + s + q + e
 }
 
-// The Q lines of a day, then its E line.
-fn put_from_q(out: &mut [u8], day: Day) -> usize
-    requires { ⌜ length (fromQ day) ≤ length (now out) ⌝ }
-    ensures { λ r. ⌜ (r ≡ length (fromQ day)) × (now (out .exit) ≡ laid (fromQ day) (now (out .entry))) ⌝ }
-{
-    let sums = day.sums;
-    let at = daylines::put_quantities(out, sums);
-    let closing = day.closing;
-    let n = daylines::put_closing(&mut out[at..], closing);
-    at + n
-}
-
-// The S lines of a day, then its Q and E lines.
-fn put_from_s(out: &mut [u8], day: Day) -> usize
-    requires { ⌜ length (fromS day) ≤ length (now out) ⌝ }
-    ensures { λ r. ⌜ (r ≡ length (fromS day)) × (now (out .exit) ≡ laid (fromS day) (now (out .entry))) ⌝ }
-{
-    let unit = day.unit;
-    let courses = day.courses;
-    let at = daylines::put_courses(out, unit, courses, day.started);
-    let n = put_from_q(&mut out[at..], day);
-    at + n
-}
-
-// The F lines of a day, then its S, Q and E lines: the whole listing, where there is room for it.
+// The whole listing where there is room for it: the F lines, then S, Q and E lines, each after the lines already written.
 fn put_day(out: &mut [u8], day: Day) -> usize
     requires { ⌜ length (printedDay day) ≤ length (now out) ⌝ }
     ensures { λ r. ⌜ (r ≡ length (printedDay day)) × (now (out .exit) ≡ laid (printedDay day) (now (out .entry))) ⌝ }
 {
     let fates = day.fates;
-    let at = daylines::put_fates(out, fates, day.count);
-    let n = put_from_s(&mut out[at..], day);
-    at + n
+    let mut at = daylines::put_fates(out, fates, day.count);
+    let unit = day.unit;
+    let courses = day.courses;
+    at += daylines::put_courses(&mut out[at..], unit, courses, day.started);
+    at += daylines::put_quantities(&mut out[at..], &day.sums);
+    let closing = day.closing;
+    at += daylines::put_closing(&mut out[at..], closing);
+    at
 }
 
 // ---- asking for it
@@ -81,18 +62,29 @@ fn accepted(count: usize) -> Listed
     Listed { answer, count }
 }
 
-// The listing of a closed day at the front of the lent slice; refused where the day is not closed or the slice is too
-// short, and then nothing is written.
+// The listing of a closed day at the front of the lent slice; refused where the slice is too short, and then nothing is
+// written. Where the caller knows that it fits, it is not measured.
+pub fn list_closed(day: Day, out: &mut [u8], fits: bool) -> Listed
+    requires { ⌜ (day .closed ≡ true) × (fits ≡ true → length (printedDay day) ≤ length (now out)) ⌝ }
+    ensures { λ r. ⌜ (r ≡ listOf day (now (out .entry))) × (now (out .exit) ≡ lentAfter day (now (out .entry))) ⌝ }
+{
+    if !fits {
+        let n = day_width(day);
+        if out.len() < n {
+            return refused(Refusal::SliceTooShort);
+        }
+    }
+    let count = put_day(out, day);
+    accepted(count)
+}
+
+// The listing of a day at the front of the lent slice; refused where the day is not closed or the slice is too short, and
+// then nothing is written.
 pub fn list(day: Day, out: &mut [u8]) -> Listed
     ensures { λ r. ⌜ (r ≡ listOf day (now (out .entry))) × (now (out .exit) ≡ lentAfter day (now (out .entry))) ⌝ }
 {
     if !day.closed {
         return refused(Refusal::NotReady);
     }
-    let n = day_width(day);
-    if out.len() < n {
-        return refused(Refusal::SliceTooShort);
-    }
-    let count = put_day(out, day);
-    accepted(count)
+    list_closed(day, out, false)
 }

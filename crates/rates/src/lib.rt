@@ -3,10 +3,11 @@ ghost use mathlib.Core.Path.{_≡_};
 ghost use Prim.Native.Nat.{_+_, _-_, _<_, _≤_};
 ghost use mathlib.Core.List.{[], _∷_, map};
 ghost use lib.ListN.{getD};
+ghost use Rattle.level.specs.Choice.{pick};
 ghost use Rattle.level.specs.Level.{grains};
 ghost use Rattle.course.specs.Lists.{placeOf, columnFor, replaced};
 ghost use Rattle.course.specs.Course.{rising, falling, passed, rateAt};
-ghost use Rattle.rates.specs.Ways.{headed, rampFor, ownLists, listsBy, ramping};
+ghost use Rattle.rates.specs.Ways.{headed, ownLists, listsBy, ramping};
 
 // So many kW in grains.
 pub fn grains_of(kw: u32) -> u64
@@ -45,13 +46,13 @@ pub struct OwnLists {
 }
 
 // Ramp-up for a rising course, ramp-down for a falling one.
-fn ramp_for(u: records::UnitData, up: bool) -> records::Ramp
-    ensures { λ r. ⌜ r ≡ rampFor u up ⌝ }
+pub fn ramp_of(up: bool, rising: records::Ramp, falling: records::Ramp) -> records::Ramp
+    ensures { λ r. ⌜ r ≡ pick up rising falling ⌝ }
 {
     if up {
-        return u.up;
+        return rising;
     }
-    u.down
+    falling
 }
 
 // A course's own lists, picked from the unit's once.
@@ -59,7 +60,7 @@ pub fn own_lists(u: records::UnitData, c: course::Course, up: bool) -> OwnLists
     ensures { λ r. ⌜ r ≡ ownLists u c up ⌝ }
 {
     let column = column_for(u, c.heat);
-    let ramp = ramp_for(u, up);
+    let ramp = ramp_of(up, u.up, u.down);
     let dwells = u.dwells;
     let deload = u.deload;
     OwnLists {

@@ -3,7 +3,7 @@ ghost use mathlib.Core.Path.{_≡_};
 ghost use Prim.Native.Nat.{_<_, _^_};
 ghost use lib.ListN.{getD};
 ghost use Rattle.records.specs.declared.Coded.the-variants.{Means};
-ghost use Rattle.records.specs.Answers.{refusalNumber, numberOf};
+ghost use Rattle.records.specs.Answers.{refusalNumber, numberOf, accepted};
 ghost use Rattle.records.specs.Codes.{meaningOf, codeNumber};
 ghost use Rattle.records.specs.Records.{numberAt};
 
@@ -150,6 +150,16 @@ pub fn answer_number(a: Answer) -> u8
     match a {
         Answer::Accepted => 0,
         Answer::Refused(r) => refusal_number(r),
+    }
+}
+
+// Whether an answer is an acceptance.
+pub fn is_accepted(a: Answer) -> bool
+    ensures { λ r. ⌜ r ≡ accepted a ⌝ }
+{
+    match a {
+        Answer::Accepted => true,
+        Answer::Refused(_) => false,
     }
 }
 

@@ -110,12 +110,12 @@ module _ (find : Day → Found) (d : Day) where
 -- ---- a run
 module _ (find : Day → Found) where
   -- what a run comes to after a step, by its answer, its day, whether that is closed, and the bytes left
-  onward : ℕ → Answer → Day → Bool → List ℕ → Ran
+  unfoldable pub onward : ℕ → Answer → Day → Bool → List ℕ → Ran
   onward n (Refused r) d b s = record { answer = Refused r; day = d }
   onward n Accepted d true s = record { answer = Accepted; day = d }
   onward n Accepted d false s = runBy find n d s
 
-  run-onward : (n : ℕ) (d : Day) (s : List ℕ) →
+  pub run-onward : (n : ℕ) (d : Day) (s : List ℕ) →
       let t : Stepped = stepBy find d s in
       runBy find (suc n) d s ≡ onward n (t .answer) (t .day) (t .day .closed) (drop (t .used) s)
   unfolding runBy onward

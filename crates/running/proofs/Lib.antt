@@ -1,2 +1,3 @@
-pub mod Runs
 pub mod Front
+pub mod Runs
+pub mod Room

@@ -3,7 +3,7 @@
 use mathlib.Core.Path.{_≡_, ap, sym, _∙_}
 use mathlib.Core.List.{List}
 use mathlib.Core.Bool.{true, false, _||_}
-use Prim.Native.Nat.{ℕ, suc, _+_, _-_, _≤_, _<_}
+use Prim.Native.Nat.{ℕ, suc, _+_, _*_, _-_, _≤_, _<_}
 use native.Mathlib.Omega.{arith}
 use native.Mathlib.Numerals.{add-one}
 use lib.ListN.{getD}
@@ -26,11 +26,14 @@ module _ (most : ℕ) (sums : List ℕ) (i : ℕ) where
       ap (λ (n : ℕ). some (λ q. ltb most q) (listFrom (quantityAt sums) i n)) {x = 48 - i} {y = suc (48 - (i + 1))} (omega arith)
       ∙ ap (λ (k : ℕ). ltb most (quantityAt sums i) || some (λ q. ltb most q) (listFrom (quantityAt sums) k (48 - (i + 1)))) (sym (add-one i))
 
-  pub above-here : i < 48 → most < quantityAt sums i → someAbove most sums i (48 - i) ≡ true
-  above-here h k = above-one h ∙ simp (lt-ltb most (quantityAt sums i) k)
+  -- the quantity lies above it where twice the area comes to half a kW more
+  pub above-here : i < 48 → most * 216000 + 108000 ≤ getD sums (i + 1) 0 - getD sums i 0 → someAbove most sums i (48 - i) ≡ true
+  unfolding rounded
+  above-here h k = above-one h ∙ simp (lt-ltb most (quantityAt sums i) (omega (arith, quantity-is sums i)))
 
-  pub above-next : i < 48 → quantityAt sums i ≤ most → someAbove most sums i (48 - i) ≡ someAbove most sums (i + 1) (48 - (i + 1))
-  above-next h k = above-one h ∙ simp (le-ltb most (quantityAt sums i) k)
+  pub above-next : i < 48 → getD sums (i + 1) 0 - getD sums i 0 < most * 216000 + 108000 → someAbove most sums i (48 - i) ≡ someAbove most sums (i + 1) (48 - (i + 1))
+  unfolding rounded
+  above-next h k = above-one h ∙ simp (le-ltb most (quantityAt sums i) (omega (arith, quantity-is sums i)))
 
   pub above-none : 48 ≤ i → someAbove most sums i (48 - i) ≡ false
   unfolding someAbove some listFrom

@@ -1,9 +1,8 @@
 // The taker of one record: what it returns holds the rest of the caller's slice.
 ghost use mathlib.Core.Path.{_≡_};
-ghost use Prim.Native.Nat.{ℕ, _≤_};
-ghost use lib.ListN.{length, drop};
+ghost use lib.ListN.{drop};
 ghost use Rattle.day.specs.Step.{stepOf};
-ghost use Rattle.taker.specs.Rest.{restAfter};
+ghost use Rattle.taker.specs.Rest.{restAfter, countedBy};
 use day::Day;
 use day::Stepped;
 
@@ -31,4 +30,37 @@ pub fn take<'a>(day: Day, input: &'a [u8]) -> Taken<'a>
     let s = taking::step(day, input);
     let rest = rest_after(s, input);
     Taken { stepped: s, rest }
+}
+
+// The step, with the bytes used as the rest shows them: so many as the input has more.
+fn counted<'a>(s: Stepped, rest: &'a [u8], input: &'a [u8]) -> Stepped
+    ensures { λ r. ⌜ r ≡ countedBy s (now (rest .entry)) (now (input .entry)) ⌝ }
+{
+    let answer = s.answer;
+    let day = s.day;
+    let left = rest.len();
+    let all = input.len();
+    if all < left {
+        return Stepped {
+            answer,
+            day,
+            used: 0,
+        };
+    }
+    let used = all - left;
+    Stepped { answer, day, used }
+}
+
+// What was taken of the input, without the rest of it.
+fn apart<'a>(t: Taken<'a>, input: &'a [u8]) -> Stepped
+    ensures { λ r. ⌜ r ≡ countedBy (t .entry .stepped) (now (t .entry .rest)) (now (input .entry)) ⌝ }
+{
+    counted(t.stepped, t.rest, input)
+}
+
+// `take` for a caller that cuts its slice itself: plain parameters, and what is handed back holds no reference.
+pub fn take_front(day: Day, input: &[u8]) -> Stepped
+    ensures { λ r. ⌜ r ≡ stepOf day (now (input .entry)) ⌝ }
+{
+    apart(take(day, input), input)
 }

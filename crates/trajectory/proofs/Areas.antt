@@ -1,28 +1,23 @@
--- Twice the area along a course, piece by piece.
+-- Twice the area along a course.
 -- Assumes nothing.
-use Prim.Native.Nat.{ℕ, zero, suc, _+_, _*_, _-_, _≤_, _<_}
+use Prim.Native.Nat.{ℕ, zero, suc, _+_, _-_, _≤_}
 use mathlib.Core.Path.{_≡_, refl, ap, sym, _∙_}
 use mathlib.Core.Bool.{Bool}
-use native.Mathlib.Nat.{mul-le-mul-left}
 use native.Mathlib.Omega.{arith}
 use lib.Dec.{ltb}
-use borrow.Author.Tests.{lt-ltb}
 use Rattle.level.specs.Lists.{sum}
 use Rattle.level.specs.Level.{grains}
 use Rattle.segments.specs.Segments.{area}
-use Rattle.segments.proofs.Sums.{sum-eq, area-split}
+use Rattle.segments.proofs.Sums.{sum-eq}
 use Rattle.records.specs.declared.UnitData.{UnitData}
 use Rattle.course.specs.declared.Course.{Course}
 use Rattle.course.specs.Lists.{Lists}
 use Rattle.course.specs.Course.{Heading, heading, Moment, trajectoryOf, after, momentAt, levelAt}
-use Rattle.course.specs.Pieces.{piece, twiceArea}
 use Rattle.course.proofs.Rule.{at}
-use Rattle.course.proofs.Pieces.{traces-area}
 use Rattle.trajectory.specs.declared.Place.{Place}
 use Rattle.rates.specs.Ways.{headed, listsIn}
-use Rattle.trajectory.specs.Walk.{momentOf, beginning, twiceBetween, standing, twiceTo}
+use Rattle.trajectory.specs.Walk.{momentOf, beginning, standing, twiceTo}
 use Rattle.trajectory.proofs.Seconds.{after-add}
-use Rattle.trajectory.proofs.Goes.{Goes}
 use Rattle.trajectory.proofs.Courses.{heading-is, moment-is}
 
 sum-from : (g : ℕ → ℕ) (x i n : ℕ) → sum g (x + i) n ≡ sum (λ j. g (x + j)) i n
@@ -41,50 +36,15 @@ area-from f x n =
     ap (λ (k : ℕ). sum (λ j. f j + f (suc j)) k n) {x = x} {y = x + 0} (omega arith) ∙ sum-from (λ j. f j + f (suc j)) x 0 n
     ∙ sum-eq (λ j. f (x + j) + f (suc (x + j))) (λ j. f (x + j) + f (x + suc j)) (λ j. ap (λ (k : ℕ). f (x + j) + f k) (omega arith)) 0 n
 
-one-piece : (a b v w : ℕ) → a < b → twiceArea (piece a b v w) ≡ (b - a) * (v + w)
-unfolding piece twiceArea
-one-piece a b v w p = simp (lt-ltb a b p) (omega arith)
-
 module _ (h : Heading) (l : Lists) (t n : ℕ) where
   abbrev path : Place → ℕ → ℕ
   path p k = after h l t k (momentOf p) .level
-
-  straight-area : (p q : Place) → Goes h l t n p q → area (path p) 0 (q .second - p .second) ≡ twiceBetween p q
-  unfolding twiceBetween
-  straight-area p q g =
-      let a : ℕ = p .second in
-      let d : ℕ = q .second - p .second in
-      let e : twiceArea (piece a (q .second) (p .level) (q .level)) ≡ area (λ k. path p (k - a)) a d =
-      traces-area h (λ k. path p (k - a)) a (q .second) (piece a (q .second) (p .level) (q .level)) (g .straight) .1 in
-      sym (area-from (λ k. path p (k - a)) a d ∙ area-same (λ j. path p (a + j - a)) (path p) (λ j. ap (path p) (omega arith)) 0 d)
-      ∙ sym e ∙ one-piece a (q .second) (p .level) (q .level) (g .later)
-
-  pub twice-on : (p q : Place) → Goes h l t n p q → twiceTo h l t n p ≡ twiceBetween p q + twiceTo h l t n q
-  unfolding twiceTo
-  twice-on p q g =
-      let d : ℕ = q .second - p .second in
-      let e : ℕ = n - q .second in
-      ap (area (path p) 0) {x = n - p .second} {y = d + e} (omega (arith, g .later, g .within))
-      ∙ area-split (path p) 0 d e
-      ∙ ap (λ (k : ℕ). area (path p) 0 d + area (path p) k e) {x = 0 + d} {y = d} (omega arith)
-      ∙ ap (λ (k : ℕ). k + area (path p) d e) (straight-area p q g)
-      ∙ ap (λ (k : ℕ). twiceBetween p q + k) (area-from (path p) d e
-      ∙ area-same (λ j. path p (d + j)) (path q) (λ j. ap (λ (m : Moment). m .level) (after-add h l t d j (momentOf p) ∙ ap (after h l t j) (g .moment))) 0 e)
 
   pub twice-here : (p : Place) → n ≤ p .second → twiceTo h l t n p ≡ 0
   unfolding twiceTo area sum
   twice-here p le = ap (area (path p) 0) {x = n - p .second} {y = 0} (omega arith)
 
--- below a bound
-pub twice-low : (p q : Place) → p .level < 274877906944 → q .level < 274877906944 → twiceBetween p q ≤ (q .second - p .second) * 549755813888
-unfolding twiceBetween
-twice-low p q lp lq = mul-le-mul-left (q .second - p .second) (omega arith)
-
 -- ---- in the course's own seconds
-pub no-area : (f : ℕ → ℕ) (a n : ℕ) → n ≤ 0 → area f a n ≡ 0
-unfolding area sum
-no-area f a n le = ap (area f a) {x = n} {y = 0} (omega arith)
-
 module _ (u : UnitData) (c : Course) (up : Bool) (rises : up ≡ ltb (c .start .grains) (grains (c .target))) where
   abbrev here : ℕ → ℕ → Place
   here a m = standing (headed up) (listsIn u c) (grains (c .target)) m (beginning c a)

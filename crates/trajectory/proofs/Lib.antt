@@ -5,4 +5,4 @@ pub mod Courses
 pub mod Left
 pub mod Areas
 pub mod Own
-pub mod Noted
+pub mod Rest

@@ -17,7 +17,7 @@ use Rattle.rates.specs.declared.OwnLists.{OwnLists}
 use Rattle.trajectory.specs.declared.Place.{Place}
 use Rattle.rates.specs.Ways.{headed, listsIn, ownLists, listsBy}
 use Rattle.stops.specs.Ahead.{segmentTo, segmentFrom}
-use Rattle.trajectory.specs.Walk.{momentOf, afterHold, afterRest, along, onward, standing, segmentsFrom, piecesLeft, twiceTo}
+use Rattle.trajectory.specs.Walk.{momentOf, afterHold, afterRest, along, onward, segmentsFrom, piecesLeft, twiceTo}
 use Rattle.trajectory.proofs.Areas.{area-same}
 
 -- two lists that a heading cannot tell apart
@@ -49,10 +49,6 @@ module _ (h : Heading) (l m : Lists) (a : Alike h l m) (t : ℕ) where
   unfolding after
   alike-after zero o = refl
   alike-after (suc k) o = λ i. alike-second (alike-after k o i) i
-
-  alike-standing : (n : ℕ) (p : Place) → standing h l t n p ≡ standing h m t n p
-  unfolding standing
-  alike-standing n p = ap (λ (o : Moment). record { second = n; level = o .level; left = o .left }) (alike-after (n - p .second) (momentOf p))
 
   alike-twice : (n : ℕ) (p : Place) → twiceTo h l t n p ≡ twiceTo h m t n p
   unfolding twiceTo
@@ -93,9 +89,6 @@ module _ (u : UnitData) (c : Course) (up : Bool) (l : OwnLists) (e : l ≡ ownLi
   module _ (t n : ℕ) (p : Place) where
     pub own-onward : onward (headed up) (listsBy l c) t n p ≡ onward (headed up) (listsIn u c) t n p
     own-onward = alike-onward (headed up) (listsBy l c) (listsIn u c) alike t n p
-
-    pub own-standing : standing (headed up) (listsBy l c) t n p ≡ standing (headed up) (listsIn u c) t n p
-    own-standing = alike-standing (headed up) (listsBy l c) (listsIn u c) alike t n p
 
     pub own-twice : twiceTo (headed up) (listsBy l c) t n p ≡ twiceTo (headed up) (listsIn u c) t n p
     own-twice = alike-twice (headed up) (listsBy l c) (listsIn u c) alike t n p

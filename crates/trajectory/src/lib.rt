@@ -1,13 +1,14 @@
-// Along a course, one straight piece after another: `begin_at`, `walk_on`, `sum_to`. A course goes by its own lists; proofs/Own.antt
-// says that they do for it what the unit's do, proofs/Noted.antt has the laws of a loop.
+// Along a course, one straight piece after another: `begin_at`, `walk_on`. A course goes by its own lists; proofs/Own.antt says that
+// they do for it what the unit's do.
 ghost use mathlib.Core.Path.{_≡_};
 ghost use Prim.Native.Nat.{_+_, _*_, _-_, _/_, min, _<_, _≤_};
-ghost use lib.Dec.{ltb};
+ghost use lib.Dec.{ltb, eqb};
+ghost use Rattle.level.specs.Choice.{pick};
 ghost use Rattle.level.specs.Level.{grains};
-ghost use Rattle.course.specs.Course.{toward, segments};
+ghost use Rattle.course.specs.Course.{toward};
 ghost use Rattle.rates.specs.Ways.{headed, listsBy};
 ghost use Rattle.course.proofs.Near.{Short};
-ghost use Rattle.trajectory.specs.Walk.{Reaches, afterHold, afterRest, afterRun, afterShort, along, onward, standing, beginning, pieceBetween, twiceBetween, twiceTo};
+ghost use Rattle.trajectory.specs.Walk.{Reaches, Known, afterHold, afterRest, afterRun, afterShort, along, restAlong, restRun, unknown, reachedAt, onward};
 
 // ---- going along a course
 
@@ -16,6 +17,25 @@ pub struct Place {
     pub second: u32,
     pub level: u64,
     pub left: u64,
+}
+
+// How far a course has been followed: the place, and what is left there of the segment under way. A way of 0 says that no
+// segment is known.
+pub struct Reached {
+    pub place: Place,
+    pub rest: segments::Segment,
+}
+
+// At a place where no segment is known.
+fn arrived(place: Place) -> Reached
+    ensures { λ r. ⌜ r ≡ unknown place ⌝ }
+{
+    let rest = segments::Segment {
+        way: 0,
+        rate: 0,
+        hold: 0,
+    };
+    Reached { place, rest }
 }
 
 // The level v moved by m in the heading's direction.
@@ -76,27 +96,37 @@ fn after_short(up: bool, p: Place, s: segments::Segment) -> Place
     }
 }
 
-// f seconds at the full rate of a segment.
-fn after_run(up: bool, p: Place, s: segments::Segment, f: u32) -> Place
+// f seconds at the full rate of a segment, with what is left of it.
+fn after_run(up: bool, p: Place, s: segments::Segment, f: u32) -> Reached
     requires { ⌜ p .second + f ≤ 4294967295 ⌝ }
     requires { ⌜ f * s .rate ≤ s .way ⌝ }
     requires { ⌜ Reaches (headed up) (p .level) (s .way) ⌝ }
-    ensures { λ r. ⌜ r ≡ afterRun (headed up) f p s ⌝ }
+    ensures { λ r. ⌜ r ≡ record { place = afterRun (headed up) f p s; rest = restRun f s } ⌝ }
 {
     let m = (f as u64) * s.rate;
     let level = moved(up, p.level, m);
-    if m == s.way {
-        return Place {
-            second: p.second + f,
-            level,
-            left: s.hold,
-        };
-    }
-    Place {
+    let rest = segments::Segment {
+        way: s.way - m,
+        rate: s.rate,
+        hold: s.hold,
+    };
+    let left = hold_from(rest);
+    let place = Place {
         second: p.second + f,
         level,
-        left: 0,
+        left,
+    };
+    Reached { place, rest }
+}
+
+// The hold of a segment of which no way is left.
+fn hold_from(s: segments::Segment) -> u64
+    ensures { λ r. ⌜ r ≡ pick (eqb (s .way) 0) (s .hold) 0 ⌝ }
+{
+    if s.way == 0 {
+        return s.hold;
     }
+    0
 }
 
 // The whole seconds at full rate before the stop of a segment, or before the second n.
@@ -114,48 +144,47 @@ fn run_seconds(p: Place, s: segments::Segment, n: u32) -> u32
 }
 
 // The straight piece that a segment begins with.
-fn along_segment(up: bool, p: Place, s: segments::Segment, n: u32) -> Place
+fn along_segment(up: bool, p: Place, s: segments::Segment, n: u32) -> Reached
     requires { ⌜ p .second < n ⌝ }
     requires { ⌜ Reaches (headed up) (p .level) (s .way) ⌝ }
-    ensures { λ r. ⌜ r ≡ along (headed up) n p s ⌝ }
+    ensures { λ r. ⌜ r ≡ record { place = along (headed up) n p s; rest = restAlong n p s } ⌝ }
 {
     if s.rate == 0 {
-        return after_rest(p, n);
+        let q = after_rest(p, n);
+        return arrived(q);
     }
     if s.way < s.rate {
-        return after_short(up, p, s);
+        let q = after_short(up, p, s);
+        return arrived(q);
     }
     let f = run_seconds(p, s, n);
     after_run(up, p, s, f)
 }
 
-// To the end of the straight piece that begins at p, and no further than the second n.
-pub fn walk_on(l: rates::OwnLists, c: course::Course, up: bool, p: Place, n: u32) -> Place
-    requires { ⌜ p .second < n ⌝ }
-    requires { ⌜ Short (headed up) (grains (c .target)) (p .level) ⌝ }
-    ensures { λ r. ⌜ r ≡ onward (headed up) (listsBy l c) (grains (c .target)) n p ⌝ }
+// To the end of the straight piece that begins where the course was reached, and no further than the second n. The run and
+// the shorter last second before a stop go by one segment, found once.
+pub fn walk_on(l: rates::OwnLists, c: course::Course, up: bool, from: Reached, n: u32) -> Reached
+    requires { ⌜ from .place .second < n ⌝ }
+    requires { ⌜ Short (headed up) (grains (c .target)) (from .place .level) ⌝ }
+    requires { ⌜ Known (headed up) (listsBy l c) (grains (c .target)) from ⌝ }
+    ensures { λ r. ⌜ (r .place ≡ onward (headed up) (listsBy l c) (grains (c .target)) n (from .place)) × Known (headed up) (listsBy l c) (grains (c .target)) r ⌝ }
 {
+    let p = from.place;
+    let s = from.rest;
+    if 0 < s.way {
+        return along_segment(up, p, s, n);
+    }
     if 0 < p.left {
-        return after_hold(p, n);
+        let q = after_hold(p, n);
+        return arrived(q);
     }
     let t = rates::grains_of(c.target);
     if p.level == t {
-        return after_rest(p, n);
+        let q = after_rest(p, n);
+        return arrived(q);
     }
-    let s = stops::segment_from(l, c, up, p.level);
-    along_segment(up, p, s, n)
-}
-
-// The straight piece from p to q.
-pub fn piece_between(p: Place, q: Place) -> course::Piece
-    ensures { λ r. ⌜ r ≡ pieceBetween p q ⌝ }
-{
-    course::Piece {
-        from: p.second,
-        to: q.second,
-        enter: p.level,
-        leave: q.level,
-    }
+    let ahead = stops::segment_from(l, c, up, p.level);
+    along_segment(up, p, ahead, n)
 }
 
 // Whether a course rises.
@@ -167,54 +196,21 @@ pub fn is_rising(c: course::Course) -> bool
     start.grains < t
 }
 
-// Where a course begins, at the second a.
-pub fn begin_at(c: course::Course, a: u32) -> Place
-    ensures { λ r. ⌜ r ≡ beginning c a ⌝ }
+// Where a course begins, with so many seconds left of a hold; the segment that lies ahead, unless it holds or is at its target.
+pub fn begin_at(l: rates::OwnLists, c: course::Course, up: bool, left: u64) -> Reached
+    ensures { λ r. ⌜ r ≡ reachedAt (headed up) (listsBy l c) (grains (c .target)) (record { second = c .begin; level = c .start .grains; left = left }) ⌝ }
 {
     let start = c.start;
-    Place {
-        second: a,
-        level: start.grains,
-        left: 0,
+    let level = start.grains;
+    let place = Place {
+        second: c.begin,
+        level,
+        left,
+    };
+    let t = rates::grains_of(c.target);
+    if (0 < left) | (level == t) {
+        return arrived(place);
     }
-}
-
-// ---- areas
-
-// Twice the area from p to q, straight.
-fn twice_between(p: Place, q: Place) -> u64
-    requires { ⌜ (p .second ≤ q .second) × (q .second ≤ 16777216) ⌝ }
-    requires { ⌜ (p .level < 274877906944) × (q .level < 274877906944) ⌝ }
-    ensures { λ r. ⌜ (r ≡ twiceBetween p q) × (r ≤ (q .second - p .second) * 549755813888) ⌝ }
-{
-    let time = q.second - p.second;
-    let wide = time as u64;
-    wide * (p.level + q.level)
-}
-
-// Where a sum over seconds has come to.
-pub struct Summed {
-    pub place: Place,
-    pub twice: u64,
-}
-
-// Along the course to the second n, with twice the area on the way. Levels are below those of 32 bits of kW.
-pub fn sum_to(l: rates::OwnLists, c: course::Course, up: bool, from: Place, n: u32) -> Summed
-    requires { ⌜ (from .second ≤ n) × (n ≤ 16777216) ⌝ }
-    requires { ⌜ Short (headed up) (grains (c .target)) (from .level) ⌝ }
-    requires { ⌜ from .level < 274877906944 ⌝ }
-    ensures { λ r. ⌜ (r .place ≡ standing (headed up) (listsBy l c) (grains (c .target)) n from)
-        × (r .twice ≡ twiceTo (headed up) (listsBy l c) (grains (c .target)) n from)
-        × (r .twice ≤ (n - from .second) * 549755813888)
-        × Short (headed up) (grains (c .target)) (r .place .level)
-        × (r .place .level < 274877906944) ⌝ }
-{
-    let mut p = from;
-    let mut twice: u64 = 0;
-    while p.second < n {
-        let q = walk_on(l, c, up, p, n);
-        twice += twice_between(p, q);
-        p = q;
-    }
-    Summed { place: p, twice }
+    let rest = stops::segment_from(l, c, up, level);
+    Reached { place, rest }
 }

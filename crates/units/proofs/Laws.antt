@@ -4,18 +4,14 @@ use Prim.Native.Nat.{ℕ, _+_, _<_, _≤_}
 use native.Mathlib.Omega.{arith}
 use native.Mathlib.Numerals.{add-one}
 use mathlib.Core.Path.{_≡_, refl, sym}
-use mathlib.Core.Bool.{Bool, true, false, _&&_, _||_, not}
+use mathlib.Core.Bool.{Bool, true, false, _&&_, _||_}
 use mathlib.Core.List.{List, [], _∷_, map}
 use lib.Dec.{leb}
 use lib.ListN.{length, getD, drop, List·getD-map}
 use lib.Seq.{drop-cons, drop-length}
-use borrow.Author.Tests.{lt-ltb, le-ltb, not-true, not-false}
+use borrow.Author.Tests.{lt-ltb, le-ltb}
 use Rattle.level.specs.Lists.{some}
-use Rattle.records.specs.declared.UnitData.{UnitData}
-use Rattle.records.specs.declared.Answer.the-variants.{Accepted, Refused}
-use Rattle.records.specs.declared.Refusal.the-variants.{UnitField, UnitDisagrees}
-use Rattle.records.specs.Records.{unitOf}
-use Rattle.records.specs.Fields.{Range, inRange, unitRanges, fitFrom, fallsBelow, disagrees, unitAnswer}
+use Rattle.records.specs.Fields.{Range, inRange, fitFrom, fallsBelow}
 
 -- ---- the ranges, by the lists of their ends
 unfoldable pub lowsOf : List Range → List ℕ
@@ -79,18 +75,3 @@ some-three f (x ∷ []) z e = absurd (omega arith)
 some-three f (x ∷ y ∷ []) z e = absurd (omega arith)
 some-three f (x ∷ y ∷ w ∷ []) z e = rw (or-false (f w))
 some-three f (x ∷ y ∷ w ∷ v ∷ vs) z e = absurd (omega arith)
-
--- ---- 3 and 4, by what is read and tested
-module _ (ns : List ℕ) (fit : Bool) (f : fit ≡ fitFrom unitRanges ns 0) where
-  pub unit-out : not fit ≡ true → Refused UnitField ≡ unitAnswer ns
-  unfolding unitAnswer
-  unit-out t = simp (sym f, not-true fit t)
-
-  module _ (u : UnitData) (e : u ≡ unitOf ns) (disagreeing : Bool) (d : disagreeing ≡ disagrees u) (t : not fit ≡ false) where
-    pub unit-disagreeing : disagreeing ≡ true → Refused UnitDisagrees ≡ unitAnswer ns
-    unfolding unitAnswer
-    unit-disagreeing k = simp (sym f, not-false fit t, sym e, sym d, k)
-
-    pub unit-taken : disagreeing ≡ false → Accepted ≡ unitAnswer ns
-    unfolding unitAnswer
-    unit-taken k = simp (sym f, not-false fit t, sym e, sym d, k)

@@ -1,13 +1,20 @@
-// The ranges of a unit's 62 numbers, and whether its figures agree: refusals 3 and 4.
+// A unit's body, decoded once: the ranges of its 62 numbers, whether its figures agree (refusals 3 and 4), and the unit.
 ghost use mathlib.Core.Path.{_≡_};
-ghost use Prim.Native.Nat.{_+_, _<_};
+ghost use Prim.Native.Nat.{_<_};
 ghost use lib.Dec.{ltb};
 ghost use Rattle.level.specs.Lists.{some};
-ghost use Rattle.records.specs.Fields.{unitRanges, fitFrom, falls, disagrees, unitAnswer};
+ghost use Rattle.records.specs.Fields.{unitRanges, fitFrom, falls, disagrees};
+ghost use Rattle.units.specs.Decoded.{unitRead, answerFor};
 use records::Answer;
 use records::Column;
 use records::Refusal;
 use records::UnitData;
+
+// A unit's body: the answer to its 62 numbers, and the unit.
+pub struct UnitRead {
+    pub answer: Answer,
+    pub unit: UnitData,
+}
 
 // The lowest that each of a unit's 62 numbers may be.
 const LOWS: [u32; 62] = [
@@ -219,18 +226,25 @@ fn unit_disagrees(u: UnitData) -> bool
     breaks | (maximum | (msg | (block | boundaries)))
 }
 
-// Refusals 3 and 4, of a unit's 62 numbers.
-pub fn unit_answer(ns: [u32; 62]) -> Answer
-    ensures { λ r. ⌜ r ≡ unitAnswer ns ⌝ }
+// Refusals 3 and 4, of 62 numbers and the unit that they make.
+fn unit_answer(ns: [u32; 62], u: UnitData) -> Answer
+    ensures { λ r. ⌜ r ≡ answerFor ns u ⌝ }
 {
-    let fit = all_fit(ns);
-    if !fit {
+    if !all_fit(ns) {
         return Answer::Refused(Refusal::UnitField);
     }
-    let u = unitbody::unit_of(ns);
-    let disagreeing = unit_disagrees(u);
-    if disagreeing {
+    if unit_disagrees(u) {
         return Answer::Refused(Refusal::UnitDisagrees);
     }
     Answer::Accepted
+}
+
+// The unit that a body holds, and the answer to its numbers.
+pub fn read_unit(body: &[u8]) -> UnitRead
+    ensures { λ r. ⌜ r ≡ unitRead (now (body .entry)) ⌝ }
+{
+    let ns = unitbody::unit_numbers(body);
+    let unit = unitbody::unit_of(ns);
+    let answer = unit_answer(ns, unit);
+    UnitRead { answer, unit }
 }

@@ -8,7 +8,7 @@ use Rattle.calls.proofs.take_read.Reads as reads
 use Rattle.calls.proofs.take_read.Lts as lts
 use Rattle.calls.proofs.malformed.Reads as malformed-reads
 use Rattle.calls.proofs.put_answer.Reads as put-answer-reads
-use Rattle.taking.proofs.step.Reads as step-reads
+use Rattle.taker.proofs.take_front.Reads as take-front-reads
 
 malformed-requires : tie.Need-malformed-requires
 malformed-requires c κs = search needs
@@ -16,11 +16,11 @@ malformed-requires c κs = search needs
 returns : tie.Need-returns
 returns c = search needs
 
-slice-aggregate-step : tie.Need-slice-aggregate-step
-slice-aggregate-step c = sym (length-take-le _ _ (omega arith))
+slice-aggregate-take-front : tie.Need-slice-aggregate-take-front
+slice-aggregate-take-front c = sym (length-take-le _ _ (omega arith))
 
-step-requires : tie.Need-step-requires
-step-requires c κs = search needs
+take-front-requires : tie.Need-take-front-requires
+take-front-requires c κs = search needs
 
 put-answer-requires : tie.Need-put-answer-requires
 put-answer-requires c κs = search needs
@@ -34,7 +34,7 @@ take-read-spec =
     (tie.spec
     malformed-requires
     returns
-    slice-aggregate-step
-    step-requires
+    slice-aggregate-take-front
+    take-front-requires
     put-answer-requires
     returns-2)

@@ -1,21 +1,20 @@
-use Prim.Native.Nat.{ℕ, _≤_, _<_, _-_}
-use mathlib.Core.Path.{_≡_, sym}
-use mathlib.Core.Bool.{true≢false}
-use lib.ListN.{getD}
-use Rattle.choosing.specs.Working.{Rising}
-use Rattle.choosing.proofs.Order.{least-more, rising-more}
+use Prim.Native.Nat.{_≤_, _-_}
+use mathlib.Core.Path.{_≡_, refl, _∙_}
+use lib.ListN.{take, drop}
+use Rattle.choosing.specs.Working.{rises}
+use Rattle.choosing.proofs.Order.{rises-next, rises-not, rises-all}
 use native.Mathlib.Omega.{arith}
 use Rattle.choosing.proofs.in_order.Statement.{statement}
 use Rattle.choosing.proofs.in_order.Tie as tie
 
 abbrev Inv-loop : tie.InvT-loop
-Inv-loop times n before₀ i₀ before i = (i ≤ n) × ((j : ℕ) → j < i → getD times j 0 ≤ before) × Rising times i
+Inv-loop times n before₀ i₀ before i = (i ≤ n) × (rises before (drop i (take n times)) ≡ rises 0 (take n times))
 
 abbrev μ-loop : tie.MeasureT-loop
 μ-loop times n before₀ i₀ before i = n - i
 
 loop-holds : tie.Need-loop-holds Inv-loop μ-loop
-loop-holds c = (omega arith, λ j l. absurd (omega arith), λ i j p l. absurd (omega arith))
+loop-holds c = (omega arith, refl)
 
 mul-t : tie.Need-mul-t Inv-loop μ-loop
 mul-t c = omega arith
@@ -24,7 +23,10 @@ element-copy-out-t : tie.Need-element-copy-out-t Inv-loop μ-loop
 element-copy-out-t c = omega arith
 
 returns : tie.Need-returns Inv-loop μ-loop
-returns c = λ e. absurd (true≢false (sym e))
+returns c =
+    let a = c .before .before .before .before .args in
+    let l = c .before .before .before .loop in
+    rises-not (a .times .now) (a .n) (omega arith) (l .before) (l .i) (omega arith) (omega arith) ∙ l .inv .1
 
 add-i : tie.Need-add-i Inv-loop μ-loop
 add-i c = omega arith
@@ -34,14 +36,15 @@ loop-less c = omega arith
 
 loop-again : tie.Need-loop-again Inv-loop μ-loop
 loop-again c =
-    let ts = c .before .before .before .before .args .times .now in
+    let a = c .before .before .before .before .args in
     let l = c .before .before .before .loop in
-    (omega arith, least-more ts (l .i) (l .before) (omega arith) (l .inv .1), rising-more ts (l .i) (l .before) (omega arith) (l .inv .1) (l .inv .2))
+    (omega arith, rises-next (a .times .now) (a .n) (omega arith) (l .before) (l .i) (omega arith) (omega arith) ∙ l .inv .1)
 
 returns-2 : tie.Need-returns-2 Inv-loop μ-loop
 returns-2 c =
-    let e : c .before .loop .i ≡ c .before .before .args .n = omega arith in
-    λ q. rw e at (c .before .loop .inv .2)
+    let a = c .before .before .args in
+    let l = c .before .loop in
+    rises-all (a .times .now) (a .n) (omega arith) (l .before) (l .i) (omega arith) ∙ l .inv .1
 
 pub in-order-spec : {M : Type 1} → statement M
 in-order-spec =

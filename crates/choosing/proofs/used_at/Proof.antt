@@ -11,15 +11,16 @@ use Rattle.choosing.specs.Working.{noNumbered, issueOf, Timed, supersede
 use Rattle.level.proofs.Lists.{left-none}
 use Rattle.choosing.proofs.Laws.{Walked, inGroup, those-none, those-skip, those-keep, walked-none, walked-more, walked-best, walked-sync, walked-desy, time-fits, time-at, superseded-is, group-other, group-gone, group-left, as-many, all-numbered, number-here, timed-all}
 use native.Mathlib.Omega.{arith}
+use borrow.Author.Tests.{lt-ltb, le-ltb}
 use borrow.Author.Needs.{needs}
 use Rattle.choosing.proofs.used_at.Statement.{statement}
 use Rattle.choosing.proofs.used_at.Tie as tie
 
 abbrev Inv-loop : tie.InvT-loop
-Inv-loop times issues n t instructions best₀ sync₀ desy₀ i₀ best sync desy i = (i ≤ n) × Walked best sync desy (those (inGroup (take n (numbered 1 (take n instructions))) t) (drop i (take n (numbered 1 (take n instructions))))) (those (inGroup (take n (numbered 1 (take n instructions))) t) (take n (numbered 1 (take n instructions))))
+Inv-loop times issues n t instructions latest best₀ sync₀ desy₀ i₀ best sync desy i = (i ≤ n) × Walked best sync desy (those (inGroup (take n (numbered 1 (take n instructions))) t) (drop i (take n (numbered 1 (take n instructions))))) (those (inGroup (take n (numbered 1 (take n instructions))) t) (take n (numbered 1 (take n instructions))))
 
 abbrev μ-loop : tie.MeasureT-loop
-μ-loop times issues n t instructions best₀ sync₀ desy₀ i₀ best sync desy i = n - i
+μ-loop times issues n t instructions latest best₀ sync₀ desy₀ i₀ best sync desy i = n - i
 
 -- as entered, with their numbers
 abbrev numbers : tie.Start Inv-loop μ-loop → List Numbered
@@ -34,9 +35,14 @@ fits s = omega (arith, as-many (s .args .t1) (s .args .n) (room s))
 timed : (s : tie.Start Inv-loop μ-loop) → Timed (take (s .args .n) (numbers s)) (take (s .args .n) (s .args .times .now)) (take (s .args .n) (s .args .issues .now))
 timed s = timed-all (s .args .t1) (s .args .n) (room s) (s .pre .1)
 
+latest-at-requires : tie.Need-latest-at-requires Inv-loop μ-loop
+latest-at-requires c κs =
+    let g = fits c in
+    (omega arith, time-fits effectiveOf (numbers c) (c .args .times .now) (c .args .n) (timed c .effective) g, time-fits issueOf (numbers c) (c .args .issues .now) (c .args .n) (timed c .issued) g)
+
 loop-holds : tie.Need-loop-holds Inv-loop μ-loop
 loop-holds c =
-    let s = c .args in
+    let s = c .before .args in
     (omega arith, walked-none (those (inGroup (take (s .n) (numbered 1 (take (s .n) (s .t1)))) (s .t)) (take (s .n) (numbered 1 (take (s .n) (s .t1))))))
 
 add-i : tie.Need-add-i Inv-loop μ-loop
@@ -61,7 +67,7 @@ left-is s i h q =
 
 loop-again : tie.Need-loop-again Inv-loop μ-loop
 loop-again c =
-    let s = c .before .before .before .before in
+    let s = c .before .before .before .before .before in
     let l = c .before .before .before .loop in
     let os = numbers s in
     let n = s .args .n in
@@ -69,17 +75,11 @@ loop-again c =
     let e : inGroup (take n os) (s .args .t) (getD os (l .i) noNumbered) ≡ false = group-other (take n os) (s .args .t) (getD os (l .i) noNumbered) (λ q. c .if1 .taken (at ∙ q)) in
     (omega arith, rw (those-skip os n (inGroup (take n os) (s .args .t)) (l .i) noNumbered (omega arith) (fits s) e) at (l .inv .1))
 
-mul-issue : tie.Need-mul-issue Inv-loop μ-loop
-mul-issue c = omega arith
+mul-if2 : tie.Need-mul-if2 Inv-loop μ-loop
+mul-if2 c = omega arith
 
-element-copy-out-issue : tie.Need-element-copy-out-issue Inv-loop μ-loop
-element-copy-out-issue c = omega arith
-
-is-superseded-requires : tie.Need-is-superseded-requires Inv-loop μ-loop
-is-superseded-requires c κs =
-    let s = c .before .before .before .before .before in
-    let g = fits s in
-    (omega arith, time-fits effectiveOf (numbers s) (s .args .times .now) (s .args .n) (timed s .effective) g, time-fits issueOf (numbers s) (s .args .issues .now) (s .args .n) (timed s .issued) g)
+element-copy-out-if2 : tie.Need-element-copy-out-if2 Inv-loop μ-loop
+element-copy-out-if2 c = omega arith
 
 loop-less-2 : tie.Need-loop-less-2 Inv-loop μ-loop
 loop-less-2 c = omega arith
@@ -87,11 +87,11 @@ loop-less-2 c = omega arith
 loop-again-2 : tie.Need-loop-again-2 Inv-loop μ-loop
 loop-again-2 c =
     let s = c .before .before .before .before .before .before .before in
-    let l = c .before .before .before .before .before .before .loop in
+    let l = c .before .before .before .before .before .loop in
     let os = numbers s in
     let n = s .args .n in
     let o = getD os (l .i) noNumbered in
-    let u : superseded (take n os) o ≡ true = sym (left-is s (l .i) (omega arith) (c .before .before .before .if1 .left)) ∙ (sym (c .before .is-superseded .ensures) ∙ c .if2 .taken) in
+    let u : superseded (take n os) o ≡ true = sym (left-is s (l .i) (omega arith) (c .before .before .if1 .left)) ∙ lt-ltb _ _ (rw (c .before .before .before .before .before .before .latest-at .ensures) at (c .if2 .taken)) in
     (omega arith, rw (those-skip os n (inGroup (take n os) (s .args .t)) (l .i) noNumbered (omega arith) (fits s) (group-gone (take n os) (s .args .t) o u)) at (l .inv .1))
 
 mul-instruction : tie.Need-mul-instruction Inv-loop μ-loop
@@ -124,12 +124,12 @@ loop-less-3 c = omega arith
 loop-again-3 : tie.Need-loop-again-3 Inv-loop μ-loop
 loop-again-3 c =
     let s = c .before .before .before .before .before .before .before .before .before .before .before .before .before .before in
-    let l = c .before .before .before .before .before .before .before .before .before .before .before .before .before .loop in
+    let l = c .before .before .before .before .before .before .before .before .before .before .before .before .loop in
     let os = numbers s in
     let n = s .args .n in
     let o = getD os (l .i) noNumbered in
-    let q = c .before .before .before .before .before .before .before .before .before .before .if1 .left in
-    let u : superseded (take n os) o ≡ false = sym (left-is s (l .i) (omega arith) q) ∙ (sym (c .before .before .before .before .before .before .before .before .is-superseded .ensures) ∙ c .before .before .before .before .before .before .before .if2 .left) in
+    let q = c .before .before .before .before .before .before .before .before .before .if1 .left in
+    let u : superseded (take n os) o ≡ false = sym (left-is s (l .i) (omega arith) q) ∙ le-ltb _ _ (rw (c .before .before .before .before .before .before .before .before .before .before .before .before .before .latest-at .ensures) at (c .before .before .before .before .before .before .before .if2 .left)) in
     let at : getD (s .args .times .now) (l .i) 0 ≡ effectiveOf o = time-at effectiveOf os (s .args .times .now) n (l .i) (timed s .effective) (omega arith) in
     let e = group-left (take n os) (s .args .t) o (sym at ∙ q) u in
     let w = rw (those-keep os n (inGroup (take n os) (s .args .t)) (l .i) noNumbered (omega arith) (fits s) e) at (l .inv .1) in
@@ -141,7 +141,7 @@ used-of-requires c κs = search needs
 returns : tie.Need-returns Inv-loop μ-loop
 unfolding group inGroup
 returns c =
-    let s = c .before .before .before in
+    let s = c .before .before .before .before in
     let l = c .before .before .loop in
     let w = rw (those-none (inGroup (take (s .args .n) (numbers s)) (s .args .t)) (left-none (numbers s) (s .args .n) (l .i) (omega arith))) at (l .inv .1) in
     c .used-of .ensures (group (take (s .args .n) (numbers s)) (s .args .t)) (walked-best w) (walked-sync w) (walked-desy w)
@@ -153,15 +153,15 @@ used-at-spec =
     (tie.spec
     Inv-loop
     μ-loop
+    latest-at-requires
     loop-holds
     add-i
     mul-if1
     element-copy-out-if1
     loop-less
     loop-again
-    mul-issue
-    element-copy-out-issue
-    is-superseded-requires
+    mul-if2
+    element-copy-out-if2
     loop-less-2
     loop-again-2
     mul-instruction

@@ -1,33 +1,69 @@
 use Prim.Native.Nat.{ℕ, _+_, _*_, _-_, _≤_}
-use mathlib.Core.Path.{_≡_, ap, _∙_}
+use mathlib.Core.Path.{_≡_, ap}
+use mathlib.Core.List.{List, _++_}
 use native.Mathlib.Omega.{arith}
 use borrow.Author.Needs.{needs}
-use lib.Dec.{ltb}
 use lib.ListN.{length, getD}
+use Rattle.level.specs.Level.{grains}
 use Rattle.course.specs.declared.Course.{Course}
-use Rattle.level.specs.Choice.{pick}
-use Rattle.day.specs.Day.{daySeconds, noCourse}
-use Rattle.daylines.specs.Rest.{courseLines}
-use Rattle.daylines.proofs.Laws.{left-shorter, courses-left, courses-more, courses-none, end-is}
+use Rattle.course.proofs.Near.{Short}
+use Rattle.day.specs.Day.{noCourse}
+use Rattle.rates.specs.Ways.{headed}
+use Rattle.trajectory.specs.Walk.{beginning}
+use Rattle.daylines.specs.Rest.{linesLeft}
+use Rattle.rates.proofs.Anew.{Shared, setAnew, shared-own, shared-anew}
+use Rattle.daylines.proofs.Laws.{left-shorter, courses-left, courses-none, course-next}
 use Rattle.daylines.proofs.courses_width.Statement.{statement}
 use Rattle.daylines.proofs.courses_width.Tie as tie
 use Rattle.daylines.proofs.courses_width.Reads as reads
 use Rattle.daylines.proofs.courses_width.Lts as lts
 use Rattle.daylines.proofs.at_most.Reads as at-most-reads
-use Rattle.daylines.proofs.course_width.Reads as course-width-reads
 use Rattle.daylines.proofs.end_of.Reads as end-of-reads
+use Rattle.rates.proofs.own_lists.Reads as own-lists-reads
+use Rattle.rates.proofs.place_of.Reads as place-of-reads
+use Rattle.rates.proofs.ramp_of.Reads as ramp-of-reads
+use Rattle.trajectory.proofs.is_rising.Reads as is-rising-reads
+use Rattle.daylines.proofs.course_width.Reads as course-width-reads
 
 abbrev Inv-loop : tie.InvT-loop
-Inv-loop u started cs n width₀ i₀ width i = (i ≤ n) × (width + length (courses-left u cs started i) ≡ length (courses-left u cs started 0)) × (width ≤ 369367187370 * i)
+Inv-loop started u cs n l₀ width₀ i₀ l width i =
+    (i ≤ n) × Shared u l × (width + length (courses-left u cs started i) ≡ length (courses-left u cs started 0)) × (width ≤ 369367187370 * i)
 
 abbrev μ-loop : tie.MeasureT-loop
-μ-loop u started cs n width₀ i₀ width i = n - i
+μ-loop started u cs n l₀ width₀ i₀ l width i = n - i
+
+-- the lines of the next course
+abbrev lines-of : (c : tie.After-ramp-of Inv-loop μ-loop) → List ℕ
+lines-of c =
+    let a = c .before .before .before .before .before .before .before .before .before .before .before .before .before .before .args in
+    let l = c .before .before .before .before .before .before .before .before .before .before .loop in
+    let d : Course = getD (a .t2) (l .i) noCourse in
+    linesLeft (setAnew (a .t1) (l .l) (c .before .before .before .before .place-of .result) (c .ramp-of .result)) d (c .before .before .before .before .before .is-rising .result) (c .before .before .before .before .before .before .end-of .result) (beginning d (d .begin))
+
+next : (c : tie.After-ramp-of Inv-loop μ-loop) →
+    let a = c .before .before .before .before .before .before .before .before .before .before .before .before .before .before .args in
+    let i = c .before .before .before .before .before .before .before .before .before .before .loop .i in
+    let d : Course = getD (a .t2) i noCourse in
+    Short (headed (c .before .before .before .before .before .is-rising .result)) (grains (d .target)) (d .start .grains)
+    × (courses-left (a .t1) (a .t2) (a .started) i ≡ lines-of c ++ courses-left (a .t1) (a .t2) (a .started) (i + 1))
+next c =
+    let s = c .before .before .before .before .before .before .before .before .before .before .before .before .before .before in
+    let a = s .args in
+    let l = c .before .before .before .before .before .before .before .before .before .before .loop in
+    course-next (a .t1) (a .t2) (a .started) (c .before .before .before .before .before .before .before .before .before .before .before .before .before .at-most .result) (l .i) (s .good .1 .0 .1 .0 .1) (c .before .before .before .before .before .before .before .before .before .before .before .before .before .at-most .ensures) (omega arith) (l .l) _ _ _ _ _ (l .inv .1)
+    (c .before .before .before .before .before .is-rising .ensures) (c .before .before .before .before .place-of .ensures .0) (c .ramp-of .ensures) (c .before .before .before .before .before .before .before .at-most2 .ensures) (c .before .before .before .before .before .before .end-of .ensures)
 
 at-most-requires : tie.Need-at-most-requires Inv-loop μ-loop
 at-most-requires c κs = search needs
 
+array-copy-out-first : tie.Need-array-copy-out-first Inv-loop μ-loop
+array-copy-out-first c = omega arith
+
+own-lists-requires : tie.Need-own-lists-requires Inv-loop μ-loop
+own-lists-requires c κs = search needs
+
 loop-holds : tie.Need-loop-holds Inv-loop μ-loop
-loop-holds c = (omega arith, omega arith, omega arith)
+loop-holds c = let u = c .before .before .before .args .t1 in (omega arith, shared-own u (c .own-lists .result) _ _ (c .own-lists .ensures), omega arith, omega arith)
 
 mul-c : tie.Need-mul-c Inv-loop μ-loop
 mul-c c = omega arith
@@ -35,57 +71,66 @@ mul-c c = omega arith
 array-copy-out-c : tie.Need-array-copy-out-c Inv-loop μ-loop
 array-copy-out-c c = omega arith
 
-add-at-most : tie.Need-add-at-most Inv-loop μ-loop
-add-at-most c = omega arith
+add-i : tie.Need-add-i Inv-loop μ-loop
+add-i c = omega arith
 
 at-most-requires-2 : tie.Need-at-most-requires-2 Inv-loop μ-loop
 at-most-requires-2 c κs = search needs
 
-mul-next : tie.Need-mul-next Inv-loop μ-loop
-mul-next c = omega arith
+mul-end-of : tie.Need-mul-end-of Inv-loop μ-loop
+mul-end-of c = omega arith
 
-array-copy-out-next : tie.Need-array-copy-out-next Inv-loop μ-loop
-array-copy-out-next c = omega arith
-
-add-end-of : tie.Need-add-end-of Inv-loop μ-loop
-add-end-of c = omega arith
+element-copy-out-end-of : tie.Need-element-copy-out-end-of Inv-loop μ-loop
+element-copy-out-end-of c = omega arith
 
 end-of-requires : tie.Need-end-of-requires Inv-loop μ-loop
 end-of-requires c κs = search needs
 
+is-rising-requires : tie.Need-is-rising-requires Inv-loop μ-loop
+is-rising-requires c κs = search needs
+
+place-of-requires : tie.Need-place-of-requires Inv-loop μ-loop
+place-of-requires c κs = search needs
+
+mul-l : tie.Need-mul-l Inv-loop μ-loop
+mul-l c = search needs
+
+element-copy-out-l : tie.Need-element-copy-out-l Inv-loop μ-loop
+element-copy-out-l c = search needs
+
+ramp-of-requires : tie.Need-ramp-of-requires Inv-loop μ-loop
+ramp-of-requires c κs = search needs
+
 course-width-requires : tie.Need-course-width-requires Inv-loop μ-loop
-course-width-requires c κs = search needs
+course-width-requires c κs = next c .0
 
 add-width : tie.Need-add-width Inv-loop μ-loop
-add-width c = omega arith
-
-add-i : tie.Need-add-i Inv-loop μ-loop
-add-i c = omega arith
+add-width c = let l = c .before .before .before .before .before .before .before .before .before .before .before .loop in omega (arith, l .inv .0, l .inv .3, c .course-width .ensures .1, c .before .before .before .before .before .before .before .before .before .before .before .before .before .before .at-most .ensures)
 
 loop-less : tie.Need-loop-less Inv-loop μ-loop
-loop-less c = omega arith
+loop-less c = omega (arith, c .before .before .before .before .before .before .before .before .before .before .loop-test)
 
 loop-again : tie.Need-loop-again Inv-loop μ-loop
 loop-again c =
-    let s = c .before .before .before .before .before .before .before .before in
-    let a = s .args in
-    let l = c .before .before .before .before .before .before .loop in
-    let n = c .before .before .before .before .before .before .before .at-most in
-    let end = c .before .end-of in
-    let d : Course = getD (a .t2) (l .i) noCourse in
-    let left = courses-left (a .u) (a .t2) (a .started) in
-    let ends = end .ensures ∙ ap (λ (j : ℕ). pick (ltb (l .i + 1) (n .result)) (getD (a .t2) j noCourse .begin) daySeconds) (c .before .before .before .at-most2 .ensures)
-    ∙ end-is (a .t2) (a .started) (n .result) (l .i) (s .good .1 .0 .1 .0 .1) (n .ensures) (omega arith) in
-    let e = courses-more (a .u) (a .t2) (a .started) (l .i) (end .result) (omega (arith, s .good .1 .0 .1 .0 .1)) ends in
-    let r = left-shorter (left (l .i)) (courseLines (a .u) d (end .result)) (left (l .i + 1)) e in
-    (omega arith, omega (arith, r, c .course-width .ensures .0, l .inv .1), omega (arith, c .course-width .ensures .1, l .inv .2))
+    let a = c .before .before .before .before .before .before .before .before .before .before .before .before .before .before .before .args in
+    let l = c .before .before .before .before .before .before .before .before .before .before .before .loop in
+    let w = c .course-width .ensures in
+    let left = courses-left (a .t1) (a .t2) (a .started) in
+    let r = left-shorter (left (l .i)) (lines-of (c .before)) (left (l .i + 1)) (next (c .before) .1) in (
+      omega (arith, c .before .before .before .before .before .before .before .before .before .before .loop-test),
+      shared-anew (a .t1) (l .l) _ _ (l .inv .1),
+      omega (arith, r, w .0, l .inv .2),
+      omega (arith, w .1, l .inv .3),
+    )
 
 returns : tie.Need-returns Inv-loop μ-loop
 returns c =
-    let s = c .before .before .before in
+    let s = c .before .before .before .before .before in
     let a = s .args in
-    let l = c .before .loop in
-    (omega (arith, l .inv .1, ap length (courses-none (a .u) (a .t2) (a .started) (l .i) (omega (arith, s .good .1 .0 .1 .0 .1)))), omega (arith, l .inv .2))
+    let l = c .before .loop in (
+      omega (arith, l .inv .2, ap length (courses-none (a .t1) (a .t2) (a .started) (l .i) (omega (arith, s .good .1 .0 .1 .0 .1, c .before .before .before .before .at-most .ensures, c .loop-test)))),
+      omega (arith, l .inv .0, l .inv .3, c .before .before .before .before .at-most .ensures),
+    )
 
 pub courses-width-spec : {M : Type 1} → statement M
 courses-width-spec =
@@ -94,18 +139,23 @@ courses-width-spec =
     Inv-loop
     μ-loop
     at-most-requires
+    array-copy-out-first
+    own-lists-requires
     loop-holds
     mul-c
     array-copy-out-c
-    add-at-most
+    add-i
     at-most-requires-2
-    mul-next
-    array-copy-out-next
-    add-end-of
+    mul-end-of
+    element-copy-out-end-of
     end-of-requires
+    is-rising-requires
+    place-of-requires
+    mul-l
+    element-copy-out-l
+    ramp-of-requires
     course-width-requires
     add-width
-    add-i
     loop-less
     loop-again
     returns)

@@ -8,13 +8,14 @@ use Rattle.lines.specs.Lines.{qLine}
 use Rattle.text.specs.Text.{laid}
 use Rattle.text.proofs.Laws.{part-length}
 use Rattle.day.specs.Day.{quantityAt}
-use Rattle.daylines.proofs.Laws.{Laying, lay-none, lay-room, lay-next, lay-more, lay-all, quantities-left, quantities-more, quantities-none, quantities-all}
+use Rattle.daylines.proofs.Laws.{Laying, lay-none, lay-room, lay-next, lay-more, lay-all, quantities-left, quantities-more, quantities-none, quantities-all, quantity-here}
 use Rattle.daylines.proofs.put_quantities.Statement.{statement}
 use Rattle.daylines.proofs.put_quantities.Tie as tie
 use Rattle.daylines.proofs.put_quantities.Reads as reads
 use Rattle.daylines.proofs.put_quantities.Lts as lts
 use Rattle.lines.proofs.put_q.Reads as put-q-reads
-use Rattle.daylines.proofs.quantity_at.Reads as quantity-at-reads
+use Rattle.daylines.proofs.twice_at.Reads as twice-at-reads
+use Rattle.summing.proofs.quantity_of.Reads as quantity-of-reads
 use Rattle.daylines.proofs.run_end.Reads as run-end-reads
 
 abbrev Inv-loop : tie.InvT-loop
@@ -24,39 +25,44 @@ abbrev μ-loop : tie.MeasureT-loop
 μ-loop out₀ sums at₀ i₀ out at i = 48 - i
 
 -- all of it has room
-fits : (c : tie.At-loop Inv-loop μ-loop) → let a = c .before .before .args in length (quantities-left (quantityAt (a .t2)) 0) ≤ length (a .out .now)
-fits c = let s = c .before .before in rw (quantities-all (quantityAt (s .args .t2))) (s .pre)
+fits : (c : tie.At-loop Inv-loop μ-loop) → let a = c .before .before .args in length (quantities-left (quantityAt (a .sums .now)) 0) ≤ length (a .out .now)
+fits c = let s = c .before .before in rw (quantities-all (quantityAt (s .args .sums .now))) (s .pre)
 
 -- the next line, and its room
 next : (c : tie.After-run-end Inv-loop μ-loop) →
-    let left = quantities-left (quantityAt (c .before .before .before .before .before .before .before .args .t2)) in
-    let i = c .before .before .before .before .before .loop .i in
-    left i ≡ qLine (i + 1) (c .run-end .result) (c .before .before .quantity-at .result) ++ left (c .run-end .result)
+    let left = quantities-left (quantityAt (c .before .before .before .before .before .before .args .sums .now)) in
+    let i = c .before .before .before .before .loop .i in
+    left i ≡ qLine (i + 1) (c .run-end .result) (c .before .quantity-of .result) ++ left (c .run-end .result)
 next c =
-    let q = c .before .before .quantity-at in
-    quantities-more (quantityAt (c .before .before .before .before .before .before .before .args .t2)) (c .before .before .before .before .before .loop .i) (q .result) (c .run-end .result) (omega arith) (q .ensures) (c .run-end .ensures .0)
+    let sums = c .before .before .before .before .before .before .args .sums .now in
+    let i = c .before .before .before .before .loop .i in
+    let kw = c .before .quantity-of in
+    quantities-more (quantityAt sums) i (kw .result) (c .run-end .result) (omega arith) (quantity-here sums i _ _ (c .before .before .twice-at .ensures) (kw .ensures)) (c .run-end .ensures .0)
 
 room : (c : tie.After-run-end Inv-loop μ-loop) →
-    let l = c .before .before .before .before .before .loop in
-    (l .at + length (qLine (l .i + 1) (c .run-end .result) (c .before .before .quantity-at .result)) ≤ length (l .out)) × (length (l .out) ≡ length (c .before .before .before .before .before .before .before .args .out .now))
+    let l = c .before .before .before .before .loop in
+    (l .at + length (qLine (l .i + 1) (c .run-end .result) (c .before .quantity-of .result)) ≤ length (l .out)) × (length (l .out) ≡ length (c .before .before .before .before .before .before .args .out .now))
 room c =
-    let a = c .before .before .before .before .before .before .before .args in
-    let l = c .before .before .before .before .before .loop in
-    let left = quantities-left (quantityAt (a .t2)) in
+    let a = c .before .before .before .before .before .before .args in
+    let l = c .before .before .before .before .loop in
+    let left = quantities-left (quantityAt (a .sums .now)) in
     let end = c .run-end .result in
-    lay-next (left 0) (left (l .i)) (qLine (l .i + 1) end (c .before .before .quantity-at .result)) (left end) (a .out .now) (l .out) (l .at) (fits (c .before .before .before .before .before)) (next c) (l .inv .1)
+    lay-next (left 0) (left (l .i)) (qLine (l .i + 1) end (c .before .quantity-of .result)) (left end) (a .out .now) (l .out) (l .at) (fits (c .before .before .before .before)) (next c) (l .inv .1)
 
 loop-holds : tie.Need-loop-holds Inv-loop μ-loop
-loop-holds c = (omega arith, lay-none (quantities-left (quantityAt (c .before .args .t2)) 0) (c .before .args .out .now))
+loop-holds c = let a = c .before .args in (omega arith, lay-none (quantities-left (quantityAt (a .sums .now)) 0) (a .out .now))
 
-quantity-at-requires : tie.Need-quantity-at-requires Inv-loop μ-loop
-quantity-at-requires c κs = omega arith
+twice-at-requires : tie.Need-twice-at-requires Inv-loop μ-loop
+twice-at-requires c κs = omega arith
+
+quantity-of-requires : tie.Need-quantity-of-requires Inv-loop μ-loop
+quantity-of-requires c κs = search needs
 
 add-first : tie.Need-add-first Inv-loop μ-loop
 add-first c = omega arith
 
 run-end-requires : tie.Need-run-end-requires Inv-loop μ-loop
-run-end-requires c κs = omega arith
+run-end-requires c κs = (omega arith, c .quantity-of .ensures)
 
 sub-put-q : tie.Need-sub-put-q Inv-loop μ-loop
 sub-put-q c = omega (arith, room c)
@@ -68,43 +74,41 @@ part-put-q-end : tie.Need-part-put-q-end Inv-loop μ-loop
 part-put-q-end c = search needs
 
 put-q-requires : tie.Need-put-q-requires Inv-loop μ-loop
-put-q-requires c κs =
-    let l = c .before .before .before .before .before .before .loop in
-    omega (arith, part-length (l .at) (l .out), room (c .before))
+put-q-requires c κs = let l = c .before .before .before .before .before .loop in omega (arith, part-length (l .at) (l .out), room (c .before))
 
 add-at : tie.Need-add-at Inv-loop μ-loop
 add-at c = omega (arith, room (c .before .before .before .before), c .before .before .put-q .ensures .0)
 
 loop-less : tie.Need-loop-less Inv-loop μ-loop
-loop-less c = omega (arith, c .before .before .before .before .run-end .ensures .1, c .before .before .before .before .run-end .ensures .2)
+loop-less c = let end = c .before .before .before .before .run-end in omega (arith, end .ensures .1, end .ensures .2)
 
 loop-again : tie.Need-loop-again Inv-loop μ-loop
 loop-again c =
     let w = c .before .before .before .before in
-    let a = w .before .before .before .before .before .before .before .args in
-    let l = w .before .before .before .before .before .loop in
+    let a = c .before .before .before .before .before .before .before .before .before .before .args in
+    let l = c .before .before .before .before .before .before .before .before .loop in
     let p = c .before .before .put-q in
     let end = w .run-end .result in
-    let left = quantities-left (quantityAt (a .t2)) in (
+    let left = quantities-left (quantityAt (a .sums .now)) in (
       w .run-end .ensures .2,
-      lay-more (left 0) (left (l .i)) (qLine (l .i + 1) end (w .before .before .quantity-at .result)) (left end) (a .out .now) (l .out) (p .last .0) (l .at) (p .result)
-          (fits (w .before .before .before .before .before)) (next w) (l .inv .1) (p .ensures .0) (p .ensures .1),
+      lay-more (left 0) (left (l .i)) (qLine (l .i + 1) end (c .before .before .before .before .before .quantity-of .result)) (left end) (a .out .now) (l .out) (p .last .0) (l .at) (p .result)
+          (fits (c .before .before .before .before .before .before .before .before)) (next w) (l .inv .1) (p .ensures .0) (p .ensures .1),
     )
 
 same-length : tie.Need-same-length Inv-loop μ-loop
 same-length c =
     let a = c .before .before .before .args in
     let l = c .before .loop in
-    let left = quantities-left (quantityAt (a .t2)) in
+    let left = quantities-left (quantityAt (a .sums .now)) in
     lay-room (left 0) (left (l .i)) (a .out .now) (l .out) (l .at) (fits (c .before)) (l .inv .1) .1
 
 returns : tie.Need-returns Inv-loop μ-loop
 returns c =
     let a = c .before .before .before .args in
     let l = c .before .loop in
-    let left = quantities-left (quantityAt (a .t2)) in
-    let r = lay-all (left 0) (left (l .i)) (a .out .now) (l .out) (l .at) (quantities-none (quantityAt (a .t2)) (l .i) (omega arith)) (l .inv .1) in
-    let all = quantities-all (quantityAt (a .t2)) in
+    let f = quantityAt (a .sums .now) in
+    let r = lay-all (quantities-left f 0) (quantities-left f (l .i)) (a .out .now) (l .out) (l .at) (quantities-none f (l .i) (omega arith)) (l .inv .1) in
+    let all = quantities-all f in
     (r .0 ∙ ap length all, r .1 ∙ ap (λ (d : List ℕ). laid d (a .out .now)) all)
 
 pub put-quantities-spec : {M : Type 1} → statement M
@@ -114,7 +118,8 @@ put-quantities-spec =
     Inv-loop
     μ-loop
     loop-holds
-    quantity-at-requires
+    twice-at-requires
+    quantity-of-requires
     add-first
     run-end-requires
     sub-put-q

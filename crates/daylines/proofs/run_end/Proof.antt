@@ -1,57 +1,69 @@
-use Prim.Native.Nat.{_+_, _-_, _≤_}
+use Prim.Native.Nat.{_-_, _≤_}
 use mathlib.Core.Path.{_≡_, refl, sym, ap, _∙_}
 use native.Mathlib.Omega.{arith}
+use borrow.Author.Needs.{needs}
+use Rattle.profile.specs.Profile.{rounded}
 use Rattle.day.specs.Day.{quantityAt}
 use Rattle.daylines.specs.Rest.{runEnd}
-use Rattle.daylines.proofs.Laws.{end-on, end-here, end-none}
+use Rattle.summing.proofs.Above.{quantity-is}
+use Rattle.daylines.proofs.Laws.{quantity-here, run-on, run-ends, end-none}
 use Rattle.daylines.proofs.run_end.Statement.{statement}
 use Rattle.daylines.proofs.run_end.Tie as tie
 use Rattle.daylines.proofs.run_end.Reads as reads
 use Rattle.daylines.proofs.run_end.Lts as lts
-use Rattle.daylines.proofs.quantity_at.Reads as quantity-at-reads
+use Rattle.daylines.proofs.twice_at.Reads as twice-at-reads
+use Rattle.summing.proofs.quantity_of.Reads as quantity-of-reads
 
 abbrev Inv-loop : tie.InvT-loop
-Inv-loop sums kw from i₀ i = (from ≤ i) × (i ≤ 48) × (runEnd (quantityAt sums) kw i (48 - i) ≡ runEnd (quantityAt sums) kw from (48 - from))
+Inv-loop sums twice kw from i₀ i = (from ≤ i) × (i ≤ 48) × (runEnd (quantityAt sums) kw i (48 - i) ≡ runEnd (quantityAt sums) kw from (48 - from))
 
 abbrev μ-loop : tie.MeasureT-loop
-μ-loop sums kw from i₀ i = 48 - i
+μ-loop sums twice kw from i₀ i = 48 - i
 
 loop-holds : tie.Need-loop-holds Inv-loop μ-loop
-loop-holds c = (omega arith, omega arith, refl)
-
-quantity-at-requires : tie.Need-quantity-at-requires Inv-loop μ-loop
-quantity-at-requires c κs = omega arith
-
-returns : tie.Need-returns Inv-loop μ-loop
-returns c =
-    let a = c .before .before .before .before .args in
-    let l = c .before .before .before .loop in
-    let q = c .before .quantity-at in
-    (sym (end-here (quantityAt (a .sums .now)) (a .kw) (l .i) (48 - l .i) (omega arith) (λ e. omega (arith, q .ensures))) ∙ l .inv .2, l .inv .0, l .inv .1)
+loop-holds c = (omega arith, c .pre .0, refl)
 
 add-i : tie.Need-add-i Inv-loop μ-loop
 add-i c = omega arith
+
+twice-at-requires : tie.Need-twice-at-requires Inv-loop μ-loop
+twice-at-requires c κs = omega arith
 
 loop-less : tie.Need-loop-less Inv-loop μ-loop
 loop-less c = omega arith
 
 loop-again : tie.Need-loop-again Inv-loop μ-loop
 loop-again c =
-    let a = c .before .before .before .before .args in
+    let s = c .before .before .before .before in
     let l = c .before .before .before .loop in
-    let q = c .before .quantity-at in
-    let f = quantityAt (a .sums .now) in (
-      omega arith,
-      omega arith,
-      ap (runEnd f (a .kw) (l .i + 1)) {x = 48 - (l .i + 1)} {y = 48 - l .i - 1} (omega arith)
-          ∙ (sym (end-on f (a .kw) (l .i) (48 - l .i) (omega arith) (omega (arith, q .ensures))) ∙ l .inv .2),
-    )
+    let same = sym (quantity-is (s .args .sums .now) (l .i)) ∙ ap rounded (sym (c .before .twice-at .ensures) ∙ c .if1 .taken) ∙ sym (s .pre .1) in
+    (omega arith, omega arith, run-on (s .args .sums .now) (l .i) (s .args .kw) (omega arith) same ∙ l .inv .2)
+
+quantity-of-requires : tie.Need-quantity-of-requires Inv-loop μ-loop
+quantity-of-requires c κs = search needs
+
+returns : tie.Need-returns Inv-loop μ-loop
+returns c =
+    let s = c .before .before .before .before .before .before in
+    let l = c .before .before .before .before .before .loop in
+    let q = quantity-here (s .args .sums .now) (l .i) (c .before .before .before .twice-at .result) (c .before .quantity-of .result) (c .before .before .before .twice-at .ensures) (c .before .quantity-of .ensures) in
+    (run-ends (s .args .sums .now) (l .i) (s .args .kw) (omega arith) (λ e. omega (arith, q)) ∙ l .inv .2, l .inv .0, l .inv .1)
+
+loop-less-2 : tie.Need-loop-less-2 Inv-loop μ-loop
+loop-less-2 c = omega arith
+
+loop-again-2 : tie.Need-loop-again-2 Inv-loop μ-loop
+loop-again-2 c =
+    let s = c .before .before .before .before .before .before in
+    let l = c .before .before .before .before .before .loop in
+    let q = quantity-here (s .args .sums .now) (l .i) (c .before .before .before .twice-at .result) (c .before .quantity-of .result) (c .before .before .before .twice-at .ensures) (c .before .quantity-of .ensures) in
+    (omega arith, omega arith, run-on (s .args .sums .now) (l .i) (s .args .kw) (omega arith) (omega (arith, q)) ∙ l .inv .2)
 
 returns-2 : tie.Need-returns-2 Inv-loop μ-loop
 returns-2 c =
-    let a = c .before .before .args in
+    let s = c .before .before in
     let l = c .before .loop in
-    (sym (end-none (quantityAt (a .sums .now)) (a .kw) (l .i) (48 - l .i) (omega arith)) ∙ l .inv .2, l .inv .0, l .inv .1)
+    (sym (end-none (quantityAt (s .args .sums .now)) (s .args .kw) (l .i) (48 - l .i) (omega arith)) ∙ l .inv .2, l .inv .0, l .inv .1)
 
 pub run-end-spec : {M : Type 1} → statement M
 run-end-spec =
@@ -60,9 +72,12 @@ run-end-spec =
     Inv-loop
     μ-loop
     loop-holds
-    quantity-at-requires
-    returns
     add-i
+    twice-at-requires
     loop-less
     loop-again
+    quantity-of-requires
+    returns
+    loop-less-2
+    loop-again-2
     returns-2)

@@ -1,53 +1,80 @@
-use native.Mathlib.Omega.{arith}
-use mathlib.Core.Path.{_∙_}
-use Rattle.profile.specs.Profile.{paper}
-use Rattle.day.specs.Day.{foundIn}
-use Rattle.entering.proofs.Laws.{opening-short, opening-late, opening-now}
+use mathlib.Core.Path.{ap, _∙_}
+use borrow.Author.Tests.{lt-ltb, le-ltb}
+use Rattle.entering.specs.Fronts.{belowMaximum, openingFront}
 use borrow.Author.Needs.{needs}
 use Rattle.entering.proofs.opening_front.Statement.{statement}
 use Rattle.entering.proofs.opening_front.Tie as tie
 use Rattle.entering.proofs.opening_front.Reads as reads
 use Rattle.entering.proofs.opening_front.Lts as lts
-use Rattle.entering.proofs.opening_step.Reads as opening-step-reads
-use Rattle.entering.proofs.refused.Reads as refused-reads
+use Rattle.entering.proofs.below_maximum.Reads as below-maximum-reads
+use Rattle.entering.proofs.refuse_opening.Reads as refuse-opening-reads
+use Rattle.fields.proofs.read_opening.Reads as read-opening-reads
 
-refused-requires : tie.Need-refused-requires
-refused-requires c κs = search needs
+refuse-opening-requires : tie.Need-refuse-opening-requires
+refuse-opening-requires c κs = search needs
 
 returns : tie.Need-returns
-returns c = c .refused .ensures ∙ opening-short (foundIn paper) _ _ (omega arith) (omega arith) (omega arith)
+unfolding openingFront
+returns c = c .refuse-opening .ensures ∙ rw (lt-ltb _ _ (c .before .if1 .taken))
 
-refused-requires-2 : tie.Need-refused-requires-2
-refused-requires-2 c κs = search needs
+refuse-opening-requires-2 : tie.Need-refuse-opening-requires-2
+refuse-opening-requires-2 c κs = search needs
 
 returns-2 : tie.Need-returns-2
-returns-2 c = c .refused2 .ensures ∙ opening-late (foundIn paper) _ _ (omega arith) (omega arith) (omega arith) (c .before .if2 .taken)
+unfolding openingFront
+returns-2 c = c .refuse-opening2 .ensures ∙ rw (le-ltb _ _ (c .before .before .if1 .left), c .before .if2 .taken)
 
-sub-opening-step : tie.Need-sub-opening-step
-sub-opening-step c = search needs
-
-part-opening-step-start : tie.Need-part-opening-step-start
-part-opening-step-start c = search needs
-
-part-opening-step-end : tie.Need-part-opening-step-end
-part-opening-step-end c = search needs
-
-opening-step-requires : tie.Need-opening-step-requires
-opening-step-requires c κs = search needs
+refuse-opening-requires-3 : tie.Need-refuse-opening-requires-3
+refuse-opening-requires-3 c κs = search needs
 
 returns-3 : tie.Need-returns-3
-returns-3 c = c .opening-step .ensures ∙ opening-now (foundIn paper) _ _ (omega arith) (omega arith) (omega arith) (c .before .before .if2 .left)
+unfolding openingFront
+returns-3 c = c .refuse-opening3 .ensures ∙ rw (le-ltb _ _ (c .before .before .before .if1 .left), c .before .before .if2 .left, c .before .if3 .taken)
+
+refuse-opening-requires-4 : tie.Need-refuse-opening-requires-4
+refuse-opening-requires-4 c κs = search needs
+
+returns-4 : tie.Need-returns-4
+unfolding openingFront
+returns-4 c = c .refuse-opening4 .ensures ∙ rw (le-ltb _ _ (c .before .before .before .before .if1 .left), c .before .before .before .if2 .left, c .before .before .if3 .left, c .before .if4 .taken)
+
+sub-read-opening : tie.Need-sub-read-opening
+sub-read-opening c = search needs
+
+part-read-opening-start : tie.Need-part-read-opening-start
+part-read-opening-start c = search needs
+
+part-read-opening-end : tie.Need-part-read-opening-end
+part-read-opening-end c = search needs
+
+read-opening-requires : tie.Need-read-opening-requires
+read-opening-requires c κs = search needs
+
+below-maximum-requires : tie.Need-below-maximum-requires
+below-maximum-requires c κs = search needs
+
+returns-5 : tie.Need-returns-5
+unfolding openingFront
+returns-5 c =
+    c .below-maximum .ensures
+    ∙ (ap (belowMaximum _) (c .before .read-opening .ensures)
+    ∙ rw (le-ltb _ _ (c .before .before .before .before .before .before .if1 .left), c .before .before .before .before .before .if2 .left, c .before .before .before .before .if3 .left, c .before .before .before .if4 .left))
 
 pub opening-front-spec : {M : Type 1} → statement M
 opening-front-spec =
     tie.close
     (tie.spec
-    refused-requires
+    refuse-opening-requires
     returns
-    refused-requires-2
+    refuse-opening-requires-2
     returns-2
-    sub-opening-step
-    part-opening-step-start
-    part-opening-step-end
-    opening-step-requires
-    returns-3)
+    refuse-opening-requires-3
+    returns-3
+    refuse-opening-requires-4
+    returns-4
+    sub-read-opening
+    part-read-opening-start
+    part-read-opening-end
+    read-opening-requires
+    below-maximum-requires
+    returns-5)

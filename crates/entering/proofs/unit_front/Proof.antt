@@ -1,53 +1,63 @@
-use native.Mathlib.Omega.{arith}
 use mathlib.Core.Path.{_∙_}
-use Rattle.profile.specs.Profile.{paper}
-use Rattle.day.specs.Day.{foundIn}
-use Rattle.entering.proofs.Laws.{unit-short, unit-late, unit-now}
+use borrow.Author.Tests.{lt-ltb, le-ltb}
+use Rattle.entering.specs.Fronts.{unitFront}
 use borrow.Author.Needs.{needs}
 use Rattle.entering.proofs.unit_front.Statement.{statement}
 use Rattle.entering.proofs.unit_front.Tie as tie
 use Rattle.entering.proofs.unit_front.Reads as reads
 use Rattle.entering.proofs.unit_front.Lts as lts
-use Rattle.entering.proofs.refused.Reads as refused-reads
-use Rattle.entering.proofs.unit_step.Reads as unit-step-reads
+use Rattle.entering.proofs.refuse_unit.Reads as refuse-unit-reads
+use Rattle.units.proofs.read_unit.Reads as read-unit-reads
 
-refused-requires : tie.Need-refused-requires
-refused-requires c κs = search needs
+refuse-unit-requires : tie.Need-refuse-unit-requires
+refuse-unit-requires c κs = search needs
 
 returns : tie.Need-returns
-returns c = c .refused .ensures ∙ unit-short (foundIn paper) _ _ (omega arith) (omega arith) (omega arith)
+unfolding unitFront
+returns c = c .refuse-unit .ensures ∙ rw (lt-ltb _ _ (c .before .if1 .taken))
 
-refused-requires-2 : tie.Need-refused-requires-2
-refused-requires-2 c κs = search needs
+refuse-unit-requires-2 : tie.Need-refuse-unit-requires-2
+refuse-unit-requires-2 c κs = search needs
 
 returns-2 : tie.Need-returns-2
-returns-2 c = c .refused2 .ensures ∙ unit-late (foundIn paper) _ _ (omega arith) (omega arith) (omega arith) (c .before .if2 .taken)
+unfolding unitFront
+returns-2 c = c .refuse-unit2 .ensures ∙ rw (le-ltb _ _ (c .before .before .if1 .left), c .before .if2 .taken)
 
-sub-unit-step : tie.Need-sub-unit-step
-sub-unit-step c = search needs
-
-part-unit-step-start : tie.Need-part-unit-step-start
-part-unit-step-start c = search needs
-
-part-unit-step-end : tie.Need-part-unit-step-end
-part-unit-step-end c = search needs
-
-unit-step-requires : tie.Need-unit-step-requires
-unit-step-requires c κs = search needs
+refuse-unit-requires-3 : tie.Need-refuse-unit-requires-3
+refuse-unit-requires-3 c κs = search needs
 
 returns-3 : tie.Need-returns-3
-returns-3 c = c .unit-step .ensures ∙ unit-now (foundIn paper) _ _ (omega arith) (omega arith) (omega arith) (c .before .before .if2 .left)
+unfolding unitFront
+returns-3 c = c .refuse-unit3 .ensures ∙ rw (le-ltb _ _ (c .before .before .before .if1 .left), c .before .before .if2 .left, c .before .if3 .taken)
+
+sub-read-unit : tie.Need-sub-read-unit
+sub-read-unit c = search needs
+
+part-read-unit-start : tie.Need-part-read-unit-start
+part-read-unit-start c = search needs
+
+part-read-unit-end : tie.Need-part-read-unit-end
+part-read-unit-end c = search needs
+
+read-unit-requires : tie.Need-read-unit-requires
+read-unit-requires c κs = search needs
+
+returns-4 : tie.Need-returns-4
+unfolding unitFront
+returns-4 c = c .read-unit .ensures ∙ rw (le-ltb _ _ (c .before .before .before .before .if1 .left), c .before .before .before .if2 .left, c .before .before .if3 .left)
 
 pub unit-front-spec : {M : Type 1} → statement M
 unit-front-spec =
     tie.close
     (tie.spec
-    refused-requires
+    refuse-unit-requires
     returns
-    refused-requires-2
+    refuse-unit-requires-2
     returns-2
-    sub-unit-step
-    part-unit-step-start
-    part-unit-step-end
-    unit-step-requires
-    returns-3)
+    refuse-unit-requires-3
+    returns-3
+    sub-read-unit
+    part-read-unit-start
+    part-read-unit-end
+    read-unit-requires
+    returns-4)

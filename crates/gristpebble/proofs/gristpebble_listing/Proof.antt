@@ -1,65 +1,307 @@
-use mathlib.Core.Path.{_∙_}
+use Prim.Native.Nat.{ℕ, _-_, _≤_, _<_}
+use mathlib.Core.Path.{_≡_, refl, ap, sym, _∙_, subst}
+use mathlib.Core.Bool.{false}
+use mathlib.Core.List.{List}
 use native.Mathlib.Omega.{arith}
-use Rattle.gristpebble.proofs.Opened.{not-false, listed-fits, opened-listed}
+use lib.ListN.{length, getD, take, drop}
 use borrow.Author.Needs.{needs}
+use Rattle.records.specs.declared.Answer.the-variants.{Refused}
+use Rattle.records.specs.declared.Refusal.the-variants.{TooFewBytes}
+use Rattle.profile.specs.Profile.{paper}
+use Rattle.day.specs.Day.{empty, foundIn, withUnit, withOpening, withInstruction}
+use Rattle.contract.specs.Program.{ranBy}
+use Rattle.entering.proofs.Laws.{is-refused, is-taken, instruction-room}
+use Rattle.running.specs.Ended.{endedBy}
+use Rattle.running.proofs.Runs.{from, stops, fits, goes-on, by-unit, by-opening, by-instruction, by-other, run-first, run-none}
+use Rattle.closing.specs.Result.{ranResult, ranLent}
+use Rattle.gristpebble.specs.Listed.{listedResult, listedLent}
+use Rattle.gristpebble.proofs.Laws.{ran-listed, ran-refused}
+use Rattle.running.proofs.Room.{run-fits}
 use Rattle.gristpebble.proofs.gristpebble_listing.Statement.{statement}
 use Rattle.gristpebble.proofs.gristpebble_listing.Tie as tie
 use Rattle.gristpebble.proofs.gristpebble_listing.Reads as reads
 use Rattle.gristpebble.proofs.gristpebble_listing.Lts as lts
-use Rattle.onepass.proofs.list_open.Reads as list-open-reads
-use Rattle.gristpebble.proofs.list_run.Reads as list-run-reads
-use Rattle.intake.proofs.open_day.Reads as open-day-reads
+use Rattle.day.proofs.empty_day.Reads as empty-day-reads
+use Rattle.entering.proofs.instruction_front.Reads as instruction-front-reads
+use Rattle.entering.proofs.opening_front.Reads as opening-front-reads
+use Rattle.entering.proofs.unit_front.Reads as unit-front-reads
+use Rattle.closing.proofs.answer_result.Reads as answer-result-reads
+use Rattle.closing.proofs.close_run.Reads as close-run-reads
+use Rattle.records.proofs.is_accepted.Reads as is-accepted-reads
 
-list-run-requires : tie.Need-list-run-requires
-list-run-requires c κs = search needs
+abbrev Inv-loop : tie.InvT-loop
+Inv-loop input out₀ d₀ rest₀ out d rest = (out ≡ out₀) × (d .closed ≡ false) × (from d rest ≡ ranBy (foundIn paper) input)
 
-same-length : tie.Need-same-length
-same-length c = search needs
+abbrev μ-loop : tie.MeasureT-loop
+μ-loop input out₀ d₀ rest₀ out d rest = length rest
 
-returns : tie.Need-returns
-returns c = search needs
+empty-day-requires : tie.Need-empty-day-requires Inv-loop μ-loop
+empty-day-requires c κs = search needs
 
-open-day-requires : tie.Need-open-day-requires
-open-day-requires c κs = search needs
+loop-holds : tie.Need-loop-holds Inv-loop μ-loop
+unfolding empty
+loop-holds c = (refl, rw (c .empty-day .ensures) refl, run-first _ _ (c .empty-day .ensures))
 
-list-run-requires-2 : tie.Need-list-run-requires-2
-list-run-requires-2 c κs = search needs
+shared-slice-read-match : tie.Need-shared-slice-read-match Inv-loop μ-loop
+shared-slice-read-match c = search needs
 
-same-length-2 : tie.Need-same-length-2
-same-length-2 c = search needs
+unit-front-requires : tie.Need-unit-front-requires Inv-loop μ-loop
+unit-front-requires c κs = search needs
 
-returns-2 : tie.Need-returns-2
-returns-2 c = search needs
+is-accepted-requires : tie.Need-is-accepted-requires Inv-loop μ-loop
+is-accepted-requires c κs = search needs
 
-list-open-requires : tie.Need-list-open-requires
-list-open-requires c κs =
-    let a = c .before .before .before .before .before .before in
-    let e = a .open-day .ensures (not-false (a .open-day .result .fits) (c .before .before .before .before .if2 .left)) in
-    (e .1, omega (arith, listed-fits (a .before .before .before .before .args .input .now) (a .open-day .result) (e .0), c .before .before .before .before .before .before .before .if1 .left))
+answer-result-requires : tie.Need-answer-result-requires Inv-loop μ-loop
+answer-result-requires c κs = search needs
 
-same-length-3 : tie.Need-same-length-3
-same-length-3 c = search needs
+same-length : tie.Need-same-length Inv-loop μ-loop
+same-length c = ap length (c .before .before .before .before .before .before .before .before .loop .inv .0)
 
-returns-3 : tie.Need-returns-3
+returns : tie.Need-returns Inv-loop μ-loop
+returns c =
+    let l = c .before .before .before .before .before .before .before .before .loop in
+    let more = c .before .before .before .before .before .before .before .loop-test .taken in
+    let read = c .before .before .before .before .unit-front in
+    let no = is-refused (read .result .answer) _ (c .before .before .is-accepted .ensures) (c .before .if1 .taken) in
+    let step = by-unit (l .d) (l .rest .now) more (read .result) (read .ensures) (omega (arith, c .before .before .before .before .before .match)) in
+    let s = c .before .before .before .before .before .before .before .before .before .before .before .before in
+    let e = ran-refused (s .args .input .now) (s .args .out .now) (record { answer = read .result .answer; day = l .d }) (stops (l .d) (l .rest .now) more (read .result .answer) (withUnit (l .d) (read .result .unit)) 249 step no ∙ l .inv .2) no in
+    (c .answer-result .ensures ∙ e .0, l .inv .0 ∙ e .1)
+
+-- a unit is taken
+unit-in : (c : tie.Else1 Inv-loop μ-loop) →
+    let l = c .before .before .before .before .before .before .before .loop in
+    let r = c .before .before .before .unit-front .result in
+    (249 ≤ length (l .rest .now)) × (from (l .d) (l .rest .now) ≡ from (withUnit (l .d) (r .unit)) (take (length (l .rest .now) - 249) (drop 249 (l .rest .now))))
+unfolding withUnit
+unit-in c =
+    let l = c .before .before .before .before .before .before .before .loop in
+    let more = c .before .before .before .before .before .before .loop-test .taken in
+    let read = c .before .before .before .unit-front in
+    let yes = is-taken (read .result .answer) _ (c .before .is-accepted .ensures) (c .if1 .left) in
+    let step = by-unit (l .d) (l .rest .now) more (read .result) (read .ensures) (omega (arith, c .before .before .before .before .match)) in
+    let e = withUnit (l .d) (read .result .unit) in
+    (fits (l .d) (l .rest .now) more (read .result .answer) e 249 step yes, goes-on (l .d) (l .rest .now) more (read .result .answer) e 249 step yes (omega arith) (l .inv .1))
+
+sub-rest : tie.Need-sub-rest Inv-loop μ-loop
+sub-rest c = omega (arith, unit-in (c) .0)
+
+part-rest-start : tie.Need-part-rest-start Inv-loop μ-loop
+part-rest-start c = omega (arith, unit-in (c) .0)
+
+part-rest-end : tie.Need-part-rest-end Inv-loop μ-loop
+part-rest-end c = omega (arith, unit-in (c) .0)
+
+loop-less : tie.Need-loop-less Inv-loop μ-loop
+loop-less c = omega (arith, unit-in (c .before) .0)
+
+loop-again : tie.Need-loop-again Inv-loop μ-loop
+unfolding withUnit
+loop-again c =
+    let l = c .before .before .before .before .before .before .before .before .loop in
+    (l .inv .0, l .inv .1, sym (unit-in (c .before) .1) ∙ l .inv .2)
+
+opening-front-requires : tie.Need-opening-front-requires Inv-loop μ-loop
+opening-front-requires c κs = search needs
+
+is-accepted-requires-2 : tie.Need-is-accepted-requires-2 Inv-loop μ-loop
+is-accepted-requires-2 c κs = search needs
+
+answer-result-requires-2 : tie.Need-answer-result-requires-2 Inv-loop μ-loop
+answer-result-requires-2 c κs = search needs
+
+same-length-2 : tie.Need-same-length-2 Inv-loop μ-loop
+same-length-2 c = ap length (c .before .before .before .before .before .before .before .before .loop .inv .0)
+
+returns-2 : tie.Need-returns-2 Inv-loop μ-loop
+returns-2 c =
+    let l = c .before .before .before .before .before .before .before .before .loop in
+    let more = c .before .before .before .before .before .before .before .loop-test .taken in
+    let read = c .before .before .before .opening-front in
+    let no = is-refused (read .result .answer) _ (c .before .before .is-accepted2 .ensures) (c .before .if2 .taken) in
+    let step = by-opening (l .d) (l .rest .now) more (read .result) (read .ensures) (omega (arith, c .before .before .before .before .before .match)) in
+    let s = c .before .before .before .before .before .before .before .before .before .before .before .before in
+    let e = ran-refused (s .args .input .now) (s .args .out .now) (record { answer = read .result .answer; day = l .d }) (stops (l .d) (l .rest .now) more (read .result .answer) (withOpening (l .d) (read .result .opening)) 17 step no ∙ l .inv .2) no in
+    (c .answer-result2 .ensures ∙ e .0, l .inv .0 ∙ e .1)
+
+-- an opening is taken
+opening-in : (c : tie.Else2 Inv-loop μ-loop) →
+    let l = c .before .before .before .before .before .before .before .loop in
+    let r = c .before .before .opening-front .result in
+    (17 ≤ length (l .rest .now)) × (from (l .d) (l .rest .now) ≡ from (withOpening (l .d) (r .opening)) (take (length (l .rest .now) - 17) (drop 17 (l .rest .now))))
+unfolding withOpening
+opening-in c =
+    let l = c .before .before .before .before .before .before .before .loop in
+    let more = c .before .before .before .before .before .before .loop-test .taken in
+    let read = c .before .before .opening-front in
+    let yes = is-taken (read .result .answer) _ (c .before .is-accepted2 .ensures) (c .if2 .left) in
+    let step = by-opening (l .d) (l .rest .now) more (read .result) (read .ensures) (omega (arith, c .before .before .before .before .match)) in
+    let e = withOpening (l .d) (read .result .opening) in
+    (fits (l .d) (l .rest .now) more (read .result .answer) e 17 step yes, goes-on (l .d) (l .rest .now) more (read .result .answer) e 17 step yes (omega arith) (l .inv .1))
+
+sub-rest-2 : tie.Need-sub-rest-2 Inv-loop μ-loop
+sub-rest-2 c = omega (arith, opening-in (c .before) .0)
+
+part-rest-start-2 : tie.Need-part-rest-start-2 Inv-loop μ-loop
+part-rest-start-2 c = omega (arith, opening-in (c .before) .0)
+
+part-rest-end-2 : tie.Need-part-rest-end-2 Inv-loop μ-loop
+part-rest-end-2 c = omega (arith, opening-in (c .before) .0)
+
+loop-less-2 : tie.Need-loop-less-2 Inv-loop μ-loop
+loop-less-2 c = omega (arith, opening-in (c .before .before) .0)
+
+loop-again-2 : tie.Need-loop-again-2 Inv-loop μ-loop
+unfolding withOpening
+loop-again-2 c =
+    let l = c .before .before .before .before .before .before .before .before .before .loop in
+    (l .inv .0, l .inv .1, sym (opening-in (c .before .before) .1) ∙ l .inv .2)
+
+instruction-front-requires : tie.Need-instruction-front-requires Inv-loop μ-loop
+instruction-front-requires c κs = search needs
+
+is-accepted-requires-3 : tie.Need-is-accepted-requires-3 Inv-loop μ-loop
+is-accepted-requires-3 c κs = search needs
+
+answer-result-requires-3 : tie.Need-answer-result-requires-3 Inv-loop μ-loop
+answer-result-requires-3 c κs = search needs
+
+same-length-3 : tie.Need-same-length-3 Inv-loop μ-loop
+same-length-3 c = ap length (c .before .before .before .before .before .before .before .loop .inv .0)
+
+returns-3 : tie.Need-returns-3 Inv-loop μ-loop
 returns-3 c =
-    let a = c .before .before .before .before .before .before .before .before .before in
-    let s = a .before .before .before .before in
-    let o = c .before .before .list-open in
-    let e = a .open-day .ensures (not-false (a .open-day .result .fits) (c .before .before .before .before .before .before .before .if2 .left)) in
-    let r = opened-listed (s .args .input .now) (a .open-day .result) (e .0) (s .args .out .now) (omega (arith, c .before .before .before .before .before .before .before .before .before .before .if1 .left)) in
-    (o .ensures .0 ∙ r .0, o .ensures .1 ∙ r .1)
+    let l = c .before .before .before .before .before .before .before .loop in
+    let more = c .before .before .before .before .before .before .loop-test .taken in
+    let read = c .before .before .before .instruction-front in
+    let no = is-refused (read .result .answer) _ (c .before .before .is-accepted3 .ensures) (c .before .if3 .taken) in
+    let step = by-instruction (l .d) (l .rest .now) more (read .result) (read .ensures) (omega (arith, c .before .before .before .before .match)) in
+    let s = c .before .before .before .before .before .before .before .before .before .before .before in
+    let e = ran-refused (s .args .input .now) (s .args .out .now) (record { answer = read .result .answer; day = l .d }) (stops (l .d) (l .rest .now) more (read .result .answer) (withInstruction (l .d) (read .result .instruction)) 22 step no ∙ l .inv .2) no in
+    (c .answer-result3 .ensures ∙ e .0, l .inv .0 ∙ e .1)
+
+-- an instruction is taken
+instruction-in : (c : tie.Else3 Inv-loop μ-loop) →
+    let l = c .before .before .before .before .before .before .loop in
+    let r = c .before .before .instruction-front .result in
+    (l .d .count < 40) × (22 ≤ length (l .rest .now)) × (from (l .d) (l .rest .now) ≡ from (withInstruction (l .d) (r .instruction)) (take (length (l .rest .now) - 22) (drop 22 (l .rest .now))))
+unfolding withInstruction
+instruction-in c =
+    let l = c .before .before .before .before .before .before .loop in
+    let more = c .before .before .before .before .before .loop-test .taken in
+    let read = c .before .before .instruction-front in
+    let yes = is-taken (read .result .answer) _ (c .before .is-accepted3 .ensures) (c .if3 .left) in
+    let step = by-instruction (l .d) (l .rest .now) more (read .result) (read .ensures) (omega (arith, c .before .before .before .match)) in
+    let e = withInstruction (l .d) (read .result .instruction) in
+    (instruction-room _ _ _ _ (read .result) (read .ensures) yes, fits (l .d) (l .rest .now) more (read .result .answer) e 22 step yes, goes-on (l .d) (l .rest .now) more (read .result .answer) e 22 step yes (omega arith) (l .inv .1))
+
+mul-instruction : tie.Need-mul-instruction Inv-loop μ-loop
+mul-instruction c = omega (arith, instruction-in (c .before) .0)
+
+element-set-from-instruction : tie.Need-element-set-from-instruction Inv-loop μ-loop
+element-set-from-instruction c = omega (arith, instruction-in (c .before) .0)
+
+add-d : tie.Need-add-d Inv-loop μ-loop
+add-d c = omega (arith, instruction-in (c .before) .0)
+
+sub-rest-3 : tie.Need-sub-rest-3 Inv-loop μ-loop
+sub-rest-3 c = omega (arith, instruction-in (c .before) .1)
+
+part-rest-start-3 : tie.Need-part-rest-start-3 Inv-loop μ-loop
+part-rest-start-3 c = omega (arith, instruction-in (c .before) .1)
+
+part-rest-end-3 : tie.Need-part-rest-end-3 Inv-loop μ-loop
+part-rest-end-3 c = omega (arith, instruction-in (c .before) .1)
+
+loop-less-3 : tie.Need-loop-less-3 Inv-loop μ-loop
+loop-less-3 c = omega (arith, instruction-in (c .before .before) .1)
+
+loop-again-3 : tie.Need-loop-again-3 Inv-loop μ-loop
+unfolding withInstruction
+loop-again-3 c =
+    let l = c .before .before .before .before .before .before .before .before .loop in
+    (l .inv .0, l .inv .1, sym (instruction-in (c .before .before) .2) ∙ l .inv .2)
+
+-- the records end here
+ends-here : (c : tie.After-close-run-arg Inv-loop μ-loop) → let l = c .before .before .before .before .loop in endedBy (l .d) (getD (l .rest .now) 0 0) ≡ ranBy (foundIn paper) (c .before .before .before .before .before .before .before .before .args .input .now)
+ends-here c =
+    let l = c .before .before .before .before .loop in
+    let k = c .before .match .rest in
+    by-other (l .d) (l .rest .now) (c .before .before .before .loop-test .taken) (k .0 .0 .1) (k .0 .1) (k .1) ∙ l .inv .2
+
+close-run-requires : tie.Need-close-run-requires Inv-loop μ-loop
+close-run-requires c κs = λ a. run-fits (c .before .before .before .before .before .before .before .before .args .input .now) _ (ends-here c) a .1
+
+same-length-4 : tie.Need-same-length-4 Inv-loop μ-loop
+same-length-4 c = search needs
+
+returns-4 : tie.Need-returns-4 Inv-loop μ-loop
+returns-4 c =
+    let l = c .before .before .before .before .before .before .before .loop in
+    let s = c .before .before .before .before .before .before .before .before .before .before .before in
+    let r = c .before .before .close-run in
+    let e = ran-listed (s .args .input .now) (s .args .out .now) _ (ends-here (c .before .before .before)) in
+    subst (λ (o : List ℕ). (r .result ≡ ranResult (endedBy (l .d) (getD (l .rest .now) 0 0)) o) × (r .last .1 .1 .0 ≡ ranLent (endedBy (l .d) (getD (l .rest .now) 0 0)) o) → (r .result ≡ listedResult (s .args .input .now) (s .args .out .now)) × (r .last .1 .1 .0 ≡ listedLent (s .args .input .now) (s .args .out .now)))
+    (sym (l .inv .0)) (λ f. (f .0 ∙ e .0, f .1 ∙ e .1)) (r .ensures)
+
+answer-result-requires-4 : tie.Need-answer-result-requires-4 Inv-loop μ-loop
+answer-result-requires-4 c κs = search needs
+
+same-length-5 : tie.Need-same-length-5 Inv-loop μ-loop
+same-length-5 c = ap length (c .before .before .loop .inv .0)
+
+returns-5 : tie.Need-returns-5 Inv-loop μ-loop
+returns-5 c =
+    let l = c .before .before .loop in
+    let s = c .before .before .before .before .before .before in
+    let e = ran-refused (s .args .input .now) (s .args .out .now) (record { answer = Refused TooFewBytes; day = l .d }) (run-none (l .d) (l .rest .now) (omega arith) ∙ l .inv .2) refl in
+    (c .answer-result4 .ensures ∙ e .0, l .inv .0 ∙ e .1)
 
 pub gristpebble-listing-spec : {M : Type 1} → statement M
 gristpebble-listing-spec =
     tie.close
     (tie.spec
-    list-run-requires
+    Inv-loop
+    μ-loop
+    empty-day-requires
+    loop-holds
+    shared-slice-read-match
+    unit-front-requires
+    is-accepted-requires
+    answer-result-requires
     same-length
     returns
-    open-day-requires
-    list-run-requires-2
+    sub-rest
+    part-rest-start
+    part-rest-end
+    loop-less
+    loop-again
+    opening-front-requires
+    is-accepted-requires-2
+    answer-result-requires-2
     same-length-2
     returns-2
-    list-open-requires
+    sub-rest-2
+    part-rest-start-2
+    part-rest-end-2
+    loop-less-2
+    loop-again-2
+    instruction-front-requires
+    is-accepted-requires-3
+    answer-result-requires-3
     same-length-3
-    returns-3)
+    returns-3
+    mul-instruction
+    element-set-from-instruction
+    add-d
+    sub-rest-3
+    part-rest-start-3
+    part-rest-end-3
+    loop-less-3
+    loop-again-3
+    close-run-requires
+    same-length-4
+    returns-4
+    answer-result-requires-4
+    same-length-5
+    returns-5)

@@ -1,39 +1,45 @@
-use Prim.Native.Nat.{_≤_, _-_}
-use mathlib.Core.Path.{_≡_, refl, sym, ap, _∙_}
-use mathlib.Core.Bool.{Bool, false}
+use Prim.Native.Nat.{ℕ, _+_, _-_, _≤_, _<_}
+use mathlib.Core.Path.{_≡_, refl, ap, _∙_}
+use lib.Dec.{ltb}
 use lib.ListN.{set, take, getD}
 use Rattle.level.specs.Choice.{pick}
 use Rattle.level.specs.Lists.{filled}
-use Rattle.choosing.specs.Working.{supersededAt}
+use Rattle.choosing.specs.Working.{latestAt}
 use Rattle.keeping.specs.Late.{fatesTo}
 use Rattle.keeping.proofs.Late.{fates-more}
-use Rattle.choosing.proofs.Order.{alone-stays}
 use native.Mathlib.Omega.{arith}
 use borrow.Author.Needs.{needs}
 use Rattle.keeping.proofs.fates_of.Statement.{statement}
 use Rattle.keeping.proofs.fates_of.Tie as tie
 
 abbrev Inv-loop : tie.InvT-loop
-Inv-loop times issues n later out₀ ordered i₀ out i = (i ≤ n) × (out ≡ filled 40 0 (fatesTo (take n times) (take n issues) later i))
+Inv-loop times issues n ordered later out₀ latest₀ i₀ out latest i =
+    (i ≤ n) × (out ≡ filled 40 0 (fatesTo (take n times) (take n issues) later i)) × (0 < i → latest ≡ latestAt (take n times) (take n issues) (getD times (i - 1) 0))
 
 abbrev μ-loop : tie.MeasureT-loop
-μ-loop times issues n later out₀ ordered i₀ out i = n - i
-
-in-order-requires : tie.Need-in-order-requires Inv-loop μ-loop
-in-order-requires c κs = search needs
+μ-loop times issues n ordered later out₀ latest₀ i₀ out latest i = n - i
 
 loop-holds : tie.Need-loop-holds Inv-loop μ-loop
 unfolding filled fatesTo
-loop-holds c = (omega arith, refl)
+loop-holds c = (omega arith, refl, λ h. absurd (omega arith))
 
 add-i : tie.Need-add-i Inv-loop μ-loop
 add-i c = omega arith
 
+latest-of-requires : tie.Need-latest-of-requires Inv-loop μ-loop
+latest-of-requires c κs = search needs
+
+mul-superseded : tie.Need-mul-superseded Inv-loop μ-loop
+mul-superseded c = omega arith
+
+element-copy-out-superseded : tie.Need-element-copy-out-superseded Inv-loop μ-loop
+element-copy-out-superseded c = omega arith
+
 array-read-fate : tie.Need-array-read-fate Inv-loop μ-loop
 array-read-fate c = omega arith
 
-stands-alone-requires : tie.Need-stands-alone-requires Inv-loop μ-loop
-stands-alone-requires c κs = search needs
+final-fate-requires : tie.Need-final-fate-requires Inv-loop μ-loop
+final-fate-requires c κs = search needs
 
 array-write-out : tie.Need-array-write-out Inv-loop μ-loop
 array-write-out c = omega arith
@@ -44,50 +50,16 @@ loop-less c = omega arith
 loop-again : tie.Need-loop-again Inv-loop μ-loop
 loop-again c =
     let a = c .before .before .before .before .before .args in
-    let l = c .before .before .before .loop in
-    let fate = getD (a .t4) (l .i) 0 in
-    let u : supersededAt (take (a .n) (a .times .now)) (take (a .n) (a .issues .now)) (getD (a .times .now) (l .i) 0) (getD (a .issues .now) (l .i) 0) ≡ false =
-    alone-stays (a .times .now) (a .issues .now) (a .n) (l .i) (omega arith) (c .before .stands-alone .ensures (c .if1 .taken)) in
-    (omega arith, (λ q. set (l .inv .1 q) (l .i) (pick (sym u q) 1 fate)) ∙ fates-more (a .times .now) (a .issues .now) (a .n) (l .i) (a .t4) (omega arith) (omega arith))
-
-mul-t : tie.Need-mul-t Inv-loop μ-loop
-mul-t c = omega arith
-
-element-copy-out-t : tie.Need-element-copy-out-t Inv-loop μ-loop
-element-copy-out-t c = omega arith
-
-mul-issue : tie.Need-mul-issue Inv-loop μ-loop
-mul-issue c = omega arith
-
-element-copy-out-issue : tie.Need-element-copy-out-issue Inv-loop μ-loop
-element-copy-out-issue c = omega arith
-
-is-superseded-requires : tie.Need-is-superseded-requires Inv-loop μ-loop
-is-superseded-requires c κs = search needs
-
-final-fate-requires : tie.Need-final-fate-requires Inv-loop μ-loop
-final-fate-requires c κs = search needs
-
-array-write-out-2 : tie.Need-array-write-out-2 Inv-loop μ-loop
-array-write-out-2 c = omega arith
-
-loop-less-2 : tie.Need-loop-less-2 Inv-loop μ-loop
-loop-less-2 c = omega arith
-
-loop-again-2 : tie.Need-loop-again-2 Inv-loop μ-loop
-loop-again-2 c =
-    let a = c .before .before .before .before .before .before .before .before .before .args in
-    let l = c .before .before .before .before .before .before .before .loop in
-    let e : c .final-fate .result ≡ pick (supersededAt (take (a .n) (a .times .now)) (take (a .n) (a .issues .now)) (getD (a .times .now) (l .i) 0) (getD (a .issues .now) (l .i) 0)) 1 (getD (a .t4) (l .i) 0) =
-    c .final-fate .ensures ∙ ap (λ (b : Bool). pick b 1 (getD (a .t4) (l .i) 0)) (c .before .is-superseded .ensures) in
-    (omega arith, (λ q. set (l .inv .1 q) (l .i) (e q)) ∙ fates-more (a .times .now) (a .issues .now) (a .n) (l .i) (a .t4) (omega arith) (omega arith))
+    let l = c .before .before .before .before .loop in
+    let new = c .before .before .latest-of .ensures in
+    let e = c .final-fate .ensures ∙ ap (λ (k : ℕ). pick (ltb (getD (a .issues .now) (l .i) 0) k) 1 (getD (a .t5) (l .i) 0)) new in
+    let p : l .i + 1 - 1 ≡ l .i = omega arith in
+    (omega arith, (λ q. set (l .inv .1 q) (l .i) (e q)) ∙ fates-more (a .times .now) (a .issues .now) (a .n) (l .i) (a .t5) (omega arith) (omega arith), λ h. rw p new)
 
 returns : tie.Need-returns Inv-loop μ-loop
 returns c =
-    let s = c .before .before .before .args in
-    let l = c .before .loop in
-    let e : l .i ≡ s .n = omega arith in
-    rw e at (l .inv .1)
+    let e : c .before .loop .i ≡ c .before .before .args .n = omega arith in
+    rw e at (c .before .loop .inv .1)
 
 pub fates-of-spec : {M : Type 1} → statement M
 fates-of-spec =
@@ -95,21 +67,14 @@ fates-of-spec =
     (tie.spec
     Inv-loop
     μ-loop
-    in-order-requires
     loop-holds
     add-i
+    latest-of-requires
+    mul-superseded
+    element-copy-out-superseded
     array-read-fate
-    stands-alone-requires
+    final-fate-requires
     array-write-out
     loop-less
     loop-again
-    mul-t
-    element-copy-out-t
-    mul-issue
-    element-copy-out-issue
-    is-superseded-requires
-    final-fate-requires
-    array-write-out-2
-    loop-less-2
-    loop-again-2
     returns)

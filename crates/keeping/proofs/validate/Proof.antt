@@ -8,16 +8,28 @@ use Rattle.validation.specs.Kept.{actors}
 use Rattle.keeping.specs.Late.{fatesTo, actingWith}
 use Rattle.checking.specs.Working.{checking}
 use Rattle.choosing.proofs.Laws.{map-length}
-use Rattle.keeping.proofs.Whole.{validation-is}
+use Rattle.keeping.proofs.Whole.{validation-is, none-entered as nothing-entered}
 use borrow.Author.Needs.{needs}
 use Rattle.keeping.proofs.validate.Statement.{statement}
 use Rattle.keeping.proofs.validate.Tie as tie
+
+none-entered-requires : tie.Need-none-entered-requires
+none-entered-requires c κs = search needs
+
+returns : tie.Need-returns
+unfolding filled
+returns c =
+    let a = c .before .before .args in
+    c .none-entered .ensures ∙ nothing-entered (a .instructions) (a .count) (a .end) (c .before .if1 .taken)
 
 at-most-forty-requires : tie.Need-at-most-forty-requires
 at-most-forty-requires c κs = search needs
 
 time-all-requires : tie.Need-time-all-requires
 time-all-requires c κs = search needs
+
+in-order-requires : tie.Need-in-order-requires
+in-order-requires c κs = search needs
 
 used-in-requires : tie.Need-used-in-requires
 used-in-requires c κs = search needs
@@ -32,17 +44,19 @@ settle-late-requires : tie.Need-settle-late-requires
 settle-late-requires c κs = search needs
 
 fates-of-requires : tie.Need-fates-of-requires
-fates-of-requires c κs = search needs
+fates-of-requires c κs =
+    let q = c .before .before .before .before .before .before .before .before .before .before .before .before .before .before .before .time-all .ensures in
+    (omega (arith, c .before .before .before .before .before .before .before .before .before .before .before .before .before .before .before .before .before .before .at-most-forty .ensures), q .0, q .1, c .before .before .before .before .before .before .before .before .before .before .before .before .before .in-order .ensures)
 
 acts-of-requires : tie.Need-acts-of-requires
 acts-of-requires c κs = search needs
 
-returns : tie.Need-returns
-returns c =
-    let a = c .before .before .before .before .before .before .before .before .before .before .before .before .before .before .before .before .before .before .before in
+returns-2 : tie.Need-returns-2
+returns-2 c =
+    let a = c .before .before .before .before .before .before .before .before .before .before .before .before .before .before .before .before .before .before .before .before .before .before in
     let end = a .args .end in
-    let n = c .before .before .before .before .before .before .before .before .before .before .before .before .before .before .before .before .before .before .at-most-forty in
-    let q = c .before .before .before .before .before .before .before .before .before .before .before .before .before .before .before .time-all in
+    let n = c .before .before .before .before .before .before .before .before .before .before .before .before .before .before .before .before .before .before .before .before .at-most-forty in
+    let q = c .before .before .before .before .before .before .before .before .before .before .before .before .before .before .before .before .before .time-all in
     let times = q .last .1 .1 .0 in
     let issues = q .last .1 .1 .1 .0 in
     let u = c .before .before .before .before .before .before .before .before .before .before .before .before .used-in in
@@ -62,12 +76,15 @@ pub validate-spec : {M : Type 1} → statement M
 validate-spec =
     tie.close
     (tie.spec
+    none-entered-requires
+    returns
     at-most-forty-requires
     time-all-requires
+    in-order-requires
     used-in-requires
     check-all-requires
     late-fates-requires
     settle-late-requires
     fates-of-requires
     acts-of-requires
-    returns)
+    returns-2)

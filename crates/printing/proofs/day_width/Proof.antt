@@ -35,9 +35,9 @@ returns : tie.Need-returns
 returns c =
     omega (
       arith,
-      day-length (c .before .before .before .before .before .before .before .before .before .args .day),
-      c .before .before .before .before .before .before .before .fates-width .ensures .0,
-      c .before .before .before .before .courses-width .ensures .0,
+      day-length (c .before .before .before .before .before .before .before .before .before .before .args .t1),
+      c .before .before .before .before .before .before .before .before .fates-width .ensures .0,
+      c .before .before .before .before .before .courses-width .ensures .0,
       c .before .before .quantities-width .ensures .0,
       c .closing-width .ensures .0,
     )

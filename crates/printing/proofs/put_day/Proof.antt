@@ -1,83 +1,179 @@
-use Prim.Native.Nat.{ℕ, _+_, _≤_}
-use mathlib.Core.Path.{_≡_}
-use mathlib.Core.List.{List}
+use Prim.Native.Nat.{ℕ, _+_, _-_, _≤_}
+use mathlib.Core.Path.{_≡_, refl, sym}
+use mathlib.Core.List.{List, [], _++_, append-nil}
 use native.Mathlib.Omega.{arith}
 use borrow.Author.Needs.{needs}
-use lib.ListN.{length}
+use lib.ListN.{length, take, drop}
 use Rattle.text.proofs.Laws.{part-length}
 use Rattle.day.specs.declared.Day.{Day}
 use Rattle.listing.specs.Listing.{printedDay}
-use Rattle.printing.specs.Parts.{fromS}
-use Rattle.daylines.specs.Rest.{fateLines}
-use Rattle.daylines.proofs.Two.{first-room, second-room, both-laid}
-use Rattle.printing.proofs.Whole.{from-f}
+use Rattle.printing.specs.Parts.{linesF, linesS, linesQ}
+use Rattle.daylines.specs.Rest.{closingLine}
+use Rattle.daylines.proofs.Laws.{Laying, lay-none, lay-first, lay-next, lay-more, lay-all}
+use Rattle.printing.proofs.Whole.{in-parts}
 use Rattle.printing.proofs.put_day.Statement.{statement}
 use Rattle.printing.proofs.put_day.Tie as tie
 use Rattle.printing.proofs.put_day.Reads as reads
 use Rattle.printing.proofs.put_day.Lts as lts
+use Rattle.daylines.proofs.put_closing.Reads as put-closing-reads
+use Rattle.daylines.proofs.put_courses.Reads as put-courses-reads
 use Rattle.daylines.proofs.put_fates.Reads as put-fates-reads
-use Rattle.printing.proofs.put_from_s.Reads as put-from-s-reads
+use Rattle.daylines.proofs.put_quantities.Reads as put-quantities-reads
 
--- the two parts
-abbrev front : Day → List ℕ
-front d = fateLines (d .count) (d .fates)
+-- what is left after the S, and after the F lines
+abbrev fromQ : Day → List ℕ
+fromQ d = linesQ d ++ closingLine (d .closing)
 
-abbrev back : Day → List ℕ
-back d = fromS d
+abbrev fromS : Day → List ℕ
+fromS d = linesS d ++ fromQ d
 
--- the second has room after the first
-room : (c : tie.After-slice-known2) →
-    let s = c .before .before .before .before .before .before in
+-- the free tail from the byte at on has become q
+abbrev with-tail : List ℕ → ℕ → List ℕ → List ℕ
+with-tail out at q = take at out ++ (q ++ drop (length out - at) (drop at out))
+
+-- after the F, the S and the Q lines: what lies in the slice, and up to where
+abbrev out-f : (c : tie.After-slice-known2) → List ℕ
+out-f c = c .before .before .put-fates .last .0
+
+after-f : (c : tie.After-slice-known2) → let a = c .before .before .before .before .before .before .args in Laying (printedDay (a .t2)) (fromS (a .t2)) (a .out .now) (out-f c) (c .before .before .put-fates .result)
+after-f c =
+    let a = c .before .before .before .before .before .before .args in
     let p = c .before .before .put-fates in
-    (length (p .last .0) ≡ length (s .args .out .now)) × (p .result + length (back (s .args .day)) ≤ length (p .last .0))
-room c =
+    lay-first (printedDay (a .t2)) (linesF (a .t2)) (fromS (a .t2)) (a .out .now) (out-f c) (p .result) (in-parts (a .t2)) (p .ensures .0) (p .ensures .1)
+
+abbrev out-s : (c : tie.After-slice-known3) → List ℕ
+out-s c = let b = c .before .before .before .before .before .before in with-tail (out-f b) (b .before .before .put-fates .result) (c .before .before .put-courses .last .0)
+
+abbrev at-s : (c : tie.After-slice-known3) → ℕ
+at-s c = c .before .before .before .before .before .before .before .before .put-fates .result + c .before .before .put-courses .result
+
+after-s : (c : tie.After-slice-known3) → let a = c .before .before .before .before .before .before .before .before .before .before .before .before .args in Laying (printedDay (a .t2)) (fromQ (a .t2)) (a .out .now) (out-s c) (at-s c)
+after-s c =
+    let s = c .before .before .before .before .before .before .before .before .before .before .before .before in
+    let d = s .args .t2 in
+    let b = c .before .before .before .before .before .before in
+    let p = c .before .before .put-courses in
+    lay-more (printedDay d) (fromS d) (linesS d) (fromQ d) (s .args .out .now) (out-f b) (p .last .0) (b .before .before .put-fates .result) (p .result) (s .pre) refl (after-f b) (p .ensures .0) (p .ensures .1)
+
+abbrev out-q : (c : tie.After-slice-known4) → List ℕ
+out-q c = let b = c .before .before .before .before .before .before in with-tail (out-s b) (at-s b) (c .before .before .put-quantities .last .0)
+
+abbrev at-q : (c : tie.After-slice-known4) → ℕ
+at-q c = at-s (c .before .before .before .before .before .before) + c .before .before .put-quantities .result
+
+after-q : (c : tie.After-slice-known4) → let a = c .before .before .before .before .before .before .before .before .before .before .before .before .before .before .before .before .before .before .args in Laying (printedDay (a .t2)) (closingLine (a .t2 .closing)) (a .out .now) (out-q c) (at-q c)
+after-q c =
+    let s = c .before .before .before .before .before .before .before .before .before .before .before .before .before .before .before .before .before .before in
+    let d = s .args .t2 in
+    let b = c .before .before .before .before .before .before in
+    let p = c .before .before .put-quantities in
+    lay-more (printedDay d) (fromQ d) (linesQ d) (closingLine (d .closing)) (s .args .out .now) (out-s b) (p .last .0) (at-s b) (p .result) (s .pre) refl (after-s b) (p .ensures .0) (p .ensures .1)
+
+-- the room of the part that comes next
+room-s : (c : tie.After-slice-known2) → let a = c .before .before .before .before .before .before .args in (c .before .before .put-fates .result + length (linesS (a .t2)) ≤ length (out-f c)) × (length (out-f c) ≡ length (a .out .now))
+room-s c =
     let s = c .before .before .before .before .before .before in
-    let p = c .before .before .put-fates in
-    second-room (printedDay (s .args .day)) (front (s .args .day)) (back (s .args .day)) (s .args .out .now) (s .pre) (from-f (s .args .day)) (p .last .0) (p .result) (p .ensures .0) (p .ensures .1)
+    let d = s .args .t2 in
+    lay-next (printedDay d) (fromS d) (linesS d) (fromQ d) (s .args .out .now) (out-f c) (c .before .before .put-fates .result) (s .pre) refl (after-f c)
+
+room-q : (c : tie.After-slice-known3) → let a = c .before .before .before .before .before .before .before .before .before .before .before .before .args in (at-s c + length (linesQ (a .t2)) ≤ length (out-s c)) × (length (out-s c) ≡ length (a .out .now))
+room-q c =
+    let s = c .before .before .before .before .before .before .before .before .before .before .before .before in
+    let d = s .args .t2 in
+    lay-next (printedDay d) (fromQ d) (linesQ d) (closingLine (d .closing)) (s .args .out .now) (out-s c) (at-s c) (s .pre) refl (after-s c)
+
+room-e : (c : tie.After-slice-known4) → let a = c .before .before .before .before .before .before .before .before .before .before .before .before .before .before .before .before .before .before .args in (at-q c + length (closingLine (a .t2 .closing)) ≤ length (out-q c)) × (length (out-q c) ≡ length (a .out .now))
+room-e c =
+    let s = c .before .before .before .before .before .before .before .before .before .before .before .before .before .before .before .before .before .before in
+    let d = s .args .t2 in
+    let e : List ℕ = closingLine (d .closing) in
+    lay-next (printedDay d) e e [] (s .args .out .now) (out-q c) (at-q c) (s .pre) (sym (append-nil e)) (after-q c)
 
 put-fates-requires : tie.Need-put-fates-requires
 put-fates-requires c κs =
     let s = c .before .before .before in
-    first-room (printedDay (s .args .day)) (front (s .args .day)) (back (s .args .day)) (s .args .out .now) (s .pre) (from-f (s .args .day))
+    let d = s .args .t2 in
+    let o = s .args .out .now in
+    omega (arith, lay-next (printedDay d) (printedDay d) (linesF d) (fromS d) o o 0 (s .pre) (in-parts d) (lay-none (printedDay d) o) .0)
 
-sub-put-from-s : tie.Need-sub-put-from-s
-sub-put-from-s c = omega (arith, room c)
+sub-put-courses : tie.Need-sub-put-courses
+sub-put-courses c = omega (arith, room-s (c .before .before))
 
-part-put-from-s-start : tie.Need-part-put-from-s-start
-part-put-from-s-start c = omega (arith, room c)
+part-put-courses-start : tie.Need-part-put-courses-start
+part-put-courses-start c = omega (arith, room-s (c .before .before))
 
-part-put-from-s-end : tie.Need-part-put-from-s-end
-part-put-from-s-end c = search needs
+part-put-courses-end : tie.Need-part-put-courses-end
+part-put-courses-end c = search needs
 
-put-from-s-requires : tie.Need-put-from-s-requires
-put-from-s-requires c κs =
-    let p = c .before .before .before .put-fates in
-    omega (arith, part-length (p .result) (p .last .0), room (c .before))
+put-courses-requires : tie.Need-put-courses-requires
+put-courses-requires c κs = let b = c .before .before .before in omega (arith, part-length (b .before .before .put-fates .result) (out-f b), room-s b)
 
-add-result : tie.Need-add-result
-add-result c = omega (arith, room (c .before .before .before .before), c .before .before .put-from-s .ensures .0)
+add-at : tie.Need-add-at
+add-at c = omega (arith, room-s (c .before .before .before .before .before .before), c .before .before .put-courses .ensures .0)
+
+sub-put-quantities : tie.Need-sub-put-quantities
+sub-put-quantities c = omega (arith, room-q c)
+
+part-put-quantities-start : tie.Need-part-put-quantities-start
+part-put-quantities-start c = omega (arith, room-q c)
+
+part-put-quantities-end : tie.Need-part-put-quantities-end
+part-put-quantities-end c = search needs
+
+put-quantities-requires : tie.Need-put-quantities-requires
+put-quantities-requires c κs = let b = c .before .before .before in omega (arith, part-length (at-s b) (out-s b), room-q b)
+
+add-at-2 : tie.Need-add-at-2
+add-at-2 c = omega (arith, room-q (c .before .before .before .before .before .before), c .before .before .put-quantities .ensures .0)
+
+sub-put-closing : tie.Need-sub-put-closing
+sub-put-closing c = omega (arith, room-e (c .before))
+
+part-put-closing-start : tie.Need-part-put-closing-start
+part-put-closing-start c = omega (arith, room-e (c .before))
+
+part-put-closing-end : tie.Need-part-put-closing-end
+part-put-closing-end c = search needs
+
+put-closing-requires : tie.Need-put-closing-requires
+put-closing-requires c κs = let b = c .before .before in omega (arith, part-length (at-q b) (out-q b), room-e b)
+
+add-at-3 : tie.Need-add-at-3
+add-at-3 c = omega (arith, room-e (c .before .before .before .before .before), c .before .before .put-closing .ensures .0)
 
 same-length : tie.Need-same-length
 same-length c = search needs
 
 returns : tie.Need-returns
 returns c =
-    let w = c .before .before .before .before in
-    let s = w .before .before .before .before .before .before in
-    let d = s .args .day in
-    let p = w .before .before .put-fates in
-    let q = c .before .before .put-from-s in
-    both-laid (printedDay d) (front d) (back d) (s .args .out .now) (s .pre) (from-f d) (p .last .0) (q .last .0) (p .result) (q .result) (p .ensures .0) (p .ensures .1) (q .ensures .0) (q .ensures .1)
+    let s = c .before .before .before .before .before .before .before .before .before .before .before .before .before .before .before .before .before .before .before .before .before .before .before in
+    let d = s .args .t2 in
+    let o = s .args .out .now in
+    let b = c .before .before .before .before .before in
+    let p = c .before .before .put-closing in
+    let e : List ℕ = closingLine (d .closing) in
+    lay-all (printedDay d) [] o (with-tail (out-q b) (at-q b) (p .last .0)) (at-q b + p .result) refl
+    (lay-more (printedDay d) e e [] o (out-q b) (p .last .0) (at-q b) (p .result) (s .pre) (sym (append-nil e)) (after-q b) (p .ensures .0) (p .ensures .1))
 
 pub put-day-spec : {M : Type 1} → statement M
 put-day-spec =
     tie.close
     (tie.spec
     put-fates-requires
-    sub-put-from-s
-    part-put-from-s-start
-    part-put-from-s-end
-    put-from-s-requires
-    add-result
+    sub-put-courses
+    part-put-courses-start
+    part-put-courses-end
+    put-courses-requires
+    add-at
+    sub-put-quantities
+    part-put-quantities-start
+    part-put-quantities-end
+    put-quantities-requires
+    add-at-2
+    sub-put-closing
+    part-put-closing-start
+    part-put-closing-end
+    put-closing-requires
+    add-at-3
     same-length
     returns)

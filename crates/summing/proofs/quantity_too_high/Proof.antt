@@ -1,31 +1,37 @@
-use mathlib.Core.Path.{_≡_, refl, ap, sym, _∙_}
+use mathlib.Core.Path.{_≡_, refl, sym, _∙_}
 use native.Mathlib.Omega.{arith}
-use Prim.Native.Nat.{ℕ, _+_, _-_, _≤_}
-use lib.ListN.{getD}
+use Prim.Native.Nat.{ℕ, _+_, _*_, _-_, _≤_}
 use borrow.Author.Needs.{needs}
-use Rattle.profile.specs.Profile.{rounded}
 use Rattle.summing.specs.Summing.{someAbove}
-use Rattle.summing.proofs.Above.{quantity-is, above-here, above-next, above-none}
+use Rattle.summing.proofs.Above.{above-here, above-next, above-none}
 use Rattle.summing.proofs.quantity_too_high.Statement.{statement}
 use Rattle.summing.proofs.quantity_too_high.Tie as tie
 use Rattle.summing.proofs.quantity_too_high.Reads as reads
 use Rattle.summing.proofs.quantity_too_high.Lts as lts
-use Rattle.summing.proofs.quantity_between.Reads as quantity-between-reads
 
 abbrev Inv-loop : tie.InvT-loop
-Inv-loop sums most i₀ before₀ i before = (i ≤ 48) × (before ≡ getD sums i 0) × (someAbove most sums i (48 - i) ≡ someAbove most sums 0 48)
+Inv-loop sums limit i₀ i = (i ≤ 48) × ((most : ℕ) → limit ≡ most * 216000 + 108000 → someAbove most sums i (48 - i) ≡ someAbove most sums 0 48)
 
 abbrev μ-loop : tie.MeasureT-loop
-μ-loop sums most i₀ before₀ i before = 48 - i
+μ-loop sums limit i₀ i = 48 - i
 
-cast-most : tie.Need-cast-most Inv-loop μ-loop
-cast-most c = search needs
+cast-limit : tie.Need-cast-limit Inv-loop μ-loop
+cast-limit c = search needs
+
+mul-limit : tie.Need-mul-limit Inv-loop μ-loop
+mul-limit c = omega arith
+
+add-limit : tie.Need-add-limit Inv-loop μ-loop
+add-limit c = omega arith
+
+loop-holds : tie.Need-loop-holds Inv-loop μ-loop
+loop-holds c = (omega arith, λ m e. refl)
+
+mul-before : tie.Need-mul-before Inv-loop μ-loop
+mul-before c = omega arith
 
 array-read-before : tie.Need-array-read-before Inv-loop μ-loop
 array-read-before c = omega arith
-
-loop-holds : tie.Need-loop-holds Inv-loop μ-loop
-loop-holds c = (omega arith, refl, refl)
 
 add-i : tie.Need-add-i Inv-loop μ-loop
 add-i c = omega arith
@@ -36,28 +42,35 @@ mul-after c = omega arith
 array-read-after : tie.Need-array-read-after Inv-loop μ-loop
 array-read-after c = omega arith
 
-quantity-between-requires : tie.Need-quantity-between-requires Inv-loop μ-loop
-quantity-between-requires c κs = search needs
-
-returns : tie.Need-returns Inv-loop μ-loop
-returns c = let s = c .before .before .before .before .before in
-    let l = c .before .before .before .loop in
-    let q = c .before .quantity-between .ensures ∙ ap (λ (k : ℕ). rounded (getD (s .args .t2) (l .i + 1) 0 - k)) (l .inv .1) ∙ quantity-is (s .args .t2) (l .i) in
-    sym (above-here (s .args .u .maximum) (s .args .t2) (l .i) (omega arith) (omega (arith, q, c .if1 .taken))) ∙ l .inv .2
-
 loop-less : tie.Need-loop-less Inv-loop μ-loop
 loop-less c = omega arith
 
 loop-again : tie.Need-loop-again Inv-loop μ-loop
-loop-again c = let s = c .before .before .before .before .before in
+loop-again c =
+    let s = c .before .before .before .before in
+    let l = c .before .before .loop in
+    (omega arith, λ m e. sym (above-next m (s .args .t2) (l .i) (omega arith) (omega arith)) ∙ l .inv .1 m e)
+
+returns : tie.Need-returns Inv-loop μ-loop
+returns c =
+    let s = c .before .before .before .before .before in
     let l = c .before .before .before .loop in
-    let q = c .before .quantity-between .ensures ∙ ap (λ (k : ℕ). rounded (getD (s .args .t2) (l .i + 1) 0 - k)) (l .inv .1) ∙ quantity-is (s .args .t2) (l .i) in
-    (omega arith, refl, sym (above-next (s .args .u .maximum) (s .args .t2) (l .i) (omega arith) (omega (arith, q, c .if1 .left))) ∙ l .inv .2)
+    sym (above-here (s .args .u .maximum) (s .args .t2) (l .i) (omega arith) (omega arith)) ∙ l .inv .1 (s .args .u .maximum) refl
+
+loop-less-2 : tie.Need-loop-less-2 Inv-loop μ-loop
+loop-less-2 c = omega arith
+
+loop-again-2 : tie.Need-loop-again-2 Inv-loop μ-loop
+loop-again-2 c =
+    let s = c .before .before .before .before .before in
+    let l = c .before .before .before .loop in
+    (omega arith, λ m e. sym (above-next m (s .args .t2) (l .i) (omega arith) (omega arith)) ∙ l .inv .1 m e)
 
 returns-2 : tie.Need-returns-2 Inv-loop μ-loop
-returns-2 c = let s = c .before .before .before in
+returns-2 c =
+    let s = c .before .before .before in
     let l = c .before .loop in
-    sym (above-none (s .args .u .maximum) (s .args .t2) (l .i) (omega arith)) ∙ l .inv .2
+    sym (above-none (s .args .u .maximum) (s .args .t2) (l .i) (omega arith)) ∙ l .inv .1 (s .args .u .maximum) refl
 
 pub quantity-too-high-spec : {M : Type 1} → statement M
 quantity-too-high-spec =
@@ -65,14 +78,18 @@ quantity-too-high-spec =
     (tie.spec
     Inv-loop
     μ-loop
-    cast-most
-    array-read-before
+    cast-limit
+    mul-limit
+    add-limit
     loop-holds
+    mul-before
+    array-read-before
     add-i
     mul-after
     array-read-after
-    quantity-between-requires
-    returns
     loop-less
     loop-again
+    returns
+    loop-less-2
+    loop-again-2
     returns-2)

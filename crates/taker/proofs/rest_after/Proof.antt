@@ -1,4 +1,3 @@
-use native.Mathlib.Omega.{arith}
 use borrow.Author.Tests.{le-leb, lt-leb}
 use Rattle.level.proofs.Lists.{tail-is}
 use borrow.Author.Needs.{needs}

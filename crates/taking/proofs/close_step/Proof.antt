@@ -1,41 +1,51 @@
-use mathlib.Core.Path.{sym, ap, _∙_}
+use mathlib.Core.Path.{ap, _∙_}
 use Rattle.day.specs.declared.Day.{Day}
-use Rattle.close.specs.declared.Finding.{Finding}
-use Rattle.summing.specs.Summing.{someAbove}
-use Rattle.taking.specs.Closed.{closedBy}
-use Rattle.entering.specs.Kinds.{accept}
-use Rattle.taking.proofs.Closed.{high-is, closed-is}
-use Rattle.entering.proofs.Laws.{not-true, not-false, close-unready, close-high, close-taken}
+use Rattle.entering.specs.Fronts.{accept}
+use Rattle.entering.proofs.Laws.{is-refused, is-taken}
+use Rattle.taking.proofs.Closed.{close-early, close-refused, close-taken}
 use borrow.Author.Needs.{needs}
 use Rattle.taking.proofs.close_step.Statement.{statement}
 use Rattle.taking.proofs.close_step.Tie as tie
 use Rattle.taking.proofs.close_step.Reads as reads
 use Rattle.taking.proofs.close_step.Lts as lts
-use Rattle.summing.proofs.quantity_too_high.Reads as quantity-too-high-reads
-use Rattle.entering.proofs.accepted.Reads as accepted-reads
+use Rattle.entering.proofs.close_front.Reads as close-front-reads
+use Rattle.records.proofs.is_accepted.Reads as is-accepted-reads
+use Rattle.taking.proofs.accepted.Reads as accepted-reads
 use Rattle.taking.proofs.closed_with.Reads as closed-with-reads
-use Rattle.taking.proofs.find_in.Reads as find-in-reads
-use Rattle.entering.proofs.refused.Reads as refused-reads
+use Rattle.taking.proofs.find_close.Reads as find-close-reads
+use Rattle.taking.proofs.refused.Reads as refused-reads
+
+close-front-requires : tie.Need-close-front-requires
+close-front-requires c κs = search needs
+
+is-accepted-requires : tie.Need-is-accepted-requires
+is-accepted-requires c κs = search needs
 
 refused-requires : tie.Need-refused-requires
 refused-requires c κs = search needs
 
 returns : tie.Need-returns
-returns c = c .refused .ensures ∙ close-unready _ (not-true _ (c .before .if1 .taken))
+returns c =
+    let early = c .before .before .before .close-front in
+    c .refused .ensures ∙ close-early _ (early .result) (early .ensures) (is-refused (early .result) _ (c .before .before .is-accepted .ensures) (c .before .if1 .taken))
 
-find-in-requires : tie.Need-find-in-requires
-find-in-requires c κs = search needs
+find-close-requires : tie.Need-find-close-requires
+find-close-requires c κs = search needs
 
-quantity-too-high-requires : tie.Need-quantity-too-high-requires
-quantity-too-high-requires c κs = search needs
+is-accepted-requires-2 : tie.Need-is-accepted-requires-2
+is-accepted-requires-2 c κs = search needs
 
 refused-requires-2 : tie.Need-refused-requires-2
 refused-requires-2 c κs = search needs
 
 returns-2 : tie.Need-returns-2
 returns-2 c =
-    let day : Day = c .before .before .before .before .before .before .before .before .args .day in
-    c .refused2 .ensures ∙ close-high day (not-false (day .hasOpening) (c .before .before .before .before .before .before .if1 .left)) (sym (c .before .before .quantity-too-high .ensures ∙ (ap (λ (x : Finding). someAbove (day .unit .maximum) (x .sums) 0 48) (c .before .before .before .before .before .find-in .ensures) ∙ high-is day)) ∙ c .before .if2 .taken)
+    let s = c .before .before .before .before .before .before .before .before in
+    let early = s .before .before .close-front in
+    let read = c .before .before .before .before .find-close in
+    let first = is-taken (early .result) _ (s .before .is-accepted .ensures) (s .if1 .left) in
+    c .refused2 .ensures
+    ∙ close-refused _ (early .result) (early .ensures) first (read .result) (read .ensures) (is-refused (read .result .answer) _ (c .before .before .is-accepted2 .ensures) (c .before .if2 .taken))
 
 closed-with-requires : tie.Need-closed-with-requires
 closed-with-requires c κs = search needs
@@ -45,19 +55,24 @@ accepted-requires c κs = search needs
 
 returns-3 : tie.Need-returns-3
 returns-3 c =
-    let day : Day = c .before .before .before .before .before .before .before .before .before .args .day in
+    let s = c .before .before .before .before .before .before .before .before .before in
+    let early = s .before .before .close-front in
+    let read = c .before .before .before .before .before .find-close in
+    let first = is-taken (early .result) _ (s .before .is-accepted .ensures) (s .if1 .left) in
     c .accepted .ensures
-    ∙ (ap (λ (d : Day). accept d 1) (c .before .closed-with .ensures ∙ (ap (closedBy day) (c .before .before .before .before .before .before .find-in .ensures) ∙ closed-is day))
-    ∙ close-taken day (not-false (day .hasOpening) (c .before .before .before .before .before .before .before .if1 .left)) (sym (c .before .before .before .quantity-too-high .ensures ∙ (ap (λ (x : Finding). someAbove (day .unit .maximum) (x .sums) 0 48) (c .before .before .before .before .before .before .find-in .ensures) ∙ high-is day)) ∙ c .before .before .if2 .left))
+    ∙ (ap (λ (d : Day). accept d 1) (c .before .closed-with .ensures)
+    ∙ close-taken _ (early .result) (early .ensures) first (read .result) (read .ensures) (is-taken (read .result .answer) _ (c .before .before .before .is-accepted2 .ensures) (c .before .before .if2 .left)))
 
 pub close-step-spec : {M : Type 1} → statement M
 close-step-spec =
     tie.close
     (tie.spec
+    close-front-requires
+    is-accepted-requires
     refused-requires
     returns
-    find-in-requires
-    quantity-too-high-requires
+    find-close-requires
+    is-accepted-requires-2
     refused-requires-2
     returns-2
     closed-with-requires

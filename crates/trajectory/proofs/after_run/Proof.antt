@@ -1,10 +1,16 @@
-use Rattle.trajectory.proofs.Onward.{reaches-less}
-use Rattle.trajectory.specs.Walk.{afterRun}
+use Prim.Native.Nat.{_+_, _*_, _-_}
+use mathlib.Core.Path.{_∙_}
 use Rattle.rates.specs.Ways.{headed}
-use borrow.Author.Tests.{eq-eqb, ne-eqb}
+use Rattle.trajectory.specs.Walk.{afterRun, restRun}
+use Rattle.trajectory.proofs.Onward.{reaches-less}
+use Rattle.trajectory.proofs.Rest.{left-is}
 use borrow.Author.Needs.{needs}
 use Rattle.trajectory.proofs.after_run.Statement.{statement}
 use Rattle.trajectory.proofs.after_run.Tie as tie
+use Rattle.trajectory.proofs.after_run.Reads as reads
+use Rattle.trajectory.proofs.after_run.Lts as lts
+use Rattle.trajectory.proofs.hold_from.Reads as hold-from-reads
+use Rattle.trajectory.proofs.moved.Reads as moved-reads
 
 mul-m : tie.Need-mul-m
 mul-m c = search needs
@@ -12,19 +18,29 @@ mul-m c = search needs
 moved-requires : tie.Need-moved-requires
 moved-requires c κs = reaches-less (headed (c .before .args .up)) _ _ _ (c .before .pre .1 .0) (c .before .pre .1 .1)
 
-add-t9 : tie.Need-add-t9
-add-t9 c = search needs
+sub-t10 : tie.Need-sub-t10
+sub-t10 c = search needs
+
+hold-from-requires : tie.Need-hold-from-requires
+hold-from-requires c κs = search needs
+
+add-t11 : tie.Need-add-t11
+add-t11 c = search needs
 
 returns : tie.Need-returns
-unfolding afterRun
-returns c = simp (c .before .before .before .moved .ensures, eq-eqb _ _ (c .before .if1 .taken))
-
-add-t10 : tie.Need-add-t10
-add-t10 c = search needs
-
-returns-2 : tie.Need-returns-2
-unfolding afterRun
-returns-2 c = simp (c .before .before .before .moved .ensures, ne-eqb _ _ (c .before .if1 .left))
+unfolding afterRun restRun
+returns c =
+    let s = c .before .before .before .before .before in
+    let m = s .args .f * s .args .s .rate in
+    λ i. record {
+      place = record {
+        second = s .args .p .second + s .args .f;
+        level = c .before .before .before .moved .ensures i;
+        left = (c .before .hold-from .ensures ∙ left-is (s .args .s .way) (s .args .s .hold) m (s .pre .1 .0)) i;
+      };
+      rest = record { way = s .args .s .way - m; rate = s .args .s .rate; hold = s .args .s .hold };
+    }
 
 pub after-run-spec : {M : Type 1} → statement M
-after-run-spec = tie.close (tie.spec mul-m moved-requires add-t9 returns add-t10 returns-2)
+after-run-spec =
+    tie.close (tie.spec mul-m moved-requires sub-t10 hold-from-requires add-t11 returns)

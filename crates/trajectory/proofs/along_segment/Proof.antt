@@ -1,44 +1,65 @@
-use Rattle.trajectory.proofs.Onward.{along-stuck, along-short, along-run, full-way}
-use Rattle.rates.specs.Ways.{headed}
+use mathlib.Core.Path.{ap, _∙_}
 use native.Mathlib.Omega.{arith}
-use mathlib.Core.Path.{_∙_}
+use Rattle.rates.specs.Ways.{headed}
+use Rattle.trajectory.specs.Walk.{unknown}
+use Rattle.trajectory.proofs.Onward.{along-stuck, along-short, along-run, full-way}
+use Rattle.trajectory.proofs.Rest.{rest-stuck, rest-short, rest-run}
 use borrow.Author.Needs.{needs}
 use Rattle.trajectory.proofs.along_segment.Statement.{statement}
 use Rattle.trajectory.proofs.along_segment.Tie as tie
+use Rattle.trajectory.proofs.along_segment.Reads as reads
+use Rattle.trajectory.proofs.along_segment.Lts as lts
+use Rattle.trajectory.proofs.after_rest.Reads as after-rest-reads
+use Rattle.trajectory.proofs.after_run.Reads as after-run-reads
+use Rattle.trajectory.proofs.after_short.Reads as after-short-reads
+use Rattle.trajectory.proofs.arrived.Reads as arrived-reads
+use Rattle.trajectory.proofs.run_seconds.Reads as run-seconds-reads
 
 after-rest-requires : tie.Need-after-rest-requires
 after-rest-requires c κs = search needs
 
+arrived-requires : tie.Need-arrived-requires
+arrived-requires c κs = search needs
+
 returns : tie.Need-returns
-returns c = c .after-rest .ensures ∙ along-stuck _ _ _ _ (c .before .if1 .taken)
+returns c =
+    let s = c .before .before .before .before in
+    c .arrived .ensures ∙ ap unknown (c .before .after-rest .ensures)
+    ∙ (λ i. record { place = along-stuck (headed (s .args .up)) (s .args .n) (s .args .p) (s .args .s) (c .before .before .if1 .taken) i; rest = rest-stuck (s .args .n) (s .args .p) (s .args .s) (c .before .before .if1 .taken) i })
 
 after-short-requires : tie.Need-after-short-requires
 after-short-requires c κs = search needs
 
+arrived-requires-2 : tie.Need-arrived-requires-2
+arrived-requires-2 c κs = search needs
+
 returns-2 : tie.Need-returns-2
-returns-2 c = c .after-short .ensures ∙ along-short _ _ _ _ (c .before .before .before .if1 .left) (c .before .if2 .taken)
+returns-2 c =
+    let s = c .before .before .before .before .before .before in
+    c .arrived2 .ensures ∙ ap unknown (c .before .after-short .ensures)
+    ∙ (λ i. record { place = along-short (headed (s .args .up)) (s .args .n) (s .args .p) (s .args .s) (c .before .before .before .before .if1 .left) (c .before .before .if2 .taken) i; rest = rest-short (s .args .n) (s .args .p) (s .args .s) (c .before .before .before .before .if1 .left) (c .before .before .if2 .taken) i })
 
 run-seconds-requires : tie.Need-run-seconds-requires
 run-seconds-requires c κs = search needs
 
 after-run-requires : tie.Need-after-run-requires
-after-run-requires c κs =
-    let s = c .before .before .before .before .before in
-    (omega arith, (full-way _ _ _ (omega arith), s .pre .1))
+after-run-requires c κs = (omega arith, (full-way _ _ _ (omega arith), c .before .before .before .before .before .pre .1))
 
 returns-3 : tie.Need-returns-3
 returns-3 c =
     let s = c .before .before .before .before .before .before in
     rw (c .after-run .ensures, c .before .run-seconds .ensures)
-    (along-run (headed (s .args .up)) (s .args .n) (s .args .p) (s .args .s) (c .before .before .before .before .if1 .left) (c .before .before .if2 .left))
+    (λ i. record { place = along-run (headed (s .args .up)) (s .args .n) (s .args .p) (s .args .s) (c .before .before .before .before .if1 .left) (c .before .before .if2 .left) i; rest = rest-run (s .args .n) (s .args .p) (s .args .s) (c .before .before .before .before .if1 .left) (c .before .before .if2 .left) i })
 
 pub along-segment-spec : {M : Type 1} → statement M
 along-segment-spec =
     tie.close
     (tie.spec
     after-rest-requires
+    arrived-requires
     returns
     after-short-requires
+    arrived-requires-2
     returns-2
     run-seconds-requires
     after-run-requires

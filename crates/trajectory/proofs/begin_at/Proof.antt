@@ -1,11 +1,41 @@
-use Rattle.trajectory.specs.Walk.{beginning}
-use mathlib.Core.Path.{refl}
+use Prim.Native.Nat.{ℕ}
+use mathlib.Core.Path.{ap, sym, _∙_}
+use mathlib.Core.Bool.{_||_}
+use lib.Dec.{ltb, eqb}
+use Rattle.level.specs.Level.{grains}
+use Rattle.segments.specs.declared.Segment.{Segment}
+use Rattle.rates.specs.Ways.{headed, listsBy}
+use Rattle.trajectory.proofs.Rest.{reached-none, reached-found}
+use borrow.Author.Needs.{needs}
 use Rattle.trajectory.proofs.begin_at.Statement.{statement}
 use Rattle.trajectory.proofs.begin_at.Tie as tie
+use Rattle.trajectory.proofs.begin_at.Reads as reads
+use Rattle.trajectory.proofs.begin_at.Lts as lts
+use Rattle.rates.proofs.grains_of.Reads as grains-of-reads
+use Rattle.stops.proofs.segment_from.Reads as segment-from-reads
+use Rattle.trajectory.proofs.arrived.Reads as arrived-reads
+
+grains-of-requires : tie.Need-grains-of-requires
+grains-of-requires c κs = search needs
+
+arrived-requires : tie.Need-arrived-requires
+arrived-requires c κs = search needs
 
 returns : tie.Need-returns
-unfolding beginning
-returns c = refl
+returns c =
+    let s = c .before .before .before .before in
+    c .arrived .ensures ∙ reached-none (headed (s .args .up)) (listsBy (s .args .l) (s .args .c)) (grains (s .args .c .target)) (record { second = s .args .c .begin; level = s .args .c .start .grains; left = s .args .left }) (ap (λ (t : ℕ). ltb 0 (s .args .left) || eqb (s .args .c .start .grains) t) (sym (c .before .before .grains-of .ensures .0)) ∙ c .before .if1 .taken)
+
+segment-from-requires : tie.Need-segment-from-requires
+segment-from-requires c κs = search needs
+
+returns-2 : tie.Need-returns-2
+returns-2 c =
+    let s = c .before .before .before .before in
+    ap (λ (x : Segment). record { place = record { second = s .args .c .begin; level = s .args .c .start .grains; left = s .args .left }; rest = x }) (c .segment-from .ensures)
+    ∙ reached-found (headed (s .args .up)) (listsBy (s .args .l) (s .args .c)) (grains (s .args .c .target)) (record { second = s .args .c .begin; level = s .args .c .start .grains; left = s .args .left }) (ap (λ (t : ℕ). ltb 0 (s .args .left) || eqb (s .args .c .start .grains) t) (sym (c .before .before .grains-of .ensures .0)) ∙ c .before .if1 .left)
 
 pub begin-at-spec : {M : Type 1} → statement M
-begin-at-spec = tie.close (tie.spec returns)
+begin-at-spec =
+    tie.close
+    (tie.spec grains-of-requires arrived-requires returns segment-from-requires returns-2)

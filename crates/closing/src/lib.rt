@@ -1,0 +1,59 @@
+// The end of the records: a close, with the listing of the closed day, and the result of a call.
+ghost use mathlib.Core.Path.{_≡_};
+ghost use Prim.Native.Nat.{_*_, _<_, _≤_};
+ghost use lib.ListN.{length};
+ghost use Rattle.records.specs.declared.Answer.the-variants.{Accepted};
+ghost use Rattle.records.specs.Answers.{numberOf};
+ghost use Rattle.listing.specs.Listing.{printedDay};
+ghost use Rattle.running.specs.Ended.{endedBy};
+ghost use Rattle.closing.specs.Result.{inOne, ranResult, ranLent};
+use records::Answer;
+use records::Refusal;
+use taking::CloseRead;
+
+// A refusal's number, as the result of a call.
+pub fn answer_result(a: Answer) -> u64
+    ensures { λ r. ⌜ r ≡ numberOf a * 4294967296 ⌝ }
+{
+    let number = records::answer_number(a);
+    (number as u64) * 4294967296
+}
+
+// A listing's count or refusal, as the result of a call.
+fn listed_result(l: listing::Listed) -> u64
+    ensures { λ r. ⌜ r ≡ inOne (l .answer) (l .count) ⌝ }
+{
+    let a = l.answer;
+    if records::is_accepted(a) {
+        return l.count as u64;
+    }
+    answer_result(a)
+}
+
+// So many bytes suffice for the listing of any day that records make.
+const SUFFICES: usize = 46080;
+
+// The end of the records at one of this kind, none of a unit, an opening and an instruction: a close, with the listing of the
+// closed day, or no kind.
+pub fn close_run(day: day::Day, kind: u8, out: &mut [u8]) -> u64
+    requires { ⌜ (endedBy day kind .answer ≡ Accepted → length (printedDay (endedBy day kind .day)) ≤ 46080) ⌝ }
+    ensures { λ r. ⌜ (r ≡ ranResult (endedBy day kind) (now (out .entry))) × (now (out .exit) ≡ ranLent (endedBy day kind) (now (out .entry))) ⌝ }
+{
+    if kind != 4 {
+        return answer_result(Answer::Refused(Refusal::UnknownKind));
+    }
+    let early = entering::close_front(day.hasOpening, day.closed);
+    if !records::is_accepted(early) {
+        return answer_result(early);
+    }
+    let unit = day.unit;
+    let opening = day.opening;
+    let instructions = day.instructions;
+    let CloseRead { answer, finding } = taking::find_close(unit, opening, instructions, day.count);
+    if !records::is_accepted(answer) {
+        return answer_result(answer);
+    }
+    let closed = taking::closed_with(day, finding);
+    let l = printing::list_closed(closed, out, SUFFICES <= out.len());
+    listed_result(l)
+}

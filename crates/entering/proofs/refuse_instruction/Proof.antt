@@ -1,0 +1,15 @@
+use borrow.Author.Needs.{needs}
+use Rattle.entering.proofs.refuse_instruction.Statement.{statement}
+use Rattle.entering.proofs.refuse_instruction.Tie as tie
+use Rattle.entering.proofs.refuse_instruction.Reads as reads
+use Rattle.entering.proofs.refuse_instruction.Lts as lts
+use Rattle.day.proofs.no_instruction.Reads as no-instruction-reads
+
+no-instruction-requires : tie.Need-no-instruction-requires
+no-instruction-requires c κs = search needs
+
+returns : tie.Need-returns
+returns c = rw (c .no-instruction .ensures)
+
+pub refuse-instruction-spec : {M : Type 1} → statement M
+refuse-instruction-spec = tie.close (tie.spec no-instruction-requires returns)

@@ -1,0 +1,22 @@
+use mathlib.Core.Path.{refl}
+use Rattle.following.specs.Walk.{walkOf}
+use Rattle.level.specs.Lists.{filled}
+use borrow.Author.Needs.{needs}
+use Rattle.following.proofs.begin_walk.Statement.{statement}
+use Rattle.following.proofs.begin_walk.Tie as tie
+use Rattle.following.proofs.begin_walk.Reads as reads
+use Rattle.following.proofs.begin_walk.Lts as lts
+use Rattle.day.proofs.no_course.Reads as no-course-reads
+
+no-course-requires : tie.Need-no-course-requires
+no-course-requires c κs = search needs
+
+array-set-from-courses : tie.Need-array-set-from-courses
+array-set-from-courses c = search needs
+
+returns : tie.Need-returns
+unfolding walkOf filled
+returns c = rw (c .before .no-course .ensures) refl
+
+pub begin-walk-spec : {M : Type 1} → statement M
+begin-walk-spec = tie.close (tie.spec no-course-requires array-set-from-courses returns)

@@ -1,0 +1,58 @@
+-- The walk over the instructions that act, as arrays: what `follow` says, one instruction after another.
+-- Assumes nothing.
+use Prim.Native.Nat.{ℕ, _+_}
+use mathlib.Core.List.{List, [], _∷_, map}
+use lib.ListN.{length, set}
+use Rattle.level.specs.Choice.{pick}
+use Rattle.level.specs.Lists.{filled}
+use Rattle.records.specs.declared.UnitData.{UnitData}
+use Rattle.validation.specs.declared.Numbered.{Numbered}
+use Rattle.validation.specs.Kept.{Mark, acting}
+use Rattle.profile.specs.declared.UnderWay.{UnderWay}
+use Rattle.profile.specs.declared.State.{State}
+use Rattle.profile.specs.State.{byRule}
+use Rattle.profile.specs.Effects.{Followed, idle, begun, stateAt, follow}
+use Rattle.profile.specs.Profile.{courseOf}
+use Rattle.day.specs.Day.{noCourse}
+use Rattle.following.specs.declared.Walk.{Walk}
+
+abbrev pub fateIn : Mark → ℕ
+fateIn m = m .fate
+
+-- the last of some courses, the first being c
+unfoldable pub lastOf : UnderWay → List UnderWay → UnderWay
+lastOf c [] = c
+lastOf c (d ∷ ds) = lastOf d ds
+
+-- what the arrays hold of marks and courses, now being the last of these
+unfoldable pub walkOf : UnderWay → Followed → Walk
+walkOf now f = record {
+  now = now;
+  courses = filled 41 noCourse (map courseOf (f .courses));
+  started = length (f .courses);
+  fates = filled 40 0 (map fateIn (f .marks));
+  acted = length (f .marks);
+}
+
+-- the first so many that act, followed from the course now
+unfoldable pub walkAll : UnitData → UnderWay → List Numbered → Walk
+walkAll u now os = walkOf (lastOf now (follow byRule u now os .courses)) (follow byRule u now os)
+
+-- one more: fate 7, and the course under way goes on
+unfoldable pub wentOn : Walk → Walk
+wentOn w = record { now = w .now; courses = w .courses; started = w .started; fates = set (w .fates) (w .acted) 7; acted = w .acted + 1 }
+
+-- fate 0, and a new course
+unfoldable pub replacedBy : Walk → UnderWay → Walk
+replacedBy w next = record {
+  now = next;
+  courses = set (w .courses) (w .started) (next .course);
+  started = w .started + 1;
+  fates = set (w .fates) (w .acted) 0;
+  acted = w .acted + 1;
+}
+
+unfoldable pub actedOn : UnitData → Walk → Numbered → Walk
+actedOn u w o =
+    let s : State = stateAt byRule u (w .now) (acting o) in
+    pick (idle (o .instruction .meaning .effect) (o .instruction .level) (s .level) (w .now .maximised)) (wentOn w) (replacedBy w (begun u (w .now) o s))
