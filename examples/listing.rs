@@ -9,7 +9,10 @@ fn main() -> Result<(), Box<dyn std::error::Error>> {
     let file = std::env::args().nth(1).ok_or("usage: listing FILE")?;
     match gristpebble::listing(&std::fs::read(file)?) {
         Ok(listing) => std::io::stdout().write_all(&listing)?,
-        Err(refusal) => println!("{refusal}"),
+        Err(refusal) => {
+            println!("{refusal}");
+            eprintln!("{}", refusal.words());
+        }
     }
     Ok(())
 }

@@ -4,6 +4,9 @@
 
 use std::fmt;
 
+/// A line for each refusal: its number, a blank, its words.
+const REFUSALS: &str = include_str!("../refusals.txt");
+
 /// This many bytes suffice for the listing of any day.
 pub const LISTING_BYTES: usize = 46_080;
 
@@ -11,6 +14,18 @@ pub const LISTING_BYTES: usize = 46_080;
 #[derive(Clone, Copy, Debug, PartialEq, Eq)]
 pub struct Refusal(pub u32);
 
+impl Refusal {
+    /// What the refusal means, in words.
+    pub fn words(self) -> &'static str {
+        REFUSALS
+            .lines()
+            .filter_map(|line| line.split_once(' '))
+            .find(|(number, _)| number.parse() == Ok(self.0))
+            .map_or("unknown", |(_, words)| words)
+    }
+}
+
+/// The line that the listing program prints, `X n`; the words are not in it.
 impl fmt::Display for Refusal {
     fn fmt(&self, f: &mut fmt::Formatter<'_>) -> fmt::Result {
         write!(f, "X {}", self.0)
