@@ -1,0 +1,135 @@
+"""The files of a day, side by side: records, listing, CSV, JSON, HTML. Each comes whole or not at all."""
+
+import csv
+import io
+import json
+import os
+from fractions import Fraction
+from pathlib import Path
+
+from desk import report, words
+from desk.clock import Clock
+from desk.fields import CODES, HEATS
+from desk.outcome import Outcome, short
+
+SUFFIXES = (".records", ".listing", ".csv", ".json", ".html")
+
+
+def contents(outcome: Outcome) -> dict[str, bytes]:
+    """What each file holds, by its suffix."""
+    made = (outcome.records, outcome.printed, table(outcome).encode(), data(outcome).encode(), report.html(outcome).encode())
+    return dict(zip(SUFFIXES, made, strict=True))
+
+
+def write(outcome: Outcome, folder: Path, written: set[Path]) -> None:
+    """Writes the files beside each other. None is put in place before all are written, and none over a file that the day was
+    read from, or that stands in `written`, those of other days."""
+    folder.mkdir(parents=True, exist_ok=True)
+    inputs = {path.resolve() for path in outcome.day.inputs}
+    waiting = []
+    try:
+        for suffix, content in contents(outcome).items():
+            path = folder / (outcome.day.name + suffix)
+            if path.resolve() in inputs | written:
+                if path.read_bytes() == content:
+                    continue
+                what = "this day was read from" if path.resolve() in inputs else "another day was written to"
+                raise FileExistsError(f"{path} is what {what}, and is not overwritten; name another folder (--out)")
+            new = path.with_name(f".{path.name}.{os.getpid()}")
+            waiting.append((new, path))
+            new.write_bytes(content)
+        for new, path in waiting:
+            os.replace(new, path)
+    finally:
+        for new, _ in waiting:
+            new.unlink(missing_ok=True)
+    written |= {path.resolve() for _, path in waiting}
+
+
+def mwh(kw):
+    """The energy of a half-hour, or of a sum of them: exact, since a kW is 0.0005 MWh."""
+    return kw / 2000
+
+
+def table(outcome: Outcome) -> str:
+    """The half-hours as CSV; of a refused day the first line alone."""
+    out = io.StringIO(newline="")
+    rows = csv.writer(out, lineterminator="\n")
+    rows.writerow(["half-hour", "from", "to", "kW", "MWh"])
+    clock = outcome.day.clock
+    for one in outcome.half_hours:
+        rows.writerow([one.number, moment(clock, one.start), moment(clock, one.end), one.kw, mwh(one.kw)])
+    return out.getvalue()
+
+
+def moment(clock: Clock, second: int) -> str:
+    """A boundary: date and time with its offset, or the time of day where no date is known."""
+    return clock.moment(second).isoformat() if clock.date else short(clock, second)
+
+
+def data(outcome: Outcome) -> str:
+    """Everything, for other programs."""
+    day, clock = outcome.day, outcome.day.clock
+    found = {
+        "name": day.name,
+        "source": outcome.source.name,
+        "unit_name": day.unit_name or None,
+        "date": str(clock.date) if clock.date else None,
+        "zone": clock.zone if clock.date else None,
+        "half_hours_in_day": clock.half_hours,
+        "accepted": outcome.refusal is None,
+        "refusal": refusal(outcome),
+        "unit": day.unit,
+        "opening": day.opening and {**day.opening, "heat": HEATS[day.opening["heat"] - 1] if 1 <= day.opening["heat"] <= 3 else None},
+        "instructions": [instruction(outcome, place) for place in range(len(day.instructions))],
+        "measures": {"levels": "kW", "rates": "kW/min", "opening level, segments, closing level": "grains (1/60 kW)", "times": "seconds from 06:00"},
+        **(closed(outcome) if outcome.refusal is None else {}),
+        "sha256": outcome.sums(),
+        "program": outcome.program,
+    }
+    return json.dumps(found, indent=1) + "\n"
+
+
+def refusal(outcome):
+    found = outcome.refusal
+    if found is None:
+        return None
+    return {"number": found.number, "words": found.words, "record": found.place, "byte": found.start, "which": words.which(found, outcome.day.clock)}
+
+
+def instruction(outcome, place):
+    one, clock = outcome.day.instructions[place], outcome.day.clock
+    code = one["code"]
+    found = {"number": place + 1, **one, "code": CODES[code - 1] if 1 <= code <= len(CODES) else code}
+    found |= {"effective_time": moment(clock, one["effective"]), "issue_time": clock.text(one["issue"])}
+    if outcome.listing:
+        fate = outcome.listing.fates[place]
+        found |= {"acting": words.acting(one), "fate": fate, "fate_in_words": words.FATES.get(fate), "rule": outcome.rule(place)}
+    return found
+
+
+def span(row):
+    """An audited span: exact figures as fractions and as decimal numbers, in kW."""
+    found = {"first": row.first, "last": row.last, "kW": row.quantity, "MWh": mwh(row.quantity)}
+    for name in ("exact", "difference", "allowed", "share"):
+        value = Fraction(getattr(row, name))
+        found[name] = {"decimal": float(value), "fraction": str(value)}
+    return found | {"within": row.within}
+
+
+def closed(outcome):
+    """What only a closed day has."""
+    found, clock = outcome.audit, outcome.day.clock
+    rows = []
+    for one, row in zip(outcome.half_hours, found.half_hours, strict=True):
+        rows.append({"half_hour": one.number, "from": moment(clock, one.start), "to": moment(clock, one.end), **span(row)})
+    keys = ("from", "to", "level_from", "level_to")
+    return {
+        "segments": [dict(zip(keys, segment)) for segment in outcome.listing.segments],
+        "half_hours": rows,
+        "total": span(found.total),
+        "worst": span(found.worst),
+        "within_allowance": found.within,
+        "faults": words.faults(found),
+        "closing": outcome.listing.closing._asdict(),
+    }

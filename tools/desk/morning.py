@@ -1,0 +1,194 @@
+"""A morning: every sheet and every records file of a folder, into a folder that is replaced only when it is whole."""
+
+import ctypes
+import glob
+import json
+import os
+import shutil
+import sys
+import tomllib
+from dataclasses import dataclass
+from fractions import Fraction
+from html import escape
+from pathlib import Path
+from urllib.parse import quote
+
+from desk import files, report, sheets, words
+from desk.clock import Clock
+from desk.outcome import Outcome, of_file
+from desk.program import Program, ProgramError
+
+INDEX, MADE = "index.html", "morning.json"  # a folder with the second was made by a morning, and may be replaced
+DAY_KEYS = {"date", "unit", "opening", "instructions"}
+
+
+@dataclass
+class Row:
+    """One file of the morning: its day, or what was wrong with it, with unit and date as far as they are known."""
+
+    path: Path
+    outcome: Outcome | None = None
+    fault: str = ""
+    unit: str = ""
+    date: str = ""
+
+    @property
+    def answer(self) -> str:
+        """Accepted, or why not, in words."""
+        if self.outcome is None:
+            return self.fault
+        if self.outcome.refusal:
+            return words.refused(self.outcome.refusal, self.outcome.day.clock)
+        return "accepted" if self.outcome.within else "OUTSIDE THE ALLOWANCE"
+
+    @property
+    def closed(self) -> bool:
+        return self.outcome is not None and self.outcome.refusal is None
+
+    @property
+    def status(self) -> int:
+        """3 outside the allowance, 1 refused, 0 accepted."""
+        if self.closed and not self.outcome.within:
+            return 3
+        return 0 if self.closed else 1
+
+    def cells(self) -> list[str]:
+        """File, unit, date, MWh, instructions by fate, answer."""
+        named = [self.path.name, self.unit, self.date]
+        if not self.closed:
+            return named + ["", "", self.answer]
+        return named + [report.fixed(self.outcome.energy, 4), by_fate(self.outcome), self.answer]
+
+
+HEADS = ["file", "unit", "date", "#MWh", "instructions by fate", "answer"]
+
+
+def by_fate(outcome: Outcome) -> str:
+    """How many instructions have each fate: fate 0: 3, 7: 1."""
+    fates = outcome.listing.fates
+    return f"fate {', '.join(f'{fate}: {fates.count(fate)}' for fate in sorted(set(fates)))}" if fates else "none"
+
+
+def is_unit_file(path: Path) -> bool:
+    """Whether a TOML file is a unit's, which sheets share."""
+    try:
+        table = tomllib.loads(path.read_text(encoding="utf-8"))
+    except (OSError, ValueError, RecursionError):
+        return False
+    return "capacity" in table and not DAY_KEYS & table.keys()
+
+
+def found(folder: Path) -> list[Path]:
+    """The sheets and records files of a folder, by name. Unit files are none, nor are hidden files."""
+    names = sorted(path for path in folder.iterdir() if path.suffix in (".toml", ".records") and not path.name.startswith("."))
+    return [path for path in names if path.is_file() and not (path.suffix == ".toml" and is_unit_file(path))]
+
+
+def work(program: Program, path: Path, clock: Clock, taken: dict[str, bytes], folder: Path) -> Row | None:
+    """One file's day, written; None for the records of a sheet that was done already. A bad file stops no other."""
+    try:
+        outcome = of_file(program, path, clock)
+        row = Row(path, None, "", outcome.unit_name, outcome.date)
+        if taken.get(path.stem, outcome.records) != outcome.records:
+            row.fault = "not done: another file of this name gives other records"
+            return row
+        if path.stem in taken:
+            return None
+        files.write(outcome, folder, set())
+        taken[path.stem] = outcome.records
+        row.outcome = outcome
+        return row
+    except sheets.SheetError as error:
+        here = f"{path.parent}{os.sep}"
+        return Row(path, None, "; ".join(fault.replace(here, "") for fault in error.faults), error.unit, error.date)
+    except (ProgramError, OSError, ValueError) as error:
+        return Row(path, fault=f"not done: {error}")
+
+
+def show(text: str) -> None:
+    """One line of progress, on a terminal only; an empty one wipes it."""
+    if sys.stderr.isatty():
+        width = shutil.get_terminal_size().columns - 1
+        print(f"\r\033[K{text[:width]}", end="", file=sys.stderr, flush=True)
+
+
+def run(program: Program, folder: Path, out: Path, clock: Clock) -> list[Row]:
+    """The morning's rows, in the order of the files; sheets come before records of the same name."""
+    paths = sorted(found(folder), key=lambda path: (path.stem, path.suffix != ".toml"))
+    remove_left_over(out)
+    new = beside(out, os.getpid())
+    new.mkdir(parents=True)
+    rows, taken = [], {}
+    try:
+        for place, path in enumerate(paths, 1):
+            show(f"{place} of {len(paths)}: {path.name}")
+            row = work(program, path, clock, taken, new)
+            rows += [row] if row else []
+        (new / INDEX).write_text(index(folder, rows), encoding="utf-8")
+        (new / MADE).write_text(data(rows), encoding="utf-8")
+        put_in_place(new, out)
+    finally:
+        show("")
+        shutil.rmtree(new, ignore_errors=True)
+    return rows
+
+
+def beside(out: Path, process: int) -> Path:
+    """Where a process makes what is to take a folder's place."""
+    return out.with_name(f".{out.name}.{process}")
+
+
+def remove_left_over(out: Path) -> None:
+    """Removes what mornings that were cut off have left beside the folder."""
+    for path in out.parent.glob(f".{glob.escape(out.name)}.*") if out.parent.is_dir() else []:
+        process = path.name.rsplit(".", 1)[1]
+        if process.isdecimal() and not Path(f"/proc/{process}").exists():
+            shutil.rmtree(path, ignore_errors=True)
+
+
+def put_in_place(new: Path, out: Path) -> None:
+    """The new folder takes the old one's place at once; what `new` names then is to be removed."""
+    if not out.exists():
+        os.rename(new, out)
+    elif not exchange(new, out):
+        old = new.with_name(f"{new.name}.old")
+        os.rename(out, old)
+        os.rename(new, out)
+        shutil.rmtree(old)
+
+
+def exchange(one: Path, other: Path) -> bool:
+    """Two folders change names in one step, where the system can."""
+    try:
+        call = ctypes.CDLL(None, use_errno=True).renameat2
+    except (OSError, AttributeError):
+        return False
+    here, swap = -100, 2  # AT_FDCWD, RENAME_EXCHANGE
+    return call(here, os.fsencode(one.absolute()), here, os.fsencode(other.absolute()), swap) == 0
+
+
+def index(folder: Path, rows: list[Row]) -> str:
+    """The morning's page, with a link to each day."""
+    lines = []
+    for row in rows:
+        cells = [escape(cell) for cell in row.cells()]
+        if row.outcome:
+            cells[0] = f'<a href="{quote(row.path.stem)}.html">{cells[0]}</a>'
+        if row.status:
+            cells[-1] = f'<span class="bad">{cells[-1]}</span>'
+        lines.append(cells)
+    name = folder.resolve().name
+    body = f"<h1>Morning, folder {escape(name)}</h1>\n<p>{escape(summary(rows))}</p>\n{report.table(HEADS, lines)}"
+    return report.page(f"Morning, folder {name}", body + f'\n<p class="small">{report.OUTSIDE}</p>')
+
+
+def data(rows: list[Row]) -> str:
+    """The morning's table for other programs."""
+    keys = [head.lstrip("#") for head in HEADS]
+    return json.dumps([{**dict(zip(keys, row.cells())), "accepted": row.closed, "status": row.status} for row in rows], indent=1) + "\n"
+
+
+def summary(rows: list[Row]) -> str:
+    accepted = [row for row in rows if row.closed]
+    total = sum((row.outcome.energy for row in accepted), start=Fraction(0))
+    return f"{len(rows)} days: {len(accepted)} accepted, {len(rows) - len(accepted)} refused; {report.fixed(total, 4)} MWh"

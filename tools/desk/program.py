@@ -1,0 +1,97 @@
+"""The proved program: builds it if need be, runs it on bytes, and says which record it refused."""
+
+import hashlib
+import subprocess
+import sys
+from dataclasses import dataclass
+from functools import cached_property
+from pathlib import Path
+
+from desk import listing, records
+
+ROOT = Path(__file__).resolve().parents[2]
+sys.path.insert(0, str(ROOT / "bindings" / "python"))
+import gristpebble  # noqa: E402  the table of refusals in words
+
+WORDS = gristpebble.WORDS
+WAITS = b"X 2\n"  # what the program says of records that were all let in and do not close the day
+
+
+class ProgramError(Exception):
+    """The program could not be built or did not answer."""
+
+
+@dataclass(frozen=True)
+class Refusal:
+    """The first refusal: its number, the place of the record (from 1), where its bytes begin, those bytes and all after
+    them, and the record if it stands whole."""
+
+    number: int
+    place: int
+    start: int
+    bytes: bytes
+    record: records.Record | None
+
+    @property
+    def words(self):
+        return WORDS.get(self.number, "a refusal that this tool does not know")
+
+
+class Program:
+    """The listing program of this repository, or another one at a path."""
+
+    def __init__(self, path: Path | None = None):
+        self.path = path or ROOT / "target" / "bin" / "profiler"
+        if path is None:
+            built = subprocess.run([ROOT / "profile", "--build"], stdin=subprocess.DEVNULL)
+            if built.returncode:
+                raise ProgramError("the program could not be built")
+
+    def run(self, data: bytes) -> bytes:
+        """What the program prints for these bytes: a listing, or the line of a refusal."""
+        try:
+            ran = subprocess.run([self.path], input=data, capture_output=True, timeout=60)
+        except (OSError, subprocess.TimeoutExpired) as error:
+            raise ProgramError(f"the program did not answer: {error}") from None
+        if ran.returncode or ran.stderr or not ran.stdout:
+            said = ran.stderr.decode(errors="replace").strip() or f"status {ran.returncode}"
+            raise ProgramError(f"the program did not answer: {said}")
+        return ran.stdout
+
+    def refusal(self, data: bytes, printed: bytes) -> Refusal | None:
+        """The first refusal in these bytes, of which `printed` came.
+
+        Which record it was is asked of the program: records that are let in and do not close give X 2, for no bytes are left.
+        So the first of them up to which the answer is another is looked for, by halves.
+        """
+        number = listing.refusal(printed)
+        if number is None:
+            return None
+        whole = records.split(data)
+        low, high = 0, len(whole)  # the first `low` records are let in; if the first `high` are too, it is the one after
+        while low < high:
+            middle = (low + high) // 2
+            if self.run(data[: records.end(whole[middle])]) == WAITS:
+                low = middle + 1
+            else:
+                high = middle
+        record = whole[low] if low < len(whole) else None
+        start = record.start if record else (records.end(whole[-1]) if whole else 0)
+        return Refusal(number, low + 1, start, data[start:], record)
+
+    @cached_property
+    def identity(self) -> dict:
+        """Which program this is: SHA-256 of it, the commit that last changed its source, whether that was changed since."""
+        found = {"sha256": hashlib.sha256(self.path.read_bytes()).hexdigest(), "commit": None, "changed": None}
+        try:
+            source = ["--", "crates", "crates.txt"]
+            found["commit"] = git("log", "-1", "--format=%H", *source) or None
+            found["changed"] = bool(git("status", "--porcelain", *source))
+        except (OSError, subprocess.CalledProcessError):
+            pass
+        return found
+
+
+def git(*words):
+    ran = subprocess.run(["git", "-C", ROOT, *words], capture_output=True, text=True, check=True)
+    return ran.stdout.strip()

@@ -1,0 +1,344 @@
+"""Sheets: a day typed in TOML, its instructions as tables or as a CSV file.
+
+Every fault of a sheet is found before anything is written; each names file, table and field.
+"""
+
+import csv
+import difflib
+import io
+import re
+import tomllib
+from datetime import date, datetime
+from decimal import Decimal
+from pathlib import Path
+
+from desk.clock import HALF_HOURS, ZONE, Clock, zone_named
+from desk.days import Day
+from desk.fields import CODES, INSTRUCTION, MWOF, OPENING, TRIGGER, UNIT, Table, Triggers
+from desk.measures import Wrong, kind_of, short
+
+UNKNOWN = "unknown"  # the date of a sheet that was made from records
+TOP = ("date", "zone", "unit", "opening", "instructions", "rest")
+BARE = re.compile(r"[+-]?[0-9]+(\.[0-9]+)?", re.ASCII)
+
+# The columns of P.9: as P.9 names them, as the desk says them.
+COLUMNS = {
+    "issue": ("instruction issue time", "issue time"),
+    "effective": ("instruction effective time", "effective time"),
+    "code": ("instruction code",),
+    "level": ("target instruction level",),
+    "up": ("dispatch ramp up rate", "up rate"),
+    "down": ("dispatch ramp down rate", "down rate"),
+}
+
+
+class SheetError(Exception):
+    """What is wrong with a sheet, one line for each fault; unit and date as far as they could be read."""
+
+    def __init__(self, faults, unit="", date=""):
+        super().__init__("\n".join(faults))
+        self.faults, self.unit, self.date = faults, unit, date
+
+
+def parse(path: Path) -> dict:
+    """The tables of a TOML file, decimals exact."""
+    try:
+        text = path.read_bytes().decode()
+    except OSError as error:
+        raise SheetError([f"{path}: {error.strerror}"]) from None
+    except UnicodeDecodeError:
+        raise SheetError([f"{path}: no text in UTF-8, so no sheet"]) from None
+    try:
+        return tomllib.loads(text, parse_float=Decimal)
+    except ValueError as error:
+        raise SheetError([f"{path}{toml_fault(text, str(error))}"]) from None
+    except RecursionError:
+        raise SheetError([f"{path}: tables within tables too deep"]) from None
+
+
+def toml_fault(text, message):
+    """Where TOML itself is broken, in words: line, table and field."""
+    lines = text.splitlines() or [""]
+    at = re.search(r"at line ([0-9]+)", message)
+    place = min(int(at[1]), len(lines)) if at else len(lines)
+    while place > 1 and not lines[place - 1].strip():
+        place -= 1
+    tables = [line.strip() for line in lines[:place] if re.match(r"\s*\[", line)]
+    line = lines[place - 1]
+    field = line.split("=")[0].strip() if "=" in line else ""
+    words = re.sub(r" \(at .*\)$", "", message)
+    if message.startswith("Cannot"):
+        words = "given twice"
+    elif re.search(r"=\s*[0-9]{1,2}:[0-9]{2}\s*(#.*)?$", line):
+        words = 'a time is written 06:30:00, or "06:30" as text'
+    where = [f"line {place}"] + tables[-1:] + ([field] if field else [])
+    return f", {', '.join(where)}: {words}"
+
+
+class Reader:
+    """Reads the tables of one file by the fields of the records, and keeps every fault."""
+
+    def __init__(self, file: Path, clock: Clock, faults: list):
+        self.file, self.clock, self.faults = file, clock, faults
+
+    def fault(self, table, field, words):
+        """One fault: file, table (or line of a CSV file) and field."""
+        shown = table if table.startswith("line ") or not table else f"[{table}]"
+        where = ", ".join(part for part in (str(self.file), shown, field) if part)
+        self.faults.append(f"{where}: {words}")
+
+    def known(self, table, value, keys):
+        """Every key of a table has to be one of these."""
+        for key in value:
+            if key not in keys:
+                near = difflib.get_close_matches(key, keys, 1)
+                self.fault(table, key, f"unknown name; {f'did you mean {near[0]}?' if near else f'known are {listed(keys)}'}")
+
+    def figure(self, table, name, value, field):
+        """One figure, which has to fit in its bytes; 0 where it is wrong."""
+        most = 2 ** (8 * field.width - field.signed)
+        try:
+            number = field.measure.read(value, self.clock)
+            if number < 0 and not field.signed:
+                raise Wrong(f"{short(value)} is negative")
+            if not -most <= number < most:
+                raise Wrong(f"{short(value)} is more than a record can hold")
+            return number
+        except Wrong as wrong:
+            self.fault(table, name, str(wrong))
+            return 0
+
+    def figures(self, table, value, field):
+        """A list of figures, as many as the record has."""
+        if type(value) is not list or len(value) != field.count:
+            given = f"{len(value)} are given" if type(value) is list else f"{kind_of(value)} is given"
+            self.fault(table, field.key, f"a list of {field.count} figures is wanted, {given}")
+            return [0] * field.count
+        return [self.figure(table, f"{field.key} {place}", one, field) for place, one in enumerate(value, 1)]
+
+    def triggers(self, table, value, entry):
+        """A list of triggers; where it is shorter than the record's, the others are none."""
+        if type(value) is not list or len(value) > entry.count:
+            self.fault(table, entry.key, f"a list of at most {entry.count} tables is wanted, each with level and minutes")
+            value = []
+        none = [{"level": 0, "minutes": 0}] * (entry.count - len(value))
+        return [self.table(f"{table}.{entry.key} {place}".lstrip("."), one, TRIGGER) for place, one in enumerate(value + none, 1)]
+
+    def tables(self, table, value, entry):
+        """One table for each name."""
+        if type(value) is not dict:
+            self.fault(table, entry.key, f"{kind_of(value)}, where tables are wanted: {listed(entry.names)}")
+            return {}
+        inner = f"{table}.{entry.key}".lstrip(".")
+        self.known(inner, value, entry.names)
+        for name in entry.names:
+            if name not in value:
+                self.fault(inner, name, "missing")
+        return {name: self.table(f"{inner}.{name}", value[name], entry.fields) for name in entry.names if name in value}
+
+    def entry(self, table, value, entry):
+        """What stands under one key."""
+        if isinstance(entry, Triggers):
+            return self.triggers(table, value, entry)
+        if isinstance(entry, Table) and entry.names:
+            return self.tables(table, value, entry)
+        if isinstance(entry, Table):
+            return self.table(f"{table}.{entry.key}".lstrip("."), value, entry.fields)
+        if entry.count is None:
+            return self.figure(table, entry.key, value, entry)
+        return self.figures(table, value, entry)
+
+    def table(self, table, value, fields, optional=(), also=()):
+        """A table by its fields; an optional one that is missing is 0. Keys in `also` are read elsewhere."""
+        if type(value) is not dict:
+            self.fault(table, "", f"{kind_of(value)}, where a table is wanted")
+            return {}
+        self.known(table, value, [entry.key for entry in fields] + list(also))
+        found = {}
+        for entry in fields:
+            if entry.key in value:
+                found[entry.key] = self.entry(table, value[entry.key], entry)
+            elif entry.key in optional:
+                found[entry.key] = 0
+            else:
+                self.fault(table, entry.key, "missing")
+        return found
+
+
+def listed(names):
+    return ", ".join(names)
+
+
+def read(path: Path) -> Day:
+    """The day of a sheet, or SheetError with every fault of it."""
+    sheet, faults = parse(path), []
+    clock = clock_of(path, sheet, faults)
+    reader = Reader(path, clock, faults)
+    reader.known("", sheet, TOP)
+    day = Day(path.stem, clock, inputs=[path])
+    day.rest = rest_of(reader, sheet)
+    read_unit(reader, sheet, day)
+    read_opening(reader, sheet, day)
+    read_instructions(reader, sheet, day)
+    if day.after > len(day.instructions):
+        reader.fault("opening", "after", f"{day.after} is more than the instructions, {len(day.instructions)}")
+    if faults:
+        raise SheetError(faults, day.unit_name, str(clock.date or ""))
+    return day
+
+
+def clock_of(path, sheet, faults):
+    """The clock of the sheet's date and zone. One without a date serves to find further faults."""
+    reader = Reader(path, Clock(), faults)
+    day, zone = sheet.get("date"), sheet.get("zone", ZONE)
+    if day is None:
+        reader.fault("", "date", "missing")
+    elif day != UNKNOWN and (not isinstance(day, date) or isinstance(day, datetime)):
+        reader.fault("", "date", f"{short(day)}, where a date is wanted, such as 2026-11-16")
+    try:
+        zone_named(zone)
+    except Wrong as wrong:
+        reader.fault("", "zone", str(wrong))
+    if faults or day == UNKNOWN:
+        return Clock()
+    try:
+        clock = Clock(day, zone)
+    except Wrong as wrong:
+        reader.fault("", "date", str(wrong))
+        return Clock()
+    if clock.half_hours != HALF_HOURS:
+        reader.fault("", "date", clock_change(clock))
+    return clock
+
+
+def clock_change(clock):
+    """Why the program does not take a day on which the clocks change."""
+    which = f"the clocks change in the Trading Day of {clock.date}, which has {clock.half_hours} half-hours"
+    return f"{which}; the program takes days of {HALF_HOURS} only"
+
+
+def rest_of(reader, sheet):
+    """Bytes that follow as they are, in hexadecimal."""
+    text = sheet.get("rest")
+    if text is None:
+        return None
+    try:
+        return bytes.fromhex(text)
+    except (TypeError, ValueError):
+        reader.fault("", "rest", "bytes in hexadecimal are wanted, as text")
+        return b""
+
+
+def read_unit(reader, sheet, day):
+    """The unit: a table, or the path of a unit file, seen from the sheet."""
+    unit = sheet.get("unit")
+    if unit is None:
+        if day.rest is None:
+            reader.fault("", "unit", "missing")
+        return
+    table = "unit"
+    if type(unit) is str:
+        path = reader.file.parent / unit
+        day.inputs.append(path)
+        day.unit_name = path.stem
+        try:
+            unit = parse(path)
+        except SheetError as error:
+            reader.faults += error.faults
+            return
+        reader, table = Reader(path, reader.clock, reader.faults), ""
+    elif type(unit) is not dict:
+        reader.fault("", "unit", f"{kind_of(unit)}, where a table or the path of a unit file is wanted")
+        return
+    name = unit.get("name", day.unit_name)
+    if type(name) is not str:
+        reader.fault(table, "name", f"{kind_of(name)}, where text is wanted")
+    else:
+        day.unit_name = name
+    day.unit = reader.table(table, unit, UNIT, also=("name",))
+
+
+def read_opening(reader, sheet, day):
+    """The opening. Seconds off may be left out where the level is above 0."""
+    opening = sheet.get("opening")
+    if opening is None:
+        if day.rest is None:
+            reader.fault("", "opening", "missing")
+        return
+    running = type(opening) is dict and opening.get("level") not in (None, 0, "0 kW", "0 MW", "0 grains")
+    day.opening = reader.table("opening", opening, OPENING, ("off",) if running else (), ("after",))
+    after = opening.get("after", 0) if type(opening) is dict else 0
+    if type(after) is not int or after < 0:
+        reader.fault("opening", "after", f"{short(after)}, where the number of instructions entered before it is wanted")
+    else:
+        day.after = after
+
+
+def read_instructions(reader, sheet, day):
+    """The instructions, as tables or as the path of a CSV file, seen from the sheet."""
+    given = sheet.get("instructions", [])
+    if type(given) is str:
+        path = reader.file.parent / given
+        day.inputs.append(path)
+        day.instructions = read_csv(Reader(path, reader.clock, reader.faults))
+    elif type(given) is not list:
+        reader.fault("", "instructions", f"{kind_of(given)}, where tables or the path of a CSV file are wanted")
+    else:
+        day.instructions = [read_instruction(reader, f"instructions {n}", one) for n, one in enumerate(given, 1)]
+
+
+def read_instruction(reader, table, value):
+    """One instruction. Rates may be left out, and the level of a code that carries none."""
+    mwof = type(value) is dict and value.get("code") == CODES[MWOF - 1]
+    return reader.table(table, value, INSTRUCTION, ("up", "down") if mwof else ("level", "up", "down"))
+
+
+def read_csv(reader):
+    """The instructions of a CSV file, by its first line's names; an empty cell counts as missing."""
+    try:
+        text = reader.file.read_bytes().decode("utf-8-sig")
+        rows = [(line, row) for line, row in numbered(csv.reader(io.StringIO(text, newline=""), strict=True)) if any(row)]
+    except OSError as error:
+        reader.fault("", "", error.strerror)
+        return []
+    except (UnicodeDecodeError, csv.Error) as error:
+        reader.fault("", "", f"no CSV file: {error}")
+        return []
+    keys = columns(reader, rows[0] if rows else (1, []))
+    if keys is None:
+        return []
+    found = []
+    for line, row in rows[1:]:
+        if len(row) > len(keys):
+            reader.fault(f"line {line}", "", f"{len(row)} cells, where there are {len(keys)} columns")
+        cells = {key: cell_value(cell.strip()) for key, cell in zip(keys, row) if cell.strip()}
+        found.append(read_instruction(reader, f"line {line}", cells))
+    return found
+
+
+def numbered(rows):
+    """Rows of a CSV file with the line on which each ends."""
+    for row in rows:
+        yield rows.line_num, [cell.strip() for cell in row]
+
+
+def columns(reader, first):
+    """The keys of a CSV file's columns, or None if they are not those of P.9."""
+    line, names = first
+    known = {name: key for key, others in COLUMNS.items() for name in (key, *others)}
+    before = len(reader.faults)
+    keys = [known.get(" ".join(name.lower().split())) for name in names]
+    for name, key in zip(names, keys):
+        if key is None:
+            reader.fault(f"line {line}", name, f"unknown name of a column; known are {listed(COLUMNS)}")
+        elif keys.count(key) > 1:
+            reader.fault(f"line {line}", name, "given twice")
+    for key in COLUMNS:
+        if key not in keys:
+            reader.fault(f"line {line}", key, "missing")
+    return keys if len(reader.faults) == before else None
+
+
+def cell_value(text):
+    """A cell: a bare number, or text."""
+    return Decimal(text) if BARE.fullmatch(text) else text
