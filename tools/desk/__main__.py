@@ -3,7 +3,7 @@
 import sys
 from pathlib import Path
 
-sys.path.insert(0, str(Path(__file__).resolve().parents[1]))
+sys.path[0] = str(Path(__file__).resolve().parents[1])
 if sys.version_info < (3, 11):
     sys.exit("desk: Python 3.11 or newer is wanted")
 

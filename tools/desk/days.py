@@ -39,9 +39,10 @@ class Day:
 def of_bytes(day: Day, data: bytes, let_in: int) -> Day:
     """A day with what its bytes say, of which the first `let_in` records were let in."""
     found = replace(day, unit=None, opening=None, after=0, instructions=[])
-    end = 0
+    end, closed = 0, False
     for record in records.split(data)[:let_in]:
         if record.kind == "close":
+            closed = True
             break
         end = records.end(record)
         if record.kind == "unit":
@@ -50,6 +51,5 @@ def of_bytes(day: Day, data: bytes, let_in: int) -> Day:
             found.opening, found.after = record.value, len(found.instructions)
         else:
             found.instructions.append(record.value)
-    rest = data[end:]
-    found.rest = None if rest == records.encode("close", {}) else rest
+    found.rest = None if closed and len(data) == end + 1 else data[end:]
     return found

@@ -6,10 +6,10 @@ Wrong, with the reason in words; the reader of the sheet adds file, table and fi
 
 import re
 from dataclasses import dataclass
-from decimal import Context, Decimal, Inexact, InvalidOperation, Overflow
+from decimal import Context, Decimal, Inexact, InvalidOperation
 
 GRAINS_IN_KW = 60
-EXACT = Context(prec=60, traps=[Inexact, InvalidOperation, Overflow])
+EXACT = Context(prec=60, traps=[Inexact, InvalidOperation])
 FIGURE = re.compile(r"([+-]?[0-9]+(?:\.[0-9]+)?)\s*(\S.*)?", re.ASCII)
 
 
@@ -47,14 +47,14 @@ def plain(figure):
 
 def whole(value, factor, unit):
     """A number times a whole factor, which has to come out whole."""
+    if Decimal(value).is_finite() and abs(Decimal(value)) >= 2**63:
+        raise Wrong(f"{short(value)} is more than a record can hold")
     try:
         scaled = EXACT.multiply(Decimal(value), Decimal(factor))
-    except (Inexact, InvalidOperation, Overflow):
+    except (Inexact, InvalidOperation):
         scaled = Decimal("NaN")
     if not scaled.is_finite() or scaled != scaled.to_integral_value():
         raise Wrong(f"{short(value)} is no whole number of {unit}")
-    if abs(scaled) >= 2**63:
-        raise Wrong(f"{short(value)} is more than a record can hold")
     return int(scaled)
 
 

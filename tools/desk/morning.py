@@ -115,6 +115,7 @@ def show(text: str) -> None:
 def run(program: Program, folder: Path, out: Path, clock: Clock) -> list[Row]:
     """The morning's rows, in the order of the files; sheets come before records of the same name."""
     paths = sorted(found(folder), key=lambda path: (path.stem, path.suffix != ".toml"))
+    out = out.resolve()
     remove_left_over(out)
     new = beside(out, os.getpid())
     new.mkdir(parents=True)
@@ -142,8 +143,19 @@ def remove_left_over(out: Path) -> None:
     """Removes what mornings that were cut off have left beside the folder."""
     for path in out.parent.glob(f".{glob.escape(out.name)}.*") if out.parent.is_dir() else []:
         process = path.name.rsplit(".", 1)[1]
-        if process.isdecimal() and not Path(f"/proc/{process}").exists():
+        if process.isdecimal() and not runs(int(process[:9])):
             shutil.rmtree(path, ignore_errors=True)
+
+
+def runs(process: int) -> bool:
+    """Whether there is such a process."""
+    try:
+        os.kill(process, 0)
+    except ProcessLookupError:
+        return False
+    except OSError:
+        pass
+    return True
 
 
 def put_in_place(new: Path, out: Path) -> None:

@@ -4,7 +4,7 @@ import hashlib
 import subprocess
 import sys
 from dataclasses import dataclass
-from functools import cached_property
+from functools import cache
 from pathlib import Path
 
 from desk import listing, records
@@ -79,17 +79,23 @@ class Program:
         start = record.start if record else (records.end(whole[-1]) if whole else 0)
         return Refusal(number, low + 1, start, data[start:], record)
 
-    @cached_property
+    @property
     def identity(self) -> dict:
-        """Which program this is: SHA-256 of it, the commit that last changed its source, whether that was changed since."""
-        found = {"sha256": hashlib.sha256(self.path.read_bytes()).hexdigest(), "commit": None, "changed": None}
-        try:
-            source = ["--", "crates", "crates.txt"]
-            found["commit"] = git("log", "-1", "--format=%H", *source) or None
-            found["changed"] = bool(git("status", "--porcelain", *source))
-        except (OSError, subprocess.CalledProcessError):
-            pass
-        return found
+        """Which program this is."""
+        return identity(self.path)
+
+
+@cache
+def identity(path: Path) -> dict:
+    """SHA-256 of a program, the commit that last changed the source in this repository, and whether that was changed since."""
+    found = {"sha256": hashlib.sha256(path.read_bytes()).hexdigest(), "commit": None, "changed": None}
+    try:
+        source = ["--", "crates", "crates.txt"]
+        found["commit"] = git("log", "-1", "--format=%H", *source) or None
+        found["changed"] = bool(git("status", "--porcelain", *source))
+    except (OSError, subprocess.CalledProcessError):
+        pass  # no git, or no repository of it
+    return found
 
 
 def git(*words):

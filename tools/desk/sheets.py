@@ -265,9 +265,13 @@ def read_opening(reader, sheet, day):
         if day.rest is None:
             reader.fault("", "opening", "missing")
         return
-    running = type(opening) is dict and opening.get("level") not in (None, 0, "0 kW", "0 MW", "0 grains")
-    day.opening = reader.table("opening", opening, OPENING, ("off",) if running else (), ("after",))
-    after = opening.get("after", 0) if type(opening) is dict else 0
+    before = len(reader.faults)
+    day.opening = reader.table("opening", opening, OPENING, ("off",), ("after",))
+    if type(opening) is not dict:
+        return
+    if "off" not in opening and day.opening["level"] == 0 and len(reader.faults) == before:
+        reader.fault("opening", "off", "missing, where the level is 0")
+    after = opening.get("after", 0)
     if type(after) is not int or after < 0:
         reader.fault("opening", "after", f"{short(after)}, where the number of instructions entered before it is wanted")
     else:

@@ -1,0 +1,156 @@
+"""Mornings: one bad file stops no other; one that is cut off leaves the last one as it was."""
+
+import json
+import os
+import pty
+import shutil
+import signal
+import subprocess
+import sys
+import time
+
+from support import PROFILER, ROOT, SHEET, DeskTest
+
+MORNING = ROOT / "examples" / "morning"
+DESK = [sys.executable, "-B", ROOT / "tools" / "desk" / "__main__.py"]
+
+
+class Mornings(DeskTest):
+    def setUp(self):
+        super().setUp()
+        self.out = self.folder / "out"
+
+    def some(self, *names):
+        for name in names:
+            self.write(f"{name}.toml", SHEET)
+
+    def test_the_example(self):
+        """Eleven days of six units, of which a sheet and a record are refused."""
+        status, out, _ = self.desk("morning", MORNING, "--out", self.out)
+        self.assertEqual(status, 1)
+        self.assertIn("11 days: 9 accepted, 2 refused", out)
+        self.assertIn("2026-11-15-inishmor.toml, [instructions 2], level: 10.3333", out)
+        self.assertIn("refusal 7, the effective time is outside the day: record 5, an instruction (DESY", out)
+        rows = json.loads((self.out / "morning.json").read_text())
+        units = {row["unit"] for row in rows if row["accepted"]} | {rows[9]["unit"]}
+        self.assertEqual((len(rows), len(units)), (11, 6))
+        page = (self.out / "index.html").read_text()
+        for row in rows:
+            self.assertIn(row["file"], page)
+            name = row["file"].rsplit(".", 1)[0]
+            self.assertEqual((self.out / f"{name}.html").exists(), "inishmor" not in name)
+
+    def test_one_bad_file(self):
+        self.some("a", "c")
+        self.write("b.toml", "date = ")
+        self.write("d.records", b"\x07")
+        self.write("notes.txt", "none of ours")
+        status, out, _ = self.desk("morning", self.folder)
+        self.assertEqual(status, 1)
+        self.assertIn("4 days: 2 accepted, 2 refused", out)
+        made = {path.name for path in self.out.iterdir()}
+        self.assertLessEqual({"a.html", "c.html", "d.html", "index.html"}, made)
+        self.assertNotIn("b.html", made)
+
+    def test_all_good(self):
+        self.some("a", "b")
+        status, out, _ = self.desk("morning", self.folder)
+        self.assertEqual(status, 0)
+        self.assertIn("2 days: 2 accepted, 0 refused", out)
+
+    def test_again_replaces_the_folder(self):
+        self.some("a", "b")
+        self.desk("morning", self.folder)
+        (self.folder / "a.toml").unlink()
+        self.desk("morning", self.folder)
+        self.assertFalse((self.out / "a.html").exists())
+        self.assertEqual([path.name for path in self.folder.iterdir() if path.name.startswith(".")], [])
+
+    def test_a_folder_of_others_is_not_replaced(self):
+        self.some("a")
+        self.write("out/index.html", "mine")
+        status, _, err = self.desk("morning", self.folder)
+        self.assertEqual((status, (self.out / "index.html").read_text()), (2, "mine"))
+        self.assertIn("not made by a morning", err)
+        self.assertEqual(self.desk("morning", self.folder, "--out", self.folder)[0], 2)
+        self.assertEqual(self.desk("morning", self.folder / "none")[0], 2)
+
+    def test_records_beside_their_sheet(self):
+        """The records that `day` has written beside a sheet are no second day; other records of that name are refused."""
+        self.some("a")
+        self.desk("day", self.folder / "a.toml")
+        self.assertIn("1 days: 1 accepted", self.desk("morning", self.folder)[1].splitlines()[-1])
+        self.write("a.records", b"\x04")
+        status, out, _ = self.desk("morning", self.folder)
+        self.assertEqual(status, 1)
+        self.assertIn("another file of this name gives other records", out)
+
+    def test_unit_files_are_no_days(self):
+        shutil.copy(MORNING / "units" / "derrybeg.toml", self.folder / "unit.toml")
+        sheet = (MORNING / "2026-11-15-derrybeg.toml").read_text().replace("units/derrybeg.toml", "unit.toml")
+        self.write("day.toml", sheet)
+        status, out, _ = self.desk("morning", self.folder)
+        self.assertEqual((status, "1 days: 1 accepted" in out), (0, True))
+
+    def test_cut_off(self):
+        """A morning that is ended in its midst, by any signal, leaves the last one byte for byte."""
+        self.some("a", "b", "c")
+        self.desk("morning", self.folder)
+        before = {path: content for path, content in self.files().items() if path.startswith("out/")}
+        self.write("b.toml", SHEET.replace("level = 103", "level = 104"))
+        slow = self.script("slow", f'echo >>"$0.calls"; [ "$(wc -l <"$0.calls")" -lt 3 ] || sleep 60\nexec {PROFILER}\n')
+        for ending in (signal.SIGKILL, signal.SIGTERM, signal.SIGINT):
+            with self.subTest(ending.name):
+                (self.folder / "slow.calls").unlink(missing_ok=True)
+                self.cut(slow, ending)
+                self.assertEqual({path: content for path, content in self.files().items() if path.startswith("out/")}, before)
+        self.assertEqual(self.desk("morning", self.folder)[0], 0)
+        self.assertNotEqual((self.out / "b.listing").read_bytes(), before["out/b.listing"])
+        self.assertEqual([path.name for path in self.folder.iterdir() if path.name.startswith(".")], [])
+
+    def cut(self, slow, ending):
+        words = [*DESK, "morning", self.folder, "--program", slow]
+        started = subprocess.Popen(words, stdout=subprocess.DEVNULL, stderr=subprocess.DEVNULL, start_new_session=True)
+        calls = self.folder / "slow.calls"
+        until = time.monotonic() + 20
+        while time.monotonic() < until and not (calls.exists() and len(calls.read_text()) >= 3):
+            time.sleep(0.01)
+        self.assertIsNone(started.poll())
+        self.assertTrue(any(path.name.startswith(".out.") for path in self.folder.iterdir()))
+        started.send_signal(ending)
+        self.assertNotEqual(started.wait(20), 0)
+        os.killpg(started.pid, signal.SIGKILL)
+
+    def test_progress_on_a_terminal_only(self):
+        self.some("a", "b")
+        words = [*DESK, "morning", self.folder, "--program", PROFILER]
+        piped = subprocess.run(words, capture_output=True, text=True, check=True)
+        self.assertEqual(piped.stderr, "")
+        ours, theirs = pty.openpty()
+        subprocess.run(words, stdout=subprocess.DEVNULL, stderr=theirs, check=True)
+        os.close(theirs)
+        shown = os.read(ours, 10_000).decode()
+        os.close(ours)
+        self.assertIn("1 of 2: a.toml", shown)
+        self.assertIn("2 of 2: b.toml", shown)
+        self.assertNotIn("\n", shown)
+
+    def test_the_script(self):
+        """./desk as the README has it, with the program of this repository, where that is built."""
+        if PROFILER != ROOT / "target" / "bin" / "profiler":
+            self.skipTest("another listing program is given")
+        ran = subprocess.run([ROOT / "desk", "morning", MORNING, "--out", self.out], capture_output=True, text=True)
+        self.assertEqual(ran.returncode, 1, ran.stderr)
+        self.assertIn("11 days: 9 accepted, 2 refused", ran.stdout)
+        commit = json.loads((self.out / "2026-11-14-ballymoor.json").read_text())["program"]["commit"]
+        self.assertRegex(commit or "", "^[0-9a-f]{40}$|^$")
+
+    def test_a_full_disk(self):
+        """What could not be written whole is said, and is no success."""
+        if not os.path.exists("/dev/full"):
+            self.skipTest("no /dev/full")
+        self.some("a")
+        for words in (("day", self.folder / "a.toml"), ("morning", self.folder), ("sheet", ROOT / "examples" / "document01.records")):
+            with open("/dev/full", "wb") as full:
+                ran = subprocess.run([*DESK, *words, "--program", PROFILER], stdout=full, stderr=subprocess.PIPE, text=True)
+            self.assertEqual((ran.returncode, len(ran.stderr.splitlines())), (2, 1), ran.stderr)

@@ -1,0 +1,227 @@
+"""Reports: the numbers are the listing's, the pages are whole, every coordinate lies in its view, a fault is shown."""
+
+import csv
+import hashlib
+import json
+import re
+from fractions import Fraction
+from html.parser import HTMLParser
+from xml.etree import ElementTree
+
+from support import PROFILER, ROOT, SHEET, DeskTest, listing_numbers, quantities, vectors
+
+from desk import picture
+from desk.clock import Clock
+from desk.outcome import of_file, of_sheet
+
+VOID = {"meta", "br", "hr", "img", "input", "link"}
+OUTSIDE = re.compile(r"(?:src|href|url|@import)\s*[=(]\s*[\"']?\s*(?:https?:)?//", re.IGNORECASE)
+
+
+class Page(HTMLParser):
+    """A page's tables; every tag has to be closed in its turn."""
+
+    def __init__(self, text):
+        super().__init__()
+        self.open, self.tables, self.text = [], [], []
+        self.feed(text)
+        self.close()
+        assert not self.open, self.open
+
+    def handle_starttag(self, tag, attributes):
+        if tag not in VOID:
+            self.open.append(tag)
+        if tag == "table":
+            self.tables.append([])
+        elif tag == "tr":
+            self.tables[-1].append([])
+        elif tag in ("td", "th"):
+            self.tables[-1][-1].append("")
+
+    def handle_endtag(self, tag):
+        assert self.open and self.open[-1] == tag, (tag, self.open)
+        self.open.pop()
+
+    def handle_startendtag(self, tag, attributes):
+        pass
+
+    def handle_data(self, data):
+        self.text.append(data)
+        if "td" in self.open or "th" in self.open:
+            self.tables[-1][-1][-1] += data
+
+
+def table_with(page, head):
+    return next(table for table in page.tables if head in table[0])
+
+
+def number(cell):
+    return Fraction(cell.replace(",", "").removesuffix(" %"))
+
+
+class Reports(DeskTest):
+    def setUp(self):
+        super().setUp()
+        self.out = self.folder / "out"
+
+    def made(self, path):
+        """The five files of a day."""
+        status, out, err = self.desk("day", path, "--out", self.out)
+        self.assertIn(status, (0, 1), err)
+        return {suffix: (self.out / f"{path.stem}.{suffix}").read_bytes() for suffix in ("records", "listing", "csv", "json", "html")}
+
+    def days(self):
+        yield from vectors()
+        yield from sorted((ROOT / "examples" / "morning").glob("*derrybeg.toml"))
+
+    def test_numbers_are_the_listings(self):
+        for path in self.days():
+            with self.subTest(path.name):
+                files = self.made(path)
+                printed = files["listing"]
+                if path.suffix == ".records":
+                    self.assertEqual(files["records"], path.read_bytes())
+                    self.assertEqual(printed, self.program.run(path.read_bytes()))
+                kw, lines = quantities(printed), listing_numbers(printed)
+                rows = list(csv.DictReader(files["csv"].decode().splitlines()))
+                self.assertEqual([int(row["kW"]) for row in rows], kw)
+                self.assertEqual([Fraction(row["MWh"]) for row in rows], [Fraction(one, 2000) for one in kw])
+                data = json.loads(files["json"])
+                self.assertEqual(data["sha256"]["records"], hashlib.sha256(files["records"]).hexdigest())
+                self.assertEqual(data["sha256"]["listing"], hashlib.sha256(printed).hexdigest())
+                page = Page(files["html"].decode())
+                for digest in data["sha256"].values():
+                    self.assertIn(digest, files["html"].decode())
+                if printed.startswith(b"X "):
+                    self.assertEqual((data["accepted"], data["refusal"]["number"]), (False, int(printed[2:])))
+                    self.assertIn(f"refusal {int(printed[2:])},", "".join(page.text))
+                else:
+                    self.closed(data, page, kw, lines)
+
+    def closed(self, data, page, kw, lines):
+        """A closed day's JSON and HTML."""
+        self.assertEqual([row["kW"] for row in data["half_hours"]], kw)
+        self.assertEqual([one["fate"] for one in data["instructions"]], [fate for _, fate in lines["F"]])
+        self.assertEqual([list(one.values()) for one in data["segments"]], lines["S"])
+        self.assertEqual(list(data["closing"].values()), lines["E"][0])
+        self.assertEqual(data["total"]["kW"], sum(kw))
+        self.assertTrue(data["within_allowance"])
+        rows = table_with(page, "half-hour")[1:]
+        self.assertEqual([number(row[3]) for row in rows], kw)
+        self.assertEqual([number(row[4]) for row in rows], [Fraction(one, 2000) for one in kw])
+        for row, one in zip(rows, data["half_hours"]):
+            exact, difference = (Fraction(one[key]["fraction"]) for key in ("exact", "difference"))
+            self.assertEqual(one["kW"] - exact, difference)
+            self.assertLessEqual(abs(difference), Fraction(one["allowed"]["fraction"]))
+            self.assertLessEqual(abs(number(row[5]) - exact), Fraction(1, 10**6))
+        if lines["F"]:
+            fates = [int(row[7].split(",")[0]) for row in table_with(page, "rule")[1:]]
+            self.assertEqual(fates, [fate for _, fate in lines["F"]])
+            self.assertTrue(all(row[8].endswith(".") for row in table_with(page, "rule")[1:]))
+
+    def test_rules_name_the_right_instruction(self):
+        """Where a sentence names another instruction, that one is the reason."""
+        named = 0
+        for path in self.days():
+            outcome = of_file(self.program, path, Clock())
+            if outcome.refusal:
+                continue
+            entered, fates = outcome.day.instructions, outcome.listing.fates
+            for place, fate in enumerate(fates):
+                found = re.search(r"[Ii]nstruction (\d+) ", outcome.rule(place))
+                self.assertEqual(bool(found), fate in (1, 2, 6), outcome.sentence(place))
+                if not found:
+                    continue
+                named += 1
+                mine, other, theirs = entered[place], entered[int(found[1]) - 1], fates[int(found[1]) - 1]
+                if fate == 6:
+                    lag = {2: 120, 3: 120, 5: 120, 6: 120}
+                    acts = [one["effective"] + lag.get(one["code"], 0) for one in (mine, other)]
+                    self.assertTrue(mine["effective"] < other["effective"] and acts[1] <= acts[0])
+                    continue
+                self.assertEqual(mine["effective"], other["effective"])
+                self.assertTrue(mine["issue"] < other["issue"] if fate == 1 else mine["issue"] == other["issue"] and theirs not in (1, 2))
+        self.assertGreater(named, 100)
+
+    def test_nothing_outside_is_needed(self):
+        for path in self.days():
+            with self.subTest(path.name):
+                text = self.made(path)["html"].decode()
+                self.assertIsNone(OUTSIDE.search(text))
+                self.assertNotIn("<script", text)
+
+    def test_coordinates_lie_in_the_view(self):
+        for path in self.days():
+            outcome = of_file(self.program, path, Clock())
+            if outcome.refusal:
+                continue
+            with self.subTest(path.name):
+                self.in_view(ElementTree.fromstring(picture.svg(outcome)))
+
+    def in_view(self, svg):
+        _, _, width, height = (float(word) for word in svg.get("viewBox").split())
+        seen = 0
+        for element in svg.iter():
+            far = (float(element.get("width", 0)), float(element.get("height", 0))) if element is not svg else (0, 0)
+            for x, y in (("x", "y"), ("x1", "y1"), ("x2", "y2"), ("cx", "cy")):
+                if element.get(x) is not None:
+                    seen += 1
+                    self.assertTrue(0 <= float(element.get(x)) <= float(element.get(x)) + far[0] <= width + 0.02, element.attrib)
+                    self.assertTrue(0 <= float(element.get(y)) <= float(element.get(y)) + far[1] <= height + 0.02, element.attrib)
+            for point in element.get("points", "").split():
+                x, y = map(float, point.split(","))
+                seen += 1
+                self.assertTrue(0 <= x <= width and 0 <= y <= height, point)
+        self.assertGreater(seen, 100)
+
+    def test_the_kept_picture(self):
+        """The picture in docs/ is what the tool makes of its sheet now."""
+        outcome = of_sheet(self.program, ROOT / "examples" / "morning" / "2026-11-14-ballymoor.toml")
+        self.assertEqual(picture.svg(outcome), (ROOT / "docs" / "ballymoor.svg").read_text())
+
+    def test_a_quantity_outside_its_allowance(self):
+        """The proof rules it out, so the program's place is taken by one that prints another quantity."""
+        path = self.write("day.toml", SHEET)
+        other = self.script("other", f"{PROFILER} | sed 's/^Q 1 1 102650$/Q 1 1 102660/'\n")
+        status, out, _ = self.desk("day", path, "--out", self.out, program=other)
+        self.assertEqual(status, 3)
+        self.assertIn("OUTSIDE THE ALLOWANCE", out)
+        text = (self.out / "day.html").read_text()
+        self.assertIn('<p class="bad">Outside the allowance', text)
+        self.assertIn('<span class="bad">10.000000</span>', text)
+        data = json.loads((self.out / "day.json").read_text())
+        self.assertFalse(data["within_allowance"])
+        self.assertFalse(data["half_hours"][0]["within"])
+        self.assertTrue(data["half_hours"][1]["within"])
+
+    def test_a_profile_that_is_too_fast(self):
+        path = self.write("day.toml", SHEET)
+        other = self.script("other", f"{PROFILER} | sed 's/^S 120 300 /S 120 299 /; s/^S 300 /S 299 /'\n")
+        self.assertEqual(self.desk("day", path, "--out", self.out, program=other)[0], 3)
+
+    def test_a_program_that_does_not_answer(self):
+        path = self.write("day.toml", SHEET)
+        for name, text in (("silent", "cat >/dev/null"), ("failing", "exit 4"), ("grumbling", f"echo no >&2; {PROFILER}"), ("other", "cat >/dev/null; echo F 1 2")):
+            with self.subTest(name):
+                status, out, err = self.desk("day", path, "--out", self.out, program=self.script(name, text + "\n"))
+                self.assertEqual((status, out), (2, ""))
+                self.assertEqual(len(err.splitlines()), 1, err)
+                self.assertFalse(self.out.exists() and any(self.out.iterdir()))
+
+    def test_names_are_escaped(self):
+        sheet = SHEET.replace("Unit under test", "<b>&\\\"'")
+        text = self.made(self.write("day.toml", sheet))["html"].decode()
+        self.assertNotIn("<b>", text)
+        self.assertIn("&lt;b&gt;&amp;", text)
+
+    def test_nothing_is_overwritten(self):
+        """A day's files never take the place of what it was read from, nor of another day's."""
+        sheet = 'instructions = "day.csv"\n' + SHEET[: SHEET.index("[[instructions]]")]
+        self.write("day.csv", "issue,effective,code,level,up,down\n06:00:00,06:00:00,MWOF,103,,\n")
+        before = {**self.files(), "day.toml": sheet.encode()}
+        status, _, err = self.desk("day", self.write("day.toml", sheet))
+        self.assertEqual((status, self.files()), (2, before))
+        self.assertIn("is not overwritten", err)
+        status, _, err = self.desk("day", self.write("a/day.toml", SHEET), self.write("b/day.toml", SHEET + "\n[[instructions]]\neffective = 07:00:00\nissue = 06:00:00\ncode = \"TRIP\"\n"), "--out", self.out)
+        self.assertEqual(status, 2)
+        self.assertIn("another day was written to", err)
