@@ -12,7 +12,7 @@ import sys
 from concurrent.futures import ProcessPoolExecutor
 from fractions import Fraction
 
-import demand3  # puts the repository on the path
+import demand3  # puts the desk on the path
 from audit_cases import cases
 from desk import audit, listing
 from desk.exact import DOUBLED, HALF_HOUR, ROUNDING, exact_areas

@@ -2,7 +2,7 @@
 
 Reads closed days as the comparison exports them (unit, courses, the product's listing) and checks, for each pair of half-hour
 boundaries, that the printed quantities lie within the allowance of the exact area; and that within a course no printed second
-moves the level further than the rate in force where it began. The mathematics is that of `desk/exact.py`, which works out stops
+moves the level further than the rate in force where it began. The mathematics is that of `tools/desk/exact.py`, which works out stops
 and rates once more from the unit's data, so that this is a third reading of the paper.
 
     demand3.py FILE [--parts N] [--self-test]
@@ -12,7 +12,7 @@ import os
 import sys
 from concurrent.futures import ProcessPoolExecutor
 
-sys.path.insert(0, os.path.join(os.path.dirname(os.path.abspath(__file__)), "..", ".."))
+sys.path.insert(0, os.path.join(os.path.dirname(os.path.abspath(__file__)), "..", "..", "tools"))
 from desk.exact import DOUBLED, GRAINS, HALF_HOUR, HALF_HOURS, Balance, Course, Unit, speed_faults
 
 
