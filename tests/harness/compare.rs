@@ -181,8 +181,8 @@ fn unit_numbers(u: &Unit) -> String {
     out
 }
 
-/// A closed day: unit, courses, and the product's listing.
-fn export(number: u64, day: &Day, printed: &[u8]) -> Option<String> {
+/// A closed day: unit, courses, the records in hexadecimal, and the product's listing.
+fn export(number: u64, day: &Day, records: &[u8], printed: &[u8]) -> Option<String> {
     let (profile, _) = day.closed.as_ref()?;
     let mut out = format!("D {number}\n{}\n", unit_numbers(day.unit.as_ref().unwrap()));
     for c in &profile.courses {
@@ -192,6 +192,11 @@ fn export(number: u64, day: &Day, printed: &[u8]) -> Option<String> {
         }
         out.push('\n');
     }
+    out.push_str("R ");
+    for byte in records {
+        write!(out, "{byte:02x}").unwrap();
+    }
+    out.push('\n');
     out.push_str(&String::from_utf8_lossy(printed));
     out.push('\n');
     Some(out)
@@ -266,7 +271,7 @@ fn random_days(options: &Options, all: &mut (u64, u64)) {
         let (expected, day) = profile_input(&input);
         let got = product_listing(&input);
         let too_fast = day.closed.as_ref().map(|(p, _)| p.too_fast > 0);
-        let exported = if number < closed_below { export(number, &day, &got) } else { None };
+        let exported = if number < closed_below { export(number, &day, &input, &got) } else { None };
         let pieces = difference(&expected, &by_segments(&input));
         (difference(&expected, &got), pieces, too_fast, cover(&expected, &day), exported)
     });
