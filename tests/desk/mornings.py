@@ -150,7 +150,11 @@ class Mornings(DeskTest):
         if not os.path.exists("/dev/full"):
             self.skipTest("no /dev/full")
         self.some("a")
-        for words in (("day", self.folder / "a.toml"), ("morning", self.folder), ("sheet", ROOT / "examples" / "document01.records")):
+        for words in (
+            ("day", self.folder / "a.toml"),
+            ("morning", self.folder),
+            ("sheet", ROOT / "examples" / "document01.records"),
+        ):
             with open("/dev/full", "wb") as full:
                 ran = subprocess.run([*DESK, *words, "--program", PROFILER], stdout=full, stderr=subprocess.PIPE, text=True)
             self.assertEqual((ran.returncode, len(ran.stderr.splitlines())), (2, 1), ran.stderr)

@@ -25,7 +25,11 @@ FAULTS = {
     "rate without unit as text": (edit("level = 103", 'level = 103\nup = "5"'), "[instructions 1], up", "MW/min"),
     "unit of another measure": (edit("level = 103", 'level = "5 MW/min"'), "[instructions 1], level", "MW, kW"),
     "minutes with decimals": (edit("hot = 0", "hot = 0.5"), "[unit], hot", "no whole number of minutes"),
-    "before the day": (edit("effective = 06:00:00", "effective = 05:59:59"), "[instructions 1], effective", "outside the Trading Day"),
+    "before the day": (
+        edit("effective = 06:00:00", "effective = 05:59:59"),
+        "[instructions 1], effective",
+        "outside the Trading Day",
+    ),
     "after the day": (edit("effective = 06:00:00", "effective = 2026-11-17T06:00:00"), "[instructions 1], effective", "outside"),
     "another date": (edit("effective = 06:00:00", "effective = 2026-11-15T12:00:00"), "[instructions 1], effective", "outside"),
     "parts of a second": (edit("issue = 06:00:00", "issue = 06:00:00.5"), "[instructions 1], issue", "no whole second"),
@@ -41,9 +45,17 @@ FAULTS = {
     "unknown column": (edit("[unit.columns]", "[unit.columns]\ntepid = {}"), "[unit.columns], tepid", "unknown name"),
     "missing in the unit": (edit("msg = 100\n", ""), "[unit], msg", "missing"),
     "missing in a column": (edit("hot = { block = 0, ", "hot = { "), "[unit.columns.hot], block", "missing"),
-    "missing column": (edit("cold = { block = 0, rates = [0.001, 0.001, 0.001], breaks = [0, 0], soaks = [] }", ""), "[unit.columns], cold", "missing"),
+    "missing column": (
+        edit("cold = { block = 0, rates = [0.001, 0.001, 0.001], breaks = [0, 0], soaks = [] }", ""),
+        "[unit.columns], cold",
+        "missing",
+    ),
     "missing level of an MWOF": (edit("level = 103\n", ""), "[instructions 1], level", "missing"),
-    "missing seconds off at level 0": (edit("level = 100\ntarget = 100", "level = 0\ntarget = 0", edit("off = 0\n", "")), "[opening], off", "missing"),
+    "missing seconds off at level 0": (
+        edit("level = 100\ntarget = 100", "level = 0\ntarget = 0", edit("off = 0\n", "")),
+        "[opening], off",
+        "missing",
+    ),
     "missing date": (edit("date = 2026-11-16\n", ""), "date", "missing"),
     "missing unit": ("date = 2026-11-16\n" + OPENING, "unit", "missing"),
     "missing opening": ("date = 2026-11-16\n" + UNIT, "opening", "missing"),
@@ -51,7 +63,11 @@ FAULTS = {
     "doubled table": (SHEET + OPENING, "[opening]", "given twice"),
     "wrong type": (edit("capacity = 400", "capacity = true"), "[unit], capacity", "true or false"),
     "text for a number": (edit("capacity = 400", 'capacity = "400"'), "[unit], capacity", "MW, kW"),
-    "number for a table": (edit("[opening]\nlevel = 100\ntarget = 100\nheat = \"hot\"\noff = 0\n", "", "opening = 5\n" + SHEET), "[opening]", "a table is wanted"),
+    "number for a table": (
+        edit('[opening]\nlevel = 100\ntarget = 100\nheat = "hot"\noff = 0\n', "", "opening = 5\n" + SHEET),
+        "[opening]",
+        "a table is wanted",
+    ),
     "number for a unit": ("date = 2026-11-16\nunit = 5\n" + OPENING, "unit", "table or the path"),
     "number for instructions": ("date = 2026-11-16\ninstructions = 5\n" + UNIT + OPENING, "instructions", "CSV file"),
     "too few rates": (edit("[1, 0.001, 0.001, 0.001, 0.001]", "[1, 0.001]"), "[unit.up], rates", "5 figures"),
@@ -82,6 +98,26 @@ CSV_FAULTS = {
     "time outside": (HEAD + "06:00:00,2026-11-18 06:00,TRIP,,,\n", "line 2, effective", "outside the Trading Day"),
     "nothing": ("", "line 1, issue", "missing"),
 }
+
+
+# Edits that leave the day as it is.
+SAME = [
+    ("level = 103", 'level = "103000 kW"'),
+    ("level = 100\n", 'level = "6000000 grains"\n'),
+    ("level = 103", "level = 103.000"),
+    ("msg = 100", 'msg = "100 MW"'),
+    ("off = 0", 'off = "0 h"'),
+    ("[1, 0.001", '["1000 kW/min", 0.001'),
+    ("off = 0\n", ""),
+]
+# Edits that the program refuses, and its number for each.
+REFUSED = [
+    ("capacity = 400", "capacity = 401", 4),
+    ("level = 103", "level = 2000.001", 9),
+    ('"MWOF"', '"TRIP"', 9),
+    ("level = 100\ntarget", "level = 401\ntarget", 22),
+    ("issue = 06:00:00", "issue = 2026-11-01T06:00:00", 8),
+]
 
 
 class Faults(DeskTest):
@@ -140,14 +176,15 @@ class Sheets(DeskTest):
         self.assertEqual(self.records(SHEET), DOCUMENT01)
 
     def test_kw_as_text(self):
-        for old, new in (("level = 103", 'level = "103000 kW"'), ("level = 100\n", 'level = "6000000 grains"\n'), ("level = 103", "level = 103.000"), ("msg = 100", 'msg = "100 MW"'), ("off = 0", 'off = "0 h"'), ("[1, 0.001", '["1000 kW/min", 0.001'), ("off = 0\n", "")):
+        for old, new in SAME:
             with self.subTest(new):
                 self.assertEqual(self.records(edit(old, new)), DOCUMENT01)
 
     def test_unit_file_and_csv_file(self):
         body = UNIT.replace("[unit]\n", "").replace("[unit.columns]", "[columns]")
         self.write("units/one.toml", body)
-        self.write("orders.csv", "﻿Instruction Effective Time, Instruction Issue Time,code,Level,up rate,Down Rate\r\n06:00,06:00:00,MWOF,103,,\r\n")
+        head = "\ufeffInstruction Effective Time, Instruction Issue Time,code,Level,up rate,Down Rate"
+        self.write("orders.csv", f"{head}\r\n06:00,06:00:00,MWOF,103,,\r\n")
         sheet = 'date = 2026-11-16\nunit = "units/one.toml"\ninstructions = "orders.csv"\n' + OPENING
         self.assertEqual(self.records(sheet), DOCUMENT01)
 
@@ -188,8 +225,7 @@ class Sheets(DeskTest):
 
     def test_program_refuses(self):
         """What a sheet can say and the program does not take is refused by the program."""
-        cases = {"capacity = 400": ("capacity = 401", 4), "level = 103": ("level = 2000.001", 9), '"MWOF"': ('"TRIP"', 9), "level = 100\ntarget": ("level = 401\ntarget", 22), "issue = 06:00:00": ("issue = 2026-11-01T06:00:00", 8)}
-        for old, (new, number) in cases.items():
+        for old, new, number in REFUSED:
             path = self.write("day.toml", edit(old, new))
             status, out, _ = self.desk("day", path)
             self.assertEqual(status, 1, new)

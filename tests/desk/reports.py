@@ -68,7 +68,9 @@ class Reports(DeskTest):
         """The five files of a day."""
         status, out, err = self.desk("day", path, "--out", self.out)
         self.assertIn(status, (0, 1), err)
-        return {suffix: (self.out / f"{path.stem}.{suffix}").read_bytes() for suffix in ("records", "listing", "csv", "json", "html")}
+        return {
+            suffix: (self.out / f"{path.stem}.{suffix}").read_bytes() for suffix in ("records", "listing", "csv", "json", "html")
+        }
 
     def days(self):
         yield from vectors()
@@ -140,7 +142,9 @@ class Reports(DeskTest):
                     self.assertTrue(mine["effective"] < other["effective"] and acts[1] <= acts[0])
                     continue
                 self.assertEqual(mine["effective"], other["effective"])
-                self.assertTrue(mine["issue"] < other["issue"] if fate == 1 else mine["issue"] == other["issue"] and theirs not in (1, 2))
+                self.assertTrue(
+                    mine["issue"] < other["issue"] if fate == 1 else mine["issue"] == other["issue"] and theirs not in (1, 2)
+                )
         self.assertGreater(named, 100)
 
     def test_nothing_outside_is_needed(self):
@@ -201,7 +205,9 @@ class Reports(DeskTest):
 
     def test_a_program_that_does_not_answer(self):
         path = self.write("day.toml", SHEET)
-        for name, text in (("silent", "cat >/dev/null"), ("failing", "exit 4"), ("grumbling", f"echo no >&2; {PROFILER}"), ("other", "cat >/dev/null; echo F 1 2")):
+        wrong = {"silent": "cat >/dev/null", "failing": "exit 4", "grumbling": f"echo no >&2; {PROFILER}"}
+        wrong["other"] = "cat >/dev/null; echo F 1 2"
+        for name, text in wrong.items():
             with self.subTest(name):
                 status, out, err = self.desk("day", path, "--out", self.out, program=self.script(name, text + "\n"))
                 self.assertEqual((status, out), (2, ""))
@@ -222,6 +228,7 @@ class Reports(DeskTest):
         status, _, err = self.desk("day", self.write("day.toml", sheet))
         self.assertEqual((status, self.files()), (2, before))
         self.assertIn("is not overwritten", err)
-        status, _, err = self.desk("day", self.write("a/day.toml", SHEET), self.write("b/day.toml", SHEET + "\n[[instructions]]\neffective = 07:00:00\nissue = 06:00:00\ncode = \"TRIP\"\n"), "--out", self.out)
+        one, other = self.write("a/day.toml", SHEET), self.write("b/day.toml", SHEET.replace("level = 103", "level = 104"))
+        status, _, err = self.desk("day", one, other, "--out", self.out)
         self.assertEqual(status, 2)
         self.assertIn("another day was written to", err)

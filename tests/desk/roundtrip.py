@@ -7,6 +7,7 @@ from support import ROOT, DeskTest, vectors
 from desk import sheets
 
 SEED, DAMAGED = 20261116, 200
+DATES = [(), ("--date", "2026-11-16"), ("--date", "2026-10-26"), ("--date", "2026-07-01", "--zone", "America/New_York")]
 
 
 def damaged(chance: random.Random, data: bytes) -> bytes:
@@ -40,7 +41,7 @@ class RoundTrip(DeskTest):
 
     def test_every_vector(self):
         for path in vectors():
-            for words in ((), ("--date", "2026-11-16"), ("--date", "2026-10-26"), ("--date", "2026-07-01", "--zone", "America/New_York")):
+            for words in DATES:
                 with self.subTest(path.name, words=words):
                     text = self.back(path.read_bytes(), *words)
                     printed = path.with_suffix(".listing").read_bytes()

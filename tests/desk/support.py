@@ -95,7 +95,9 @@ class DeskTest(unittest.TestCase):
 
     def files(self) -> dict[str, bytes]:
         """Every file below the folder."""
-        return {str(path.relative_to(self.folder)): path.read_bytes() for path in sorted(self.folder.rglob("*")) if path.is_file()}
+        return {
+            str(path.relative_to(self.folder)): path.read_bytes() for path in sorted(self.folder.rglob("*")) if path.is_file()
+        }
 
     def script(self, name: str, text: str) -> Path:
         """A program in the place of the listing program."""

@@ -62,8 +62,8 @@ class Sentence:
         begin, end = (first - 1) * HALF_HOUR, last * HALF_HOUR
         there = [c for c in self.courses if c.begin < end and begin < c.end]
         allowed = ROUNDING * (last - first + 1) + sum(2 * len(c.stops) * abs(c.target - c.start) for c in there)
-        area = sum(self.areas[first - 1:last])
-        return sum(self.quantities[first - 1:last]), Fraction(area) / DOUBLED, Fraction(allowed, DOUBLED)
+        area = sum(self.areas[first - 1 : last])
+        return sum(self.quantities[first - 1 : last]), Fraction(area) / DOUBLED, Fraction(allowed, DOUBLED)
 
     def worst(self):
         """The largest share of what is allowed that any two boundaries use."""
@@ -85,7 +85,7 @@ def difference(block, every_pair):
 
 def compare(block, every_pair):
     at = next(i for i, line in enumerate(block) if line.startswith("R "))
-    given, text = records(bytes.fromhex(block[at][2:])), "".join(block[at + 1:-1]).encode()
+    given, text = records(bytes.fromhex(block[at][2:])), "".join(block[at + 1 : -1]).encode()
     day = next(demand3.days(block))
     parsed = listing.parse(text)
     if printed(parsed) != text:

@@ -33,10 +33,13 @@ Q 2 48 103000
 E 6180000 103000 1 0
 """
 # A dwell of a minute at 101,000 kW: twice the area of the first half-hour is 22,158,000,000.
-DWELL = PAPER.replace(b"S 120 300 6000000 6180000\nS 300 ", b"""S 120 180 6000000 6060000
+DWELL = PAPER.replace(
+    b"S 120 300 6000000 6180000\nS 300 ",
+    b"""S 120 180 6000000 6060000
 S 180 240 6060000 6060000
 S 240 360 6060000 6180000
-S 360 """).replace(b"102650", b"102583")
+S 360 """,
+).replace(b"102650", b"102583")
 # Half a kW on average: rounding up uses all that is allowed.
 TRIPPED = b"F 1 0\nS 0 900 60 60\nS 900 86400 0 0\nQ 1 1 1\nQ 2 48 0\nE 0 0 1 85500\n"
 # A SYNC above 0 does nothing; the first quantity is a kW too much.

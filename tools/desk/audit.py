@@ -10,32 +10,15 @@ targets, heats and rates follow from Table 7.
 
 from collections.abc import Mapping, Sequence
 from dataclasses import dataclass
-from enum import IntEnum
 from fractions import Fraction
 
 from desk import exact
 from desk.exact import DOUBLED, GRAINS, HALF_HOUR
+from desk.fields import Code, acting
 from desk.listing import MOST_OFF, Listing
-
-LAG = 120  # seconds
 
 Opening = Mapping[str, int]  # level (grains), target (kW), heat, off (seconds)
 Instruction = Mapping[str, int]  # effective, issue (seconds), code (1 to 7), level (kW), up, down (kW/min)
-
-
-class Code(IntEnum):
-    """The codes in the order of the records."""
-
-    TRIP = 1
-    MWOF = 2
-    MXON = 3
-    SYNC = 4
-    MXOF = 5
-    DESY = 6
-    FAIL = 7
-
-
-LAGGED = (Code.MWOF, Code.MXON, Code.MXOF, Code.DESY)
 
 
 class AuditError(ValueError):
@@ -132,11 +115,11 @@ class _Day:
         self.opened = self._after_step(opening["level"], self.ordinary)
         self.jumps: list[str] = []  # courses that do not start at the level just before, after any step
 
-        acting = sorted((_acting(one), number) for number, one in enumerate(instructions) if listing.fates[number] == 0)
-        ends = [second for second, _ in acting] + [len(listing.quantities) * HALF_HOUR]
+        acts = sorted((acting(one), number) for number, one in enumerate(instructions) if listing.fates[number] == 0)
+        ends = [second for second, _ in acts] + [len(listing.quantities) * HALF_HOUR]
         rates = self.unit.up_rates, self.unit.down_rates
         self.courses = [self._course(0, ends[0], opening["level"], self.ordinary, *rates)]
-        for (second, number), end in zip(acting, ends[1:]):
+        for (second, number), end in zip(acts, ends[1:]):
             level, target, up, down = self._effect(second, instructions[number])
             self.courses.append(self._course(second, end, level, target, up, down))
 
@@ -202,7 +185,3 @@ class _Day:
             case _:
                 raise AuditError(f"fate 0 for an instruction of code {one['code']}")
         return level, target, up, down
-
-
-def _acting(one: Instruction) -> int:
-    return one["effective"] + (LAG if one["code"] in LAGGED else 0)

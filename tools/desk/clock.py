@@ -8,12 +8,11 @@ import re
 from datetime import date, datetime, time, timedelta, timezone
 from zoneinfo import ZoneInfo
 
+from desk.exact import HALF_HOUR, HALF_HOURS
 from desk.measures import Wrong, kind_of, short
 
 ZONE = "Europe/Dublin"
 STARTS = time(6)
-HALF_HOUR = 1_800
-HALF_HOURS = 48  # the only length that the program takes
 OF_DAY = re.compile(r"([0-9]{1,2}):([0-9]{2})(?::([0-9]{2}))?(?:\s*([+-][0-9]{1,2}))?", re.ASCII)
 
 

@@ -1,4 +1,7 @@
-"""The commands: day, morning, sheet. Exit status 0 all is well, 1 refused, 2 an error in what was given, 3 outside the allowance."""
+"""The commands: day, morning, sheet.
+
+Exit status 0 all is well, 1 refused, 2 an error in what was given or in reading or writing, 3 outside the allowance.
+"""
 
 import argparse
 import os
@@ -8,7 +11,8 @@ from datetime import date
 from pathlib import Path
 
 from desk import files, morning, report, sheets, words, writing
-from desk.clock import HALF_HOURS, ZONE, Clock
+from desk.clock import ZONE, Clock
+from desk.exact import HALF_HOURS
 from desk.measures import Wrong
 from desk.outcome import Outcome, of_file, of_records
 from desk.program import Program, ProgramError
@@ -91,7 +95,8 @@ def said(outcome: Outcome) -> str:
         return "\n".join(lines + [f"  refused: {words.refused(outcome.refusal, outcome.day.clock)}"])
     lines += [f"  {outcome.sentence(place)}" for place in range(len(outcome.day.instructions))]
     lines += [f"  {fault}" for fault in words.faults(outcome.audit)]
-    verdict = f"at most {report.percent(outcome.audit.worst.share)} of the allowance used" if outcome.within else "OUTSIDE THE ALLOWANCE"
+    used = f"at most {report.percent(outcome.audit.worst.share)} of the allowance used"
+    verdict = used if outcome.within else "OUTSIDE THE ALLOWANCE"
     return "\n".join(lines + [f"  energy {report.fixed(outcome.energy, 4)} MWh; {verdict}"])
 
 

@@ -5,11 +5,31 @@ record is one more entry of KINDS.
 """
 
 from dataclasses import dataclass
+from enum import IntEnum
 
 from desk import measures
 
-CODES = ("TRIP", "MWOF", "MXON", "SYNC", "MXOF", "DESY", "FAIL")
+
+class Code(IntEnum):
+    """The codes, by their numbers in a record."""
+
+    TRIP = 1
+    MWOF = 2
+    MXON = 3
+    SYNC = 4
+    MXOF = 5
+    DESY = 6
+    FAIL = 7
+
+
+CODES = tuple(Code.__members__)
 HEATS = ("hot", "warm", "cold")
+LAG = {Code.MWOF: 120, Code.MXON: 120, Code.MXOF: 120, Code.DESY: 120}  # seconds (P.11.9)
+
+
+def acting(instruction):
+    """The second at which an instruction acts if it is kept."""
+    return instruction["effective"] + LAG.get(instruction["code"], 0)
 
 
 @dataclass(frozen=True)
@@ -87,11 +107,3 @@ class Kind:
 
 KINDS = {1: Kind("unit", UNIT), 2: Kind("opening", OPENING), 3: Kind("instruction", INSTRUCTION), 4: Kind("close", ())}
 NUMBERS = {kind.name: number for number, kind in KINDS.items()}
-
-MWOF = CODES.index("MWOF") + 1
-LAG = 120
-
-
-def lag(code):
-    """Seconds from effective to acting time (P.11.9)."""
-    return LAG if CODES[code - 1] in ("MWOF", "MXON", "MXOF", "DESY") else 0

@@ -9,9 +9,11 @@ from pathlib import Path
 
 from desk import report, words
 from desk.clock import Clock
-from desk.fields import CODES, HEATS
+from desk.fields import HEATS, acting
 from desk.outcome import Outcome, short
 
+MEASURES = {"levels, quantities": "kW", "rates": "kW/min", "times": "seconds from 06:00"}
+MEASURES["levels of opening, segments and closing"] = "grains, 1/60 kW"
 SUFFIXES = (".records", ".listing", ".csv", ".json", ".html")
 
 
@@ -80,9 +82,9 @@ def data(outcome: Outcome) -> str:
         "accepted": outcome.refusal is None,
         "refusal": refusal(outcome),
         "unit": day.unit,
-        "opening": day.opening and {**day.opening, "heat": HEATS[day.opening["heat"] - 1] if 1 <= day.opening["heat"] <= 3 else None},
+        "opening": day.opening and {**day.opening, "heat": HEATS[day.opening["heat"] - 1]},
         "instructions": [instruction(outcome, place) for place in range(len(day.instructions))],
-        "measures": {"levels": "kW", "rates": "kW/min", "opening level, segments, closing level": "grains (1/60 kW)", "times": "seconds from 06:00"},
+        "measures": MEASURES,
         **(closed(outcome) if outcome.refusal is None else {}),
         "sha256": outcome.sums(),
         "program": outcome.program,
@@ -94,17 +96,17 @@ def refusal(outcome):
     found = outcome.refusal
     if found is None:
         return None
-    return {"number": found.number, "words": found.words, "record": found.place, "byte": found.start, "which": words.which(found, outcome.day.clock)}
+    where = {"record": found.place, "byte": found.start, "which": words.which(found, outcome.day.clock)}
+    return {"number": found.number, "words": found.words, **where}
 
 
 def instruction(outcome, place):
     one, clock = outcome.day.instructions[place], outcome.day.clock
-    code = one["code"]
-    found = {"number": place + 1, **one, "code": CODES[code - 1] if 1 <= code <= len(CODES) else code}
+    found = {"number": place + 1, **one, "code": words.code_name(one["code"])}
     found |= {"effective_time": moment(clock, one["effective"]), "issue_time": clock.text(one["issue"])}
     if outcome.listing:
         fate = outcome.listing.fates[place]
-        found |= {"acting": words.acting(one), "fate": fate, "fate_in_words": words.FATES.get(fate), "rule": outcome.rule(place)}
+        found |= {"acting": acting(one), "fate": fate, "fate_in_words": words.FATES.get(fate), "rule": outcome.rule(place)}
     return found
 
 

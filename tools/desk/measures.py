@@ -8,7 +8,8 @@ import re
 from dataclasses import dataclass
 from decimal import Context, Decimal, Inexact, InvalidOperation
 
-GRAINS_IN_KW = 60
+from desk.exact import GRAINS as GRAINS_IN_KW
+
 EXACT = Context(prec=60, traps=[Inexact, InvalidOperation])
 FIGURE = re.compile(r"([+-]?[0-9]+(?:\.[0-9]+)?)\s*(\S.*)?", re.ASCII)
 
@@ -60,7 +61,8 @@ def whole(value, factor, unit):
 
 @dataclass(frozen=True)
 class Amount(Measure):
-    """A number in the first of `units`, or text with one of them. Each has its factor to the smallest, which must come out whole."""
+    """A number in the first of `units`, or text with one of them. Each has its factor to the smallest, of which it must be a
+    whole number."""
 
     units: dict
     smallest: str

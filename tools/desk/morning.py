@@ -197,7 +197,8 @@ def index(folder: Path, rows: list[Row]) -> str:
 def data(rows: list[Row]) -> str:
     """The morning's table for other programs."""
     keys = [head.lstrip("#") for head in HEADS]
-    return json.dumps([{**dict(zip(keys, row.cells())), "accepted": row.closed, "status": row.status} for row in rows], indent=1) + "\n"
+    found = [{**dict(zip(keys, row.cells())), "accepted": row.closed, "status": row.status} for row in rows]
+    return json.dumps(found, indent=1) + "\n"
 
 
 def summary(rows: list[Row]) -> str:

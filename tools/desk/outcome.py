@@ -7,7 +7,9 @@ from functools import cached_property
 from pathlib import Path
 
 from desk import audit, days, listing, records, sheets, words
-from desk.clock import HALF_HOUR, Clock
+from desk.clock import Clock
+from desk.exact import HALF_HOUR
+from desk.fields import acting
 from desk.program import Program, Refusal
 
 
@@ -87,7 +89,7 @@ class Outcome:
         one, fate, clock = self.day.instructions[place], self.listing.fates[place], self.day.clock
         times = f"effective {clock.text(one['effective'])}"
         if fate in words.HAS_ACTING:
-            times += f", acting {clock.text(words.acting(one))}"
+            times += f", acting {clock.text(acting(one))}"
         return f"{place + 1} {words.order(one)}, {times}: fate {fate}, {words.FATES.get(fate, 'unknown')}. {self.rule(place)}"
 
 

@@ -4,6 +4,7 @@ from decimal import Decimal
 from html import escape
 
 from desk import words
+from desk.fields import acting
 from desk.measures import GRAINS_IN_KW, plain
 from desk.outcome import Outcome
 
@@ -13,8 +14,9 @@ LETTER = Decimal("5.7")  # a letter's width at the labels' size
 COLOURS = {0: "#1b6e3c", 7: "#777777"}  # of a fate; any other:
 OTHER_FATE = "#a6431d"
 STYLE = (
-    "text{font:9.5px sans-serif;fill:#333}.grid{stroke:#e3e3e3}.bar{fill:#d3e2f1}.limit{stroke:#888;stroke-dasharray:5 3}.name{paint-order:stroke;stroke:#fff;stroke-width:3px}"
-    ".profile{fill:none;stroke:#174a7c;stroke-width:1.6;stroke-linejoin:round}.drop{stroke-dasharray:1 3}.frame{fill:none;stroke:#999}"
+    "text{font:9.5px sans-serif;fill:#333}.grid{stroke:#e3e3e3}.bar{fill:#d3e2f1}.frame{fill:none;stroke:#999}"
+    ".limit{stroke:#888;stroke-dasharray:5 3}.name{paint-order:stroke;stroke:#fff;stroke-width:3px}"
+    ".profile{fill:none;stroke:#174a7c;stroke-width:1.6;stroke-linejoin:round}.drop{stroke-dasharray:1 3}"
 )
 
 
@@ -157,7 +159,7 @@ def drawn(outcome, scale, place, lane):
     """An instruction: a hollow mark at its effective time, a full one at its acting time, its label."""
     instruction, fate = outcome.day.instructions[place], outcome.listing.fates[place]
     colour, y = COLOURS.get(fate, OTHER_FATE), LANE * lane + 12
-    effective, acts = scale.x(instruction["effective"]), scale.x(words.acting(instruction))
+    effective, acts = scale.x(instruction["effective"]), scale.x(acting(instruction))
     if fate == 0:
         yield line(acts, y, acts, scale.bottom, f'class="drop" stroke="{colour}"')
     yield line(effective, y, acts, y, f'stroke="{colour}"')
@@ -170,5 +172,5 @@ def drawn(outcome, scale, place, lane):
 
 
 def legend(scale):
-    said = "line: operating profile; bars: quantities; circles: instructions at effective (hollow) and acting time (full), number, code, (fate)"
-    return text(LEFT, scale.bottom + 34, said)
+    said = "line: operating profile; bars: quantities; circles: instructions at effective (hollow) and acting time (full)"
+    return text(LEFT, scale.bottom + 34, f"{said}, with number, code and (fate)")

@@ -6,7 +6,7 @@ as the record has them: kW, kW a minute, minutes, seconds, the opening's level i
 
 from dataclasses import dataclass
 
-from desk.fields import KINDS, NUMBERS, TRIGGER, Field, Table, Triggers
+from desk.fields import KINDS, NUMBERS, TRIGGER, Table, Triggers
 
 
 @dataclass(frozen=True)

@@ -4,7 +4,8 @@ from fractions import Fraction
 from html import escape
 
 from desk import picture, words
-from desk.fields import CODES
+from desk.exact import HALF_HOUR
+from desk.fields import Code, acting
 from desk.outcome import Outcome, short
 
 STYLE = """
@@ -15,11 +16,13 @@ th,td{padding:.18em .55em;border-bottom:1px solid #ddd;text-align:left;vertical-
 th{border-bottom:1.5px solid #888;font-weight:600}td.n,th.n{text-align:right}td.n,td.t{white-space:nowrap}
 svg{width:100%;height:auto}.small{color:#555;font-size:.88em}.bad{color:#b00020;font-weight:700}
 code{font-size:.9em;overflow-wrap:anywhere}
-@media print{body{margin:0;max-width:none;font-size:10.5px}h2{break-after:avoid}tr{break-inside:avoid}thead{display:table-header-group}}
+@media print{body{margin:0;max-width:none;font-size:10.5px}h2{break-after:avoid}tr{break-inside:avoid}}
 """
 OUTSIDE = "This page is no part of what is proved: it shows what the proved program printed, and checks it with exact fractions."
 
 
+NOTE = """Exact: twice the exact area divided by 216,000, so that it compares with a sum of kW. Allowed: the price list's figure,
+108,000 for each half-hour and twice stops times distance for each course having time there, divided likewise."""
 UNBROKEN = ("issued", "effective", "acting", "date", "file")
 
 
@@ -38,7 +41,7 @@ def percent(share):
 def page(title, body):
     """A whole page."""
     head = f'<meta charset="utf-8"><meta name="viewport" content="width=device-width"><title>{escape(title)}</title>'
-    return f"<!DOCTYPE html>\n<html lang=\"en\">\n<head>{head}<style>{STYLE}</style></head>\n<body>\n{body}\n</body>\n</html>\n"
+    return f'<!DOCTYPE html>\n<html lang="en">\n<head>{head}<style>{STYLE}</style></head>\n<body>\n{body}\n</body>\n</html>\n'
 
 
 def table(heads, rows):
@@ -51,7 +54,8 @@ def table(heads, rows):
 
 def html(outcome: Outcome) -> str:
     """The report of a day, closed or refused."""
-    parts = [f"<h1>{escape(outcome.unit_name)}, Trading Day {escape(outcome.date)}</h1>", f'<p class="small">{heading(outcome)}</p>']
+    parts = [f"<h1>{escape(outcome.unit_name)}, Trading Day {escape(outcome.date)}</h1>"]
+    parts.append(f'<p class="small">{heading(outcome)}</p>')
     if outcome.refusal:
         parts += refused(outcome)
     else:
@@ -81,8 +85,9 @@ def verdict(outcome):
     """Whether the audit agrees with the proof, in a sentence."""
     found = outcome.audit
     if found.within:
-        said = f"Every quantity lies within its allowance of the exact area, between any two boundaries (at most {percent(found.worst.share)} of it is used)"
-        return f"<p>Energy {fixed(outcome.energy, 4)} MWh. {said}.</p>"
+        said = "Between any two boundaries the quantities lie within their allowance of the exact area"
+        used = f"at most {percent(found.worst.share)} of it is used"
+        return f"<p>Energy {fixed(outcome.energy, 4)} MWh. {said}; {used}.</p>"
     faults = "; ".join(escape(fault) for fault in words.faults(found)[:3])
     return f'<p class="bad">Outside the allowance, which the proof rules out: {faults}. Stop and report this day.</p>'
 
@@ -92,11 +97,11 @@ def instructions(outcome):
     for place, one in enumerate(outcome.day.instructions):
         fate = outcome.listing.fates[place]
         rates = ", ".join(f"{key} {fixed(Fraction(one[key], 1000), 3)}" for key in ("up", "down") if one[key])
-        acts = clock.text(words.acting(one)) if fate in words.HAS_ACTING else ""
-        level = fixed(Fraction(one["level"], 1000), 3) if CODES[one["code"] - 1] == "MWOF" else ""
+        acts = clock.text(acting(one)) if fate in words.HAS_ACTING else ""
+        level = fixed(Fraction(one["level"], 1000), 3) if one["code"] == Code.MWOF else ""
         times = [clock.text(one["issue"]), clock.text(one["effective"])]
         said = f"{fate}, {words.FATES.get(fate, 'unknown')}"
-        rows.append([place + 1, *times, CODES[one["code"] - 1], level, rates, acts, escape(said), escape(outcome.rule(place))])
+        rows.append([place + 1, *times, Code(one["code"]).name, level, rates, acts, escape(said), escape(outcome.rule(place))])
     heads = ["#no.", "issued", "effective", "code", "#MW", "MW/min", "acting", "fate", "rule"]
     return table(heads, rows) if rows else "<p>None.</p>"
 
@@ -120,12 +125,11 @@ def totals(outcome):
     """The whole day, and the two boundaries between which most of the allowance is used."""
     found, clock, rows = outcome.audit, outcome.day.clock, []
     for name, row in (("whole day", found.total), ("worst by share", found.worst)):
-        times = f"{short(clock, (row.first - 1) * 1800)} to {short(clock, row.last * 1800)}"
-        rows.append([f"{name}, half-hours {row.first} to {row.last}, {times}", f"{row.quantity:,}", fixed(Fraction(row.quantity, 2000), 4), *figures(row)])
+        times = f"{short(clock, (row.first - 1) * HALF_HOUR)} to {short(clock, row.last * HALF_HOUR)}"
+        energy = [f"{row.quantity:,}", fixed(Fraction(row.quantity, 2000), 4)]
+        rows.append([f"{name}, half-hours {row.first} to {row.last}, {times}", *energy, *figures(row)])
     heads = ["between", "#sum of kW", "#MWh", "#exact", "#difference", "#allowed", "#share used"]
-    note = "Exact: twice the exact area divided by 216,000, so that it compares with a sum of kW. Allowed: the price list's figure, 108,000 for each half-hour"
-    more = "and twice stops times distance for each course having time there, divided likewise."
-    return table(heads, rows) + f'\n<p class="small">{note} {more}</p>'
+    return table(heads, rows) + f'\n<p class="small">{NOTE}</p>'
 
 
 def provenance(outcome):
@@ -133,5 +137,8 @@ def provenance(outcome):
     commit = program["commit"] or "unknown"
     changed = ", changed since" if program["changed"] else ""
     rows = [["records, SHA-256", f"<code>{sums['records']}</code>"], ["listing, SHA-256", f"<code>{sums['listing']}</code>"]]
-    rows += [["program, commit", f"<code>{escape(commit)}</code>{changed}"], ["program, SHA-256", f"<code>{program['sha256']}</code>"]]
+    rows += [
+        ["program, commit", f"<code>{escape(commit)}</code>{changed}"],
+        ["program, SHA-256", f"<code>{program['sha256']}</code>"],
+    ]
     return table(["what", "figure"], rows)

@@ -12,9 +12,10 @@ from datetime import date, datetime
 from decimal import Decimal
 from pathlib import Path
 
-from desk.clock import HALF_HOURS, ZONE, Clock, zone_named
+from desk.clock import ZONE, Clock, zone_named
 from desk.days import Day
-from desk.fields import CODES, INSTRUCTION, MWOF, OPENING, TRIGGER, UNIT, Table, Triggers
+from desk.exact import HALF_HOURS
+from desk.fields import INSTRUCTION, OPENING, TRIGGER, UNIT, Code, Table, Triggers
 from desk.measures import Wrong, kind_of, short
 
 UNKNOWN = "unknown"  # the date of a sheet that was made from records
@@ -293,7 +294,7 @@ def read_instructions(reader, sheet, day):
 
 def read_instruction(reader, table, value):
     """One instruction. Rates may be left out, and the level of a code that carries none."""
-    mwof = type(value) is dict and value.get("code") == CODES[MWOF - 1]
+    mwof = type(value) is dict and value.get("code") == Code.MWOF.name
     return reader.table(table, value, INSTRUCTION, ("up", "down") if mwof else ("level", "up", "down"))
 
 

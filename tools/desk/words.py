@@ -3,7 +3,7 @@
 from decimal import Decimal
 
 from desk.audit import carried
-from desk.fields import CODES, HEATS, KINDS, MWOF, lag
+from desk.fields import HEATS, KINDS, Code, acting
 from desk.measures import GRAINS_IN_KW, plain
 
 FATES = {
@@ -27,14 +27,13 @@ def mw(kw):
 
 def order(instruction):
     """An instruction in short: its code, with its level if it is an MWOF."""
-    code = instruction["code"]
-    name = CODES[code - 1] if 1 <= code <= len(CODES) else f"code {code}"
-    return f"{name} {mw(instruction['level'])}" if code == MWOF else name
+    name = code_name(instruction["code"])
+    return f"{name} {mw(instruction['level'])}" if name == "MWOF" else name
 
 
-def acting(instruction):
-    """The second at which an instruction acts if it is kept."""
-    return instruction["effective"] + lag(instruction["code"])
+def code_name(code):
+    """A code's name; its number if it has none."""
+    return Code(code).name if code in list(Code) else f"code {code}"
 
 
 def together(instructions, fates, place):
@@ -56,7 +55,7 @@ def rule(instructions, listing, place, unit):
 
 def effect(instruction, mwof, unit):
     """What an instruction that acts sets going (Table 7), with the MWOF that it is or carries."""
-    name = CODES[instruction["code"] - 1]
+    name = code_name(instruction["code"])
     level = mwof["level"] if mwof else 0
     beside = f", with the level of the MWOF beside it ({mw(level)})" if mwof else ""
     if name == "MWOF":
@@ -88,7 +87,7 @@ def without_effect(instruction, at_0):
         "SYNC": "The unit is above 0, so it is synchronised already.",
         "MXOF": "The unit is not maximised.",
         "DESY": "The unit is at 0 already.",
-    }.get(CODES[instruction["code"] - 1], "It changes nothing as the unit stands.")
+    }.get(code_name(instruction["code"]), "It changes nothing as the unit stands.")
 
 
 def superseded(instructions, fates, place):
@@ -104,7 +103,7 @@ def outranked(instructions, fates, place):
         return "Another instruction of this effective time and issue time is used."
     mine, theirs = instructions[place], instructions[used]
     which = f"Instruction {used + 1} ({order(theirs)}) of the same times is used"
-    if mine["code"] == theirs["code"] == MWOF:
+    if mine["code"] == theirs["code"] == Code.MWOF:
         return f"{which}: its level is larger, or equal and entered earlier."
     if mine["code"] == theirs["code"]:
         return f"{which}: it was entered earlier."
@@ -117,7 +116,7 @@ def outranked(instructions, fates, place):
 
 
 def repeated(instructions, fates, place):
-    return f"The last one kept before it is {CODES[instructions[place]['code'] - 1]} too."
+    return f"The last one kept before it is {code_name(instructions[place]['code'])} too."
 
 
 def voided(instructions, fates, place):
@@ -175,5 +174,5 @@ def closing(state):
 
 def faults(audit):
     """What the audit found wrong, in words: nothing, by the proof."""
-    outside = [f"half-hours {row.first} to {row.last}: off by {float(row.difference)} kW, allowed {float(row.allowed)}" for row in audit.faults]
-    return outside + audit.speed_faults
+    rows = [(row, f"off by {float(row.difference)} kW, allowed {float(row.allowed)}") for row in audit.faults]
+    return [f"half-hours {row.first} to {row.last}: {said}" for row, said in rows] + audit.speed_faults

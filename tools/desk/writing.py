@@ -4,13 +4,16 @@ import textwrap
 
 from desk import words
 from desk.days import Day
-from desk.fields import INSTRUCTION, KINDS, MWOF, NUMBERS, OPENING, TRIGGER, UNIT, Table, Triggers
+from desk.fields import INSTRUCTION, KINDS, NUMBERS, OPENING, TRIGGER, UNIT, Code, Table, Triggers
 from desk.program import Refusal
+
+
+MEASURED = "Levels in MW, rates in MW/min, cooling boundaries and holds in minutes."
 
 
 def sheet(day: Day, source: str, refusal: Refusal | None) -> str:
     """The sheet of a day that was read from `source`."""
-    lines = [f"# The records of {printable(source)} as a sheet. Levels in MW, rates in MW/min, cooling boundaries and holds in minutes."]
+    lines = [f"# The records of {printable(source)} as a sheet. {MEASURED}"]
     if refusal:
         lines += refused(day, refusal)
     lines.append("")
@@ -32,7 +35,7 @@ def sheet(day: Day, source: str, refusal: Refusal | None) -> str:
 
 def given(instruction):
     """An instruction without the figures that it need not carry."""
-    needed = ("effective", "issue", "code") + (("level",) if instruction["code"] == MWOF else ())
+    needed = ("effective", "issue", "code") + (("level",) if instruction["code"] == Code.MWOF else ())
     return {key: value for key, value in instruction.items() if key in needed or value}
 
 
@@ -57,7 +60,8 @@ def refused(day, refusal):
     record = refusal.record
     if record and record.value:
         fields = KINDS[NUMBERS[record.kind]].fields
-        lines += ["# What it says:"] + [f"#   {line}".rstrip() for line in table(record.kind, record.value, fields, day.clock)[1:]]
+        said = table(record.kind, record.value, fields, day.clock)[1:]
+        lines += ["# What it says:"] + [f"#   {line}".rstrip() for line in said]
     return lines
 
 
