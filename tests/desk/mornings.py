@@ -142,8 +142,9 @@ class Mornings(DeskTest):
         ran = subprocess.run([ROOT / "desk", "morning", MORNING, "--out", self.out], capture_output=True, text=True)
         self.assertEqual(ran.returncode, 1, ran.stderr)
         self.assertIn("11 days: 9 accepted, 2 refused", ran.stdout)
-        commit = json.loads((self.out / "2026-11-14-ballymoor.json").read_text())["program"]["commit"]
-        self.assertRegex(commit or "", "^[0-9a-f]{40}$|^$")
+        program = json.loads((self.out / "2026-11-14-ballymoor.json").read_text())["program"]
+        self.assertRegex(program["commit"] or "no repository", "^[0-9a-f]{40}$|^no repository$")
+        self.assertIn(program["sha256"], (self.out / "2026-11-14-ballymoor.html").read_text())
 
     def test_a_full_disk(self):
         """What could not be written whole is said, and is no success."""

@@ -203,6 +203,14 @@ class Reports(DeskTest):
         other = self.script("other", f"{PROFILER} | sed 's/^S 120 300 /S 120 299 /; s/^S 300 /S 299 /'\n")
         self.assertEqual(self.desk("day", path, "--out", self.out, program=other)[0], 3)
 
+    def test_a_quantity_that_is_not_the_profiles(self):
+        """Within its allowance, yet not what the S lines give."""
+        path = self.write("day.toml", SHEET)
+        other = self.script("other", f"{PROFILER} | sed 's/^Q 1 1 102650$/Q 1 1 102651/'\n")
+        status, out, _ = self.desk("day", path, "--out", self.out, program=other)
+        self.assertEqual(status, 3)
+        self.assertIn("half-hour 1: 102651 kW printed, the segments give 102650", out)
+
     def test_a_program_that_does_not_answer(self):
         path = self.write("day.toml", SHEET)
         wrong = {"silent": "cat >/dev/null", "failing": "exit 4", "grumbling": f"echo no >&2; {PROFILER}"}

@@ -60,10 +60,11 @@ class Audit:
     worst: Figures  # between the two boundaries that use the largest share
     faults: list[Figures]  # between two boundaries, outside the allowance: none, by the proof
     speed_faults: list[str]  # where the profile moves faster than the rate in force or jumps: none, by the proof
+    sum_faults: list[str]  # where a Q line is not what the S lines give: none, by the proof
 
     @property
     def within(self) -> bool:
-        return not self.faults and not self.speed_faults
+        return not self.faults and not self.speed_faults and not self.sum_faults
 
 
 def audit(unit: Sequence[int], opening: Opening, instructions: Sequence[Instruction], listing: Listing) -> Audit:
@@ -83,7 +84,15 @@ def audit(unit: Sequence[int], opening: Opening, instructions: Sequence[Instruct
         worst=figures(*balance.worst()),
         faults=[figures(a, b) for a, b in balance.outside()],
         speed_faults=day.jumps + exact.speed_faults(day.courses, listing.segments, count),
+        sum_faults=_sum_faults(listing),
     )
+
+
+def _sum_faults(listing: Listing) -> list[str]:
+    """Quantities that are not those of the printed profile."""
+    given = exact.recorded_quantities(listing.segments, len(listing.quantities))
+    both = enumerate(zip(listing.quantities, given), 1)
+    return [f"half-hour {k}: {printed} kW printed, the segments give {found}" for k, (printed, found) in both if printed != found]
 
 
 def courses(unit: Sequence[int], opening: Opening, instructions: Sequence[Instruction], listing: Listing) -> list[exact.Course]:

@@ -162,6 +162,20 @@ def exact_areas(courses: Sequence[Course], half_hours: int = HALF_HOURS) -> list
     return areas
 
 
+def recorded_quantities(segments: Sequence[Segment], half_hours: int = HALF_HOURS) -> list[int]:
+    """The quantities that the printed segments give: twice their area in each half-hour, rounded as the paper has it."""
+    areas: list[Rational] = [0] * half_hours
+    for first, last, level, end in segments:
+        at, here = first, level
+        while at < last:
+            half_hour = at // HALF_HOUR
+            to = min(last, (half_hour + 1) * HALF_HOUR)
+            there = level + Fraction((end - level) * (to - first), last - first) if level != end else level
+            areas[half_hour] += (to - at) * (here + there)
+            at, here = to, there
+    return [(area + ROUNDING) // DOUBLED for area in areas]
+
+
 class Balance:
     """The quantities of a day against its exact areas, and what demand 3 allows between two half-hour boundaries.
 

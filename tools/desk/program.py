@@ -41,8 +41,9 @@ class Program:
     """The listing program of this repository, or another one at a path."""
 
     def __init__(self, path: Path | None = None):
+        self.own = path is None
         self.path = path or ROOT / "target" / "bin" / "profiler"
-        if path is None:
+        if self.own:
             built = subprocess.run([ROOT / "profile", "--build"], stdin=subprocess.DEVNULL)
             if built.returncode:
                 raise ProgramError("the program could not be built")
@@ -81,21 +82,24 @@ class Program:
 
     @property
     def identity(self) -> dict:
-        """Which program this is."""
-        return identity(self.path)
+        """Which program this is: SHA-256 of it and, of the one of this repository, where its source stands."""
+        return {"sha256": digest(self.path), **(source() if self.own else {"commit": None, "changed": None})}
 
 
 @cache
-def identity(path: Path) -> dict:
-    """SHA-256 of a program, the commit that last changed the source in this repository, and whether that was changed since."""
-    found = {"sha256": hashlib.sha256(path.read_bytes()).hexdigest(), "commit": None, "changed": None}
+def digest(path: Path) -> str:
+    return hashlib.sha256(path.read_bytes()).hexdigest()
+
+
+@cache
+def source() -> dict:
+    """The commit that last changed the program's source, and whether that was changed since."""
+    where = ["--", "crates", "crates.txt"]
     try:
-        source = ["--", "crates", "crates.txt"]
-        found["commit"] = git("log", "-1", "--format=%H", *source) or None
-        found["changed"] = bool(git("status", "--porcelain", *source))
+        commit = git("log", "-1", "--format=%H", *where) or None
+        return {"commit": commit, "changed": bool(git("status", "--porcelain", *where))}
     except (OSError, subprocess.CalledProcessError):
-        pass  # no git, or no repository of it
-    return found
+        return {"commit": None, "changed": None}  # no git, or no repository of it
 
 
 def git(*words):

@@ -9,6 +9,9 @@ from dataclasses import dataclass
 from desk.fields import KINDS, NUMBERS, TRIGGER, Table, Triggers
 
 
+MOST = 100
+
+
 @dataclass(frozen=True)
 class Record:
     """A record that stands whole in the bytes: where, its kind, what it says."""
@@ -91,9 +94,10 @@ def decode(data: bytes, start: int) -> Record | None:
 
 
 def split(data: bytes) -> list[Record]:
-    """The records that stand whole one after the other, up to close, or to one that is unknown or cut short."""
+    """The records that stand whole one after the other, up to close, or to one that is unknown or cut short. Far fewer than
+    MOST are let in, so no more are looked for."""
     found, at = [], 0
-    while record := decode(data, at):
+    while len(found) < MOST and (record := decode(data, at)):
         found.append(record)
         at += length(NUMBERS[record.kind])
         if record.kind == "close":

@@ -175,4 +175,4 @@ def closing(state):
 def faults(audit):
     """What the audit found wrong, in words: nothing, by the proof."""
     rows = [(row, f"off by {float(row.difference)} kW, allowed {float(row.allowed)}") for row in audit.faults]
-    return [f"half-hours {row.first} to {row.last}: {said}" for row, said in rows] + audit.speed_faults
+    return [f"half-hours {row.first} to {row.last}: {said}" for row, said in rows] + audit.speed_faults + audit.sum_faults
