@@ -35,6 +35,7 @@ follow() {
 
 # Ctrl-C ends the provers too, which rt runs in the background.
 interrupted() {
+    if [ -t 2 ]; then echo >&2; fi
     trap '' TERM
     kill -TERM 0
     trap - INT
