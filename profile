@@ -53,7 +53,7 @@ build() {
         printf 'proving %s crates, log in target/profiler.log\n' "$total" >&2
     fi
     trap interrupted INT
-    status=$({ { (CDPATH='' cd -- "$here" && exec rt check profiler) 2>&1 3>&-; echo $? >&3; } | tee "$log" | follow; } 3>&1 >&2)
+    status=$({ { (CDPATH='' cd -- "$here" && exec rt check profiler) </dev/null 2>&1 3>&-; echo $? >&3; } | tee "$log" | follow; } 3>&1 >&2)
     trap - INT
     if [ "$status" != 0 ]; then
         # A program that was linked all the same is not taken for built.

@@ -26,6 +26,7 @@ ROOT = pathlib.Path(__file__).resolve().parents[2]
 EXAMPLES = ROOT / "examples"
 PIPE_SIZE = getattr(fcntl, "F_SETPIPE_SZ", 1031)
 NUMBERS = [*range(1, 10), *range(20, 28)]
+ROOM = 4096  # left in a pipe; the outputs are longer
 WAIT = 20
 UNREAD, UNWRITTEN = "the input could not be read", "the output could not be written whole"
 
@@ -61,16 +62,14 @@ def with_closed(command, descriptor):
 
 
 @contextlib.contextmanager
-def small_pipe(before=b""):
-    """A pipe of one page that nobody empties, with some bytes in it, and whose ends don't block."""
+def small_pipe():
+    """A pipe that nobody empties, as small as there are, and whose ends don't block; its size."""
     reader, writer = os.pipe()
-    fcntl.fcntl(writer, PIPE_SIZE, 4096)
+    size = fcntl.fcntl(writer, PIPE_SIZE, ROOM)
     os.set_blocking(reader, False)
     os.set_blocking(writer, False)
-    if before:
-        os.write(writer, before)
     try:
-        yield reader, writer
+        yield reader, writer, size
     finally:
         os.close(reader)
         os.close(writer)
@@ -97,12 +96,13 @@ def bad_outputs(command, **named):
     with closed_pipe() as writer:
         status, _, said = run(command, stdout=writer, **named)
         yield "closed pipe", status, b"", said
-    for name, before in ("full pipe", b"." * 4096), ("pipe too small", b""):
-        with small_pipe(before) as (reader, writer):
+    for name, room in ("full pipe", 0), ("pipe too small", ROOM):
+        with small_pipe() as (reader, writer, size):
+            os.write(writer, b"." * (size - room))
             status, _, said = run(command, stdout=writer, **named)
             written = b""
             with contextlib.suppress(BlockingIOError):
-                written = os.read(reader, 65536)[len(before):]
+                written = os.read(reader, size)[size - room:]
             yield name, status, written, said
     status, written, said = run(with_closed(command, ">&-"), **named)
     yield "closed output", status, written, said
@@ -120,7 +120,7 @@ def program_edges(name, program, data, whole, part):
     unread, unwritten = (f"{name}: {line}\n".encode() for line in (UNREAD, UNWRITTEN))
     got = run([program], input=data)
     check(f"{name}, all well", got == (0, whole, b""), got)
-    check(f"{name}, longer than a page", len(whole) > 4096)
+    check(f"{name}, longer than the room", len(whole) > ROOM)
     for what, status, written, said in bad_outputs([program], input=data):
         front = len(written) < len(whole) and whole.startswith(written)
         check(f"{name}, {what}", said == unwritten and status == 0 and front, status, written[-40:], said)
@@ -134,7 +134,8 @@ def program_edges(name, program, data, whole, part):
     got = run(with_closed([program], "<&-"))
     check(f"{name}, closed input", got == (0, b"", unread), got)
     for what, before in ("empty", b""), ("after a part", part):
-        with small_pipe(before) as (reader, _):
+        with small_pipe() as (reader, writer, _):
+            os.write(writer, before)
             got = run([program], stdin=reader)
             check(f"{name}, input that is not ready, {what}", got == (0, b"", unread), got)
 
@@ -169,6 +170,7 @@ def words_part():
 STAND_IN = """#!/bin/sh
 # Prints what rt prints, and makes the program. RT_TRY: fail, unmade, wait.
 [ "$*" = 'check profiler' ] || exit 9
+cat >/dev/null
 echo called >>../calls-of-rt
 for name in %s; do
     echo "fn $name::main: proved"
@@ -308,6 +310,9 @@ def profile_build(copy):
     copy.fresh()
     got = copy.run("--build")
     check("./profile --build", got == (0, b"", first), got)
+    copy.fresh()
+    got = copy.run(input=day.read_bytes())
+    check("./profile, built first, input", got == (0, whole, first), got)
 
 
 def read_terminal(master, until):
