@@ -1,8 +1,9 @@
 // Calls for tests. It reads calls from standard input up to its end, each one byte `T` or `L` and a length n of four bytes,
 // big-endian, at most 65,536. `T`: n bytes follow, and the taker is called once on them; it prints `A answer used`. `L`: a
 // listing into a lent slice of n bytes, each FF hexadecimal; it prints `A answer count` and then the count bytes written.
-// Anything else ends it with the line `malformed`.
+// Anything else ends it with the line `malformed`. A read or a write that fails ends it with a line on standard error.
 use day::Day;
+use libc::STDERR_FILENO;
 use libc::STDIN_FILENO;
 use libc::STDOUT_FILENO;
 
@@ -12,19 +13,38 @@ pub struct Turn {
     pub more: bool,
 }
 
+// The last turn, after a read that failed.
+fn unread(day: Day) -> Turn {
+    io::write_all(STDERR_FILENO, b"calls: the input could not be read\n");
+    Turn { day, more: false }
+}
+
+// What was written is put out; whether all of it was. Where not, it is said.
+fn put_front(out: &[u8], n: usize) -> bool {
+    if n <= out.len() {
+        if io::write_all(STDOUT_FILENO, &out[..n]) {
+            return true;
+        }
+    }
+    io::write_all(
+        STDERR_FILENO,
+        b"calls: the output could not be written whole\n",
+    );
+    false
+}
+
 fn malformed(day: Day) -> Turn {
-    io::write_all(STDOUT_FILENO, b"malformed\n");
+    put_front(b"malformed\n", 10);
     Turn { day, more: false }
 }
 
 // `A answer number`
-fn put_answer(answer: records::Answer, number: usize) {
-    io::write_all(STDOUT_FILENO, b"A ");
+fn put_answer(answer: records::Answer, number: usize) -> bool {
     let n = records::answer_number(answer);
-    io::print_decimal(STDOUT_FILENO, n as u64);
-    io::write_all(STDOUT_FILENO, b" ");
-    io::print_decimal(STDOUT_FILENO, number as u64);
-    io::write_all(STDOUT_FILENO, b"\n");
+    let mut line = [0u8; 44];
+    let vs = [n as u64, number as u64];
+    let count = text::put_line(&mut line, b'A', &vs);
+    put_front(&line, count)
 }
 
 // The first n bytes that are read into the buffer are a record's slice.
@@ -34,35 +54,56 @@ fn take_read(day: Day, buf: &[u8], n: usize) -> Turn {
     }
     let s = taker::take_front(day, &buf[..n]);
     let answer = s.answer;
-    put_answer(answer, s.used);
     let next = s.day;
-    Turn {
-        day: next,
-        more: true,
+    let more = put_answer(answer, s.used);
+    Turn { day: next, more }
+}
+
+// How many bytes were read, and whether a read failed.
+pub struct Reached {
+    pub at: usize,
+    pub failed: bool,
+}
+
+// One read, to the place `at` on and no further than n.
+fn read_on(buf: &mut [u8], at: usize, n: usize) -> Reached {
+    if n <= at || buf.len() < n {
+        return Reached { at, failed: false };
+    }
+    let part = &mut buf[at..n];
+    let got = libc::read(STDIN_FILENO, part);
+    Reached {
+        at: at + io::count(got, part),
+        failed: got < 0,
     }
 }
 
-fn read_some(buf: &mut [u8], n: usize) -> usize {
-    if buf.len() < n {
-        return 0;
+// Reads the first n bytes of the buffer, fewer where the input ends or a read fails.
+fn read_first(buf: &mut [u8], n: usize) -> Reached {
+    let mut at: usize = 0;
+    while at < n {
+        let next = read_on(buf, at, n);
+        if next.failed {
+            return next;
+        }
+        if next.at <= at {
+            return next;
+        }
+        at = next.at;
     }
-    io::read_full(STDIN_FILENO, &mut buf[..n])
+    Reached { at, failed: false }
 }
 
 fn take_record(day: Day, n: usize) -> Turn {
     let mut buf = io::large_buffer();
-    let got = read_some(&mut buf, n);
-    if got < n {
+    let got = read_first(&mut buf, n);
+    if got.failed {
+        return unread(day);
+    }
+    if got.at < n {
         return malformed(day);
     }
     take_read(day, &buf, n)
-}
-
-// What was written is put out.
-fn put_front(out: &[u8], n: usize) {
-    if n <= out.len() {
-        io::write_all(STDOUT_FILENO, &out[..n]);
-    }
 }
 
 fn list_into(day: Day, out: &mut [u8], n: usize) -> listing::Listed {
@@ -77,19 +118,24 @@ fn list_day(day: Day, n: usize) -> Turn {
     let l = list_into(day, &mut out, n);
     let answer = l.answer;
     let count = l.count;
-    put_answer(answer, count);
-    put_front(&out, count);
-    Turn { day, more: true }
+    if !put_answer(answer, count) {
+        return Turn { day, more: false };
+    }
+    let more = put_front(&out, count);
+    Turn { day, more }
 }
 
 // One call.
 fn serve_one(day: Day) -> Turn {
     let mut head = [0u8; 5];
-    let got = io::read_full(STDIN_FILENO, &mut head);
-    if got == 0 {
+    let got = read_first(&mut head, 5);
+    if got.failed {
+        return unread(day);
+    }
+    if got.at == 0 {
         return Turn { day, more: false };
     }
-    if got < 5 {
+    if got.at < 5 {
         return malformed(day);
     }
     let n = records::number(&head, 1);

@@ -8,18 +8,18 @@ use Rattle.profiler.proofs.put_front.Reads as reads
 use Rattle.profiler.proofs.put_front.Lts as lts
 use Rattle.io.proofs.write_all.Reads as write-all-reads
 
+returns : tie.Need-returns
+returns c = search needs
+
 slice-aggregate-write-all : tie.Need-slice-aggregate-write-all
 slice-aggregate-write-all c = sym (length-take-le _ _ (omega arith))
 
 write-all-requires : tie.Need-write-all-requires
 write-all-requires c κs = search needs
 
-returns : tie.Need-returns
-returns c = search needs
-
 returns-2 : tie.Need-returns-2
 returns-2 c = search needs
 
 pub put-front-spec : {M : Type 1} → statement M
 put-front-spec =
-    tie.close (tie.spec slice-aggregate-write-all write-all-requires returns returns-2)
+    tie.close (tie.spec returns slice-aggregate-write-all write-all-requires returns-2)
