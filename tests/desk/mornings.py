@@ -8,8 +8,11 @@ import signal
 import subprocess
 import sys
 import time
+from unittest import mock
 
-from support import PROFILER, ROOT, SHEET, DeskTest
+from support import PROFILER, ROOT, SHEET, DeskTest, quantities
+
+from desk import morning
 
 MORNING = ROOT / "examples" / "morning"
 DESK = [sys.executable, "-B", ROOT / "tools" / "desk" / "__main__.py"]
@@ -29,6 +32,8 @@ class Mornings(DeskTest):
         status, out, _ = self.desk("morning", MORNING, "--out", self.out)
         self.assertEqual(status, 1)
         self.assertIn("11 days: 9 accepted, 2 refused", out)
+        kw = sum(sum(quantities(path.read_bytes())) for path in self.out.glob("*.listing"))
+        self.assertIn(f"{kw / 2000:,.4f} MWh", out)
         self.assertIn("2026-11-15-inishmor.toml, [instructions 2], level: 10.3333", out)
         self.assertIn("refusal 7, the effective time is outside the day: record 5, an instruction (DESY", out)
         rows = json.loads((self.out / "morning.json").read_text())
@@ -66,6 +71,27 @@ class Mornings(DeskTest):
         self.assertFalse((self.out / "a.html").exists())
         self.assertEqual([path.name for path in self.folder.iterdir() if path.name.startswith(".")], [])
 
+    def test_without_exchanging_names(self):
+        """Where the system cannot exchange two names, a morning that is cut off between two steps is mended by the next."""
+        self.some("a")
+        self.desk("morning", self.folder)
+        with mock.patch.object(morning, "exchange", return_value=False):
+            self.some("b")
+            self.assertEqual(self.desk("morning", self.folder)[0], 0)
+        self.assertTrue((self.out / "b.html").exists())
+        ended = subprocess.run(["sh", "-c", "echo $$"], capture_output=True, text=True, check=True).stdout.strip()
+        self.out.rename(self.folder / f".out.{ended}.old")
+        (self.folder / f".out.{ended}").mkdir()
+        self.write("b.toml", "date = ")
+        morning.remove_left_over(self.out)
+        self.assertTrue((self.out / "b.html").exists())
+        self.assertEqual([path.name for path in self.folder.iterdir() if path.name.startswith(".")], [])
+
+    def test_an_empty_folder(self):
+        status, out, err = self.desk("morning", self.folder)
+        self.assertEqual((status, out, self.out.exists()), (2, "", False))
+        self.assertIn("no sheets", err)
+
     def test_a_folder_of_others_is_not_replaced(self):
         self.some("a")
         self.write("out/index.html", "mine")
@@ -79,7 +105,7 @@ class Mornings(DeskTest):
         """The records that `day` has written beside a sheet are no second day; other records of that name are refused."""
         self.some("a")
         self.desk("day", self.folder / "a.toml")
-        self.assertIn("1 days: 1 accepted", self.desk("morning", self.folder)[1].splitlines()[-1])
+        self.assertIn("1 day: 1 accepted", self.desk("morning", self.folder)[1].splitlines()[-1])
         self.write("a.records", b"\x04")
         status, out, _ = self.desk("morning", self.folder)
         self.assertEqual(status, 1)
@@ -90,7 +116,7 @@ class Mornings(DeskTest):
         sheet = (MORNING / "2026-11-15-derrybeg.toml").read_text().replace("units/derrybeg.toml", "unit.toml")
         self.write("day.toml", sheet)
         status, out, _ = self.desk("morning", self.folder)
-        self.assertEqual((status, "1 days: 1 accepted" in out), (0, True))
+        self.assertEqual((status, "1 day: 1 accepted" in out), (0, True))
 
     def test_cut_off(self):
         """A morning that is ended in its midst, by any signal, leaves the last one byte for byte."""

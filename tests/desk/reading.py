@@ -149,6 +149,14 @@ class Faults(DeskTest):
         self.write("day.csv", b"\xff\xfe")
         self.refused('date = 2026-11-16\ninstructions = "day.csv"\n' + UNIT + OPENING, "day.csv", "no CSV file")
 
+    def test_each_fault_is_one_line(self):
+        for sheet in (
+            edit("target = 100", 'target = 100\n"a\\nb" = 1'),
+            edit('"hot"', '"a\\nb"'),
+            edit("date = 2026-11-16", 'date = "a\\nb"'),
+        ):
+            self.assertEqual(len(self.refused(sheet, "", "")), 1)
+
     def test_all_at_once(self):
         sheet = edit("level = 103", "level = 103.0005", edit('"hot"', '"tepid"', edit("msg = 100\n", "")))
         self.assertEqual(len(self.refused(sheet, "", "")), 3)
@@ -219,6 +227,9 @@ class Sheets(DeskTest):
                 self.records(edit("2026-11-16", day))
         for day in ("2026-03-29", "2026-03-27", "2026-10-25"):
             self.records(edit("2026-11-16", day))
+
+    def test_mark_of_utf8(self):
+        self.assertEqual(self.records("\ufeff" + SHEET.replace("\n", "\r\n")), DOCUMENT01)
 
     def test_no_instructions(self):
         self.assertEqual(len(records.split(self.records(SHEET.replace(INSTRUCTION, "")))), 3)

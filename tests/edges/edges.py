@@ -102,7 +102,7 @@ def bad_outputs(command, **named):
             status, _, said = run(command, stdout=writer, **named)
             written = b""
             with contextlib.suppress(BlockingIOError):
-                written = os.read(reader, size)[size - room:]
+                written = os.read(reader, size)[size - room :]
             yield name, status, written, said
     status, written, said = run(with_closed(command, ">&-"), **named)
     yield "closed output", status, written, said
@@ -291,8 +291,11 @@ def profile_build(copy):
     made = {str(path.relative_to(copy.here)) for path in copy.here.rglob("*") if path.is_file() and path not in before}
     check("./profile, what a build leaves", made == {"target/profiler.log", "target/bin/profiler"}, made)
     log = (copy.here / "target/profiler.log").read_text(encoding="utf-8").splitlines()
-    check("./profile, whole log", log == [line for name in copy.crates for line in
-          (f"fn {name}::main: proved", f"rt: {name} proved (1 s)")] + ["rt: ok"], log[-3:])
+    check(
+        "./profile, whole log",
+        log == [line for name in copy.crates for line in (f"fn {name}::main: proved", f"rt: {name} proved (1 s)")] + ["rt: ok"],
+        log[-3:],
+    )
     count = copy.built()
     os.utime(copy.here / "target/bin/profiler", (1e9, 1e9))
     check("./profile, built again after a change", copy.run(day)[0] == 0 and copy.built() == count + 1)
@@ -336,7 +339,9 @@ def profile_terminal(copy):
     day = EXAMPLES / "document01.records"
     copy.fresh()
     master, end = pty.openpty()
-    with subprocess.Popen(copy.command(day), stdin=subprocess.DEVNULL, stdout=subprocess.PIPE, stderr=end, **copy.named()) as child:
+    with subprocess.Popen(
+        copy.command(day), stdin=subprocess.DEVNULL, stdout=subprocess.PIPE, stderr=end, **copy.named()
+    ) as child:
         os.close(end)
         shown = read_terminal(master, b"")
         printed = child.stdout.read()

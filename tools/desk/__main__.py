@@ -10,4 +10,6 @@ if sys.version_info < (3, 11):
 from desk.commands import main  # noqa: E402
 
 if __name__ == "__main__":
+    for stream in (sys.stdout, sys.stderr):
+        stream.reconfigure(errors="backslashreplace")
     sys.exit(main())

@@ -53,7 +53,14 @@ def main(words_: list[str] | None = None) -> int:
     except OSError as error:
         # What is left in the buffer of standard output must not be tried again at the end.
         os.dup2(os.open(os.devnull, os.O_WRONLY), sys.stdout.fileno())
-        return fail(f"{error.filename or 'the output could not be written whole'}: {error.strerror or error}")
+        return fail(reason(error) if error.filename else f"the output could not be written whole: {reason(error)}")
+
+
+def reason(error: Exception) -> str:
+    """An error in words, without its number."""
+    if isinstance(error, OSError) and error.strerror:
+        return f"{error.filename}: {error.strerror}" if error.filename else error.strerror
+    return str(error)
 
 
 def fail(text: str) -> int:
@@ -80,8 +87,8 @@ def day(given, clock: Clock) -> int:
                 fail(fault)
             status = max(status, ERROR)
             continue
-        except (FileExistsError, ProgramError, ValueError) as error:
-            status = max(status, fail(f"{path}: {error}"))
+        except (OSError, ProgramError, ValueError) as error:
+            status = max(status, fail(f"{path}: {reason(error)}"))
             continue
         print(said(outcome))
         status = max(status, REFUSED if outcome.refusal else GOOD if outcome.within else OUTSIDE)
@@ -108,6 +115,8 @@ def whole_morning(given, clock: Clock) -> int:
         return fail(f"{out} was not made by a morning, and is not replaced")
     if folder.resolve().is_relative_to(out.resolve()):
         return fail(f"{out} holds what the morning reads")
+    if not morning.found(folder):
+        return fail(f"{folder}: no sheets (.toml) and no .records files")
     rows = morning.run(Program(given.program), folder, out, clock)
     print(table(rows))
     print(f"{morning.summary(rows)}; {out / morning.INDEX}")

@@ -34,6 +34,11 @@ def kind_of(value):
     return kinds.get(type(value), "a date or time")
 
 
+def printable(text):
+    """Text for one line."""
+    return "".join(letter if letter.isprintable() else "?" for letter in text)
+
+
 def short(value):
     """A value as it was typed, cut to a readable length."""
     text = repr(value) if type(value) is str else str(value)

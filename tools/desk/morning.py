@@ -6,7 +6,6 @@ import json
 import os
 import shutil
 import sys
-import tomllib
 from dataclasses import dataclass
 from fractions import Fraction
 from html import escape
@@ -19,6 +18,7 @@ from desk.outcome import Outcome, of_file
 from desk.program import Program, ProgramError
 
 INDEX, MADE = "index.html", "morning.json"  # a folder with the second was made by a morning, and may be replaced
+OLD = ".old"  # ends the name of a folder that is moved aside
 DAY_KEYS = {"date", "unit", "opening", "instructions"}
 
 
@@ -72,8 +72,8 @@ def by_fate(outcome: Outcome) -> str:
 def is_unit_file(path: Path) -> bool:
     """Whether a TOML file is a unit's, which sheets share."""
     try:
-        table = tomllib.loads(path.read_text(encoding="utf-8"))
-    except (OSError, ValueError, RecursionError):
+        table = sheets.parse(path)
+    except sheets.SheetError:
         return False
     return "capacity" in table and not DAY_KEYS & table.keys()
 
@@ -140,10 +140,14 @@ def beside(out: Path, process: int) -> Path:
 
 
 def remove_left_over(out: Path) -> None:
-    """Removes what mornings that were cut off have left beside the folder."""
-    for path in out.parent.glob(f".{glob.escape(out.name)}.*") if out.parent.is_dir() else []:
-        process = path.name.rsplit(".", 1)[1]
-        if process.isdecimal() and not runs(int(process[:9])):
+    """Removes what mornings that were cut off have left beside the folder; one that was moved aside comes back."""
+    for path in sorted(out.parent.glob(f".{glob.escape(out.name)}.*"), reverse=True) if out.parent.is_dir() else []:
+        process = path.name.removesuffix(OLD).rsplit(".", 1)[1]
+        if not process.isdecimal() or runs(int(process[:9])):
+            continue
+        if path.name.endswith(OLD) and not out.exists():
+            os.rename(path, out)
+        else:
             shutil.rmtree(path, ignore_errors=True)
 
 
@@ -163,7 +167,7 @@ def put_in_place(new: Path, out: Path) -> None:
     if not out.exists():
         os.rename(new, out)
     elif not exchange(new, out):
-        old = new.with_name(f"{new.name}.old")
+        old = new.with_name(new.name + OLD)
         os.rename(out, old)
         os.rename(new, out)
         shutil.rmtree(old)
@@ -196,12 +200,19 @@ def index(folder: Path, rows: list[Row]) -> str:
 
 def data(rows: list[Row]) -> str:
     """The morning's table for other programs."""
-    keys = [head.lstrip("#") for head in HEADS]
-    found = [{**dict(zip(keys, row.cells())), "accepted": row.closed, "status": row.status} for row in rows]
+    found = []
+    for row in rows:
+        one = {"file": row.path.name, "unit": row.unit, "date": row.date, "accepted": row.closed, "answer": row.answer}
+        if row.closed:
+            fates = row.outcome.listing.fates
+            one["fates"] = {str(fate): fates.count(fate) for fate in sorted(set(fates))}
+            one["MWh"] = float(row.outcome.energy)
+        found.append(one | {"status": row.status})
     return json.dumps(found, indent=1) + "\n"
 
 
 def summary(rows: list[Row]) -> str:
     accepted = [row for row in rows if row.closed]
     total = sum((row.outcome.energy for row in accepted), start=Fraction(0))
-    return f"{len(rows)} days: {len(accepted)} accepted, {len(rows) - len(accepted)} refused; {report.fixed(total, 4)} MWh"
+    days = "1 day" if len(rows) == 1 else f"{len(rows)} days"
+    return f"{days}: {len(accepted)} accepted, {len(rows) - len(accepted)} refused; {report.fixed(total, 4)} MWh"

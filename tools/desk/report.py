@@ -23,7 +23,7 @@ OUTSIDE = "This page is no part of what is proved: it shows what the proved prog
 
 NOTE = """Exact: twice the exact area divided by 216,000, so that it compares with a sum of kW. Allowed: the price list's figure,
 108,000 for each half-hour and twice stops times distance for each course having time there, divided likewise."""
-UNBROKEN = ("issued", "effective", "acting", "date", "file")
+UNBROKEN = ("issued", "effective", "acting", "fate", "date", "file")
 
 
 def fixed(value, places):

@@ -16,7 +16,7 @@ from desk.clock import ZONE, Clock, zone_named
 from desk.days import Day
 from desk.exact import HALF_HOURS
 from desk.fields import INSTRUCTION, OPENING, TRIGGER, UNIT, Code, Table, Triggers
-from desk.measures import Wrong, kind_of, short
+from desk.measures import Wrong, kind_of, printable, short
 
 UNKNOWN = "unknown"  # the date of a sheet that was made from records
 TOP = ("date", "zone", "unit", "opening", "instructions", "rest")
@@ -44,7 +44,7 @@ class SheetError(Exception):
 def parse(path: Path) -> dict:
     """The tables of a TOML file, decimals exact."""
     try:
-        text = path.read_bytes().decode()
+        text = path.read_bytes().decode("utf-8-sig")
     except OSError as error:
         raise SheetError([f"{path}: {error.strerror}"]) from None
     except UnicodeDecodeError:
@@ -52,7 +52,7 @@ def parse(path: Path) -> dict:
     try:
         return tomllib.loads(text, parse_float=Decimal)
     except ValueError as error:
-        raise SheetError([f"{path}{toml_fault(text, str(error))}"]) from None
+        raise SheetError([printable(f"{path}{toml_fault(text, str(error))}")]) from None
     except RecursionError:
         raise SheetError([f"{path}: tables within tables too deep"]) from None
 
@@ -86,7 +86,7 @@ class Reader:
         """One fault: file, table (or line of a CSV file) and field."""
         shown = table if table.startswith("line ") or not table else f"[{table}]"
         where = ", ".join(part for part in (str(self.file), shown, field) if part)
-        self.faults.append(f"{where}: {words}")
+        self.faults.append(printable(f"{where}: {words}"))
 
     def known(self, table, value, keys):
         """Every key of a table has to be one of these."""
@@ -255,7 +255,7 @@ def read_unit(reader, sheet, day):
     if type(name) is not str:
         reader.fault(table, "name", f"{kind_of(name)}, where text is wanted")
     else:
-        day.unit_name = name
+        day.unit_name = printable(name)
     day.unit = reader.table(table, unit, UNIT, also=("name",))
 
 

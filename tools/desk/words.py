@@ -12,7 +12,7 @@ FATES = {
     2: "merged or outranked",
     3: "repeated",
     4: "voided by FAIL",
-    5: "FAIL, no course of its own",
+    5: "FAIL",
     6: "overtaken",
     7: "no effect",
     8: "after the day's end",

@@ -5,6 +5,7 @@ import textwrap
 from desk import words
 from desk.days import Day
 from desk.fields import INSTRUCTION, KINDS, NUMBERS, OPENING, TRIGGER, UNIT, Code, Table, Triggers
+from desk.measures import printable
 from desk.program import Refusal
 
 
@@ -37,11 +38,6 @@ def given(instruction):
     """An instruction without the figures that it need not carry."""
     needed = ("effective", "issue", "code") + (("level",) if instruction["code"] == Code.MWOF else ())
     return {key: value for key, value in instruction.items() if key in needed or value}
-
-
-def printable(name):
-    """A file's name for a comment of one line."""
-    return "".join(letter if letter.isprintable() else "?" for letter in name)
 
 
 def rest(data):
