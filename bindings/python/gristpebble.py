@@ -50,6 +50,9 @@ def _library() -> Path:
     places = [Path(named).absolute()] if named else [_HERE / _NAME, _HERE.parents[1] / "target" / "staticlib" / _NAME]
     for place in places:
         if place.exists():
+            static = place.with_suffix(".a")
+            if static.exists() and static.stat().st_mtime > place.stat().st_mtime:
+                raise OSError(f"{place} is older than {static.name} beside it; bindings/python/build makes it anew")
             return place
     raise FileNotFoundError(f"no library at {' or '.join(map(str, places))}; bindings/python/build makes it")
 

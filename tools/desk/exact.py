@@ -5,7 +5,7 @@ worked out here once more from the unit's data and the paper.
 """
 
 from bisect import bisect_left, bisect_right
-from collections.abc import Iterator, Sequence
+from collections.abc import Iterable, Iterator, Sequence
 from dataclasses import dataclass, field
 from fractions import Fraction
 from itertools import accumulate
@@ -18,6 +18,7 @@ ROUNDING, DOUBLED = 108_000, 216_000  # grain-seconds allowed for each half-hour
 
 Hold = tuple[int, int]  # level in grains, seconds
 Segment = Sequence[int]  # from, to (seconds), first and last level (grains)
+Piece = tuple[Rational, Rational, int, Rational]  # from, to (seconds of the day), level at first (grains), slope
 
 
 @dataclass(slots=True)
@@ -130,7 +131,7 @@ class Course:
             return [(level, holds[level]) for level in sorted(holds) if self.start < level <= self.target]
         return [(level, holds[level]) for level in sorted(holds, reverse=True) if self.target <= level < self.start]
 
-    def pieces(self) -> Iterator[tuple[Rational, Rational, int, int]]:
+    def pieces(self) -> Iterator[Piece]:
         """Straight pieces of the exact course up to its end: from, to (seconds of the day), level at first, slope."""
         time, level = self.begin, self.start
         for stop, hold in self.stops:
@@ -147,33 +148,29 @@ class Course:
             yield time, self.end, level, 0
 
 
-def exact_areas(courses: Sequence[Course], half_hours: int = HALF_HOURS) -> list[Rational]:
-    """Twice the exact area of each half-hour, in grain-seconds."""
+def doubled_areas(pieces: Iterable[Piece], half_hours: int) -> list[Rational]:
+    """Twice the area below straight pieces in each half-hour, in grain-seconds."""
     areas: list[Rational] = [0] * half_hours
-    for course in courses:
-        for first, last, level, slope in course.pieces():
-            at, here = first, level
-            while at < last:
-                half_hour = int(at // HALF_HOUR)
-                to = min(last, (half_hour + 1) * HALF_HOUR)
-                there = level + slope * (to - first) if slope else level
-                areas[half_hour] += (to - at) * (here + there)
-                at, here = to, there
+    for first, last, level, slope in pieces:
+        at, here = first, level
+        while at < last:
+            half_hour = int(at // HALF_HOUR)
+            to = min(last, (half_hour + 1) * HALF_HOUR)
+            there = level + slope * (to - first) if slope else level
+            areas[half_hour] += (to - at) * (here + there)
+            at, here = to, there
     return areas
 
 
+def exact_areas(courses: Sequence[Course], half_hours: int = HALF_HOURS) -> list[Rational]:
+    """Twice the exact area of each half-hour."""
+    return doubled_areas((piece for course in courses for piece in course.pieces()), half_hours)
+
+
 def recorded_quantities(segments: Sequence[Segment], half_hours: int = HALF_HOURS) -> list[int]:
-    """The quantities that the printed segments give: twice their area in each half-hour, rounded as the paper has it."""
-    areas: list[Rational] = [0] * half_hours
-    for first, last, level, end in segments:
-        at, here = first, level
-        while at < last:
-            half_hour = at // HALF_HOUR
-            to = min(last, (half_hour + 1) * HALF_HOUR)
-            there = level + Fraction((end - level) * (to - first), last - first) if level != end else level
-            areas[half_hour] += (to - at) * (here + there)
-            at, here = to, there
-    return [(area + ROUNDING) // DOUBLED for area in areas]
+    """The quantities that the printed segments give, rounded as the paper has it."""
+    pieces = ((first, last, level, Fraction(end - level, last - first)) for first, last, level, end in segments)
+    return [(area + ROUNDING) // DOUBLED for area in doubled_areas(pieces, half_hours)]
 
 
 class Balance:

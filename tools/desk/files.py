@@ -10,7 +10,7 @@ from pathlib import Path
 from desk import report, words
 from desk.clock import Clock
 from desk.fields import HEATS, acting
-from desk.outcome import Outcome, short
+from desk.outcome import Outcome
 
 MEASURES = {"levels, quantities": "kW", "rates": "kW/min", "times": "seconds from 06:00"}
 MEASURES["levels of opening, segments and closing"] = "grains, 1/60 kW"
@@ -65,8 +65,8 @@ def table(outcome: Outcome) -> str:
 
 
 def moment(clock: Clock, second: int) -> str:
-    """A boundary: date and time with its offset, or the time of day where no date is known."""
-    return clock.moment(second).isoformat() if clock.date else short(clock, second)
+    """Date and time with its offset, or the time of day where no date is known."""
+    return clock.moment(second).isoformat() if clock.date else clock.text(second)
 
 
 def data(outcome: Outcome) -> str:
@@ -103,7 +103,7 @@ def refusal(outcome):
 def instruction(outcome, place):
     one, clock = outcome.day.instructions[place], outcome.day.clock
     found = {"number": place + 1, **one, "code": words.code_name(one["code"])}
-    found |= {"effective_time": moment(clock, one["effective"]), "issue_time": clock.text(one["issue"])}
+    found |= {"effective_time": moment(clock, one["effective"]), "issue_time": moment(clock, one["issue"])}
     if outcome.listing:
         fate = outcome.listing.fates[place]
         found |= {"acting": acting(one), "fate": fate, "fate_in_words": words.FATES.get(fate), "rule": outcome.rule(place)}
