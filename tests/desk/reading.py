@@ -60,6 +60,12 @@ FAULTS = {
     "missing unit": ("date = 2026-11-16\n" + OPENING, "unit", "missing"),
     "missing opening": ("date = 2026-11-16\n" + UNIT, "opening", "missing"),
     "doubled field": (edit("msg = 100", "msg = 100\nmsg = 100"), "[unit], msg", "given twice"),
+    "doubled field in a line": (
+        edit("hot = { block = 0,", "hot = { block = 0, block = 1,"),
+        "[unit.columns], hot",
+        "block given twice",
+    ),
+    "doubled field over lines": (edit("msg = 100", "msg = 100\nmsg = [\n1,\n]"), "[unit], msg", "given twice"),
     "doubled table": (SHEET + OPENING, "[opening]", "given twice"),
     "wrong type": (edit("capacity = 400", "capacity = true"), "[unit], capacity", "true or false"),
     "text for a number": (edit("capacity = 400", 'capacity = "400"'), "[unit], capacity", "MW, kW"),

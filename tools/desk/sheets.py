@@ -62,14 +62,16 @@ def toml_fault(text, message):
     lines = text.splitlines() or [""]
     at = re.search(r"at line ([0-9]+)", message)
     place = min(int(at[1]), len(lines)) if at else len(lines)
-    while place > 1 and not lines[place - 1].strip():
-        place -= 1
+    while place > 1 and not re.search(r"=|^\s*\[", lines[place - 1]):
+        place -= 1  # to the line on which the field or the table begins
     tables = [line.strip() for line in lines[:place] if re.match(r"\s*\[", line)]
     line = lines[place - 1]
     field = line.split("=")[0].strip() if "=" in line else ""
     words = re.sub(r" \(at .*\)$", "", message)
     if message.startswith("Cannot"):
         words = "given twice"
+    elif inline := re.match(r"Duplicate inline table key '(.*)'", message):
+        words = f"{inline[1]} given twice"
     elif re.search(r"=\s*[0-9]{1,2}:[0-9]{2}\s*(#.*)?$", line):
         words = 'a time is written 06:30:00, or "06:30" as text'
     where = [f"line {place}"] + tables[-1:] + ([field] if field else [])
