@@ -147,6 +147,18 @@ class Reports(DeskTest):
                 )
         self.assertGreater(named, 100)
 
+    def test_keys_are_documented(self):
+        """Every key of the files for other programs stands in docs/SHEETS.md."""
+        text = (ROOT / "docs" / "SHEETS.md").read_text()
+        named = set(re.findall(r"`([^`]*)`", text))
+        data = json.loads(self.made(self.write("day.toml", SHEET))["json"])
+        rows = [data, data["instructions"][0], data["half_hours"][0], data["segments"][0], data["closing"]]
+        self.desk("morning", self.folder, "--out", self.folder / "all")
+        rows += json.loads((self.folder / "all" / "morning.json").read_text())
+        rows.append(json.loads(self.made(ROOT / "examples" / "refused.records")["json"])["refusal"])
+        for row in rows:
+            self.assertLessEqual(set(row), named)
+
     def test_nothing_outside_is_needed(self):
         for path in self.days():
             with self.subTest(path.name):

@@ -19,8 +19,6 @@ code{font-size:.9em;overflow-wrap:anywhere}
 @media print{body{margin:0;max-width:none;font-size:10.5px}h2{break-after:avoid}tr{break-inside:avoid}}
 """
 OUTSIDE = "This page is no part of what is proved: it shows what the proved program printed, and checks it with exact fractions."
-
-
 NOTE = """Exact: twice the exact area divided by 216,000, so that it compares with a sum of kW. Allowed: the price list's figure,
 108,000 for each half-hour and twice stops times distance for each course having time there, divided likewise."""
 UNBROKEN = ("issued", "effective", "acting", "fate", "date", "file")
