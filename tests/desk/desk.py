@@ -13,7 +13,7 @@ from pathlib import Path
 
 import support
 
-PARTS = ("reading", "roundtrip", "reports", "mornings", "browser")
+PARTS = ("reading", "roundtrip", "reports", "mornings", "building", "browser")
 
 
 def main() -> int:

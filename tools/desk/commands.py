@@ -18,6 +18,7 @@ from desk.outcome import Outcome, of_file, of_records
 from desk.program import Program, ProgramError
 
 GOOD, REFUSED, ERROR, OUTSIDE = 0, 1, 2, 3
+ENDING = (signal.SIGINT, signal.SIGTERM)
 
 
 def arguments() -> argparse.ArgumentParser:
@@ -40,7 +41,8 @@ def arguments() -> argparse.ArgumentParser:
 
 def main(words_: list[str] | None = None) -> int:
     given = arguments().parse_args(words_)
-    signal.signal(signal.SIGTERM, lambda *_: sys.exit(128 + signal.SIGTERM))
+    for number in ENDING:
+        signal.signal(number, stop)
     try:
         status = {"day": day, "morning": whole_morning, "sheet": sheet}[given.command](given, clock_of(given))
         sys.stdout.flush()
@@ -61,6 +63,13 @@ def reason(error: Exception) -> str:
     if isinstance(error, OSError) and error.strerror:
         return f"{error.filename}: {error.strerror}" if error.filename else error.strerror
     return str(error)
+
+
+def stop(number: int, _) -> None:
+    """The first signal ends the tool; no later one may break into what is tidied up then."""
+    for each in ENDING:
+        signal.signal(each, signal.SIG_IGN)
+    raise KeyboardInterrupt if number == signal.SIGINT else SystemExit(128 + number)
 
 
 def fail(text: str) -> int:

@@ -1,6 +1,7 @@
 """The proved program: builds it if need be, runs it on bytes, and says which record it refused."""
 
 import hashlib
+import signal
 import subprocess
 import sys
 from dataclasses import dataclass
@@ -37,6 +38,29 @@ class Refusal:
         return WORDS.get(self.number, "a refusal that this tool does not know")
 
 
+def build() -> None:
+    """Has the program proved and linked if need be.
+
+    Ctrl-C goes to the script as well, which ends the provers with it: so signals are only noted here until it has ended.
+    """
+    noted = []
+    with subprocess.Popen([ROOT / "profile", "--build"], stdin=subprocess.DEVNULL) as script:
+
+        def note(number, _):
+            noted.append(number)
+            if number == signal.SIGTERM:
+                script.terminate()
+
+        before = {number: signal.signal(number, note) for number in (signal.SIGINT, signal.SIGTERM)}
+        status = script.wait()
+    for number, handler in before.items():
+        signal.signal(number, handler)
+    if noted:
+        raise KeyboardInterrupt
+    if status:
+        raise ProgramError("the program could not be built")
+
+
 class Program:
     """The listing program of this repository, or another one at a path."""
 
@@ -44,9 +68,7 @@ class Program:
         self.own = path is None
         self.path = path or ROOT / "target" / "bin" / "profiler"
         if self.own:
-            built = subprocess.run([ROOT / "profile", "--build"], stdin=subprocess.DEVNULL)
-            if built.returncode:
-                raise ProgramError("the program could not be built")
+            build()
 
     def run(self, data: bytes) -> bytes:
         """What the program prints for these bytes: a listing, or the line of a refusal."""
