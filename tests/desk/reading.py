@@ -1,5 +1,7 @@
 """Sheets: what they say, and every error in them, each with file, table and field in words."""
 
+import random
+
 from support import INSTRUCTION, OPENING, ROOT, SHEET, UNIT, DeskTest
 
 from desk import records, sheets
@@ -153,7 +155,7 @@ class Faults(DeskTest):
     def test_no_utf8(self):
         self.refused(b"\xff\xfe", "UTF-8", "")
         self.write("day.csv", b"\xff\xfe")
-        self.refused('date = 2026-11-16\ninstructions = "day.csv"\n' + UNIT + OPENING, "day.csv", "no CSV file")
+        self.refused('date = 2026-11-16\ninstructions = "day.csv"\n' + UNIT + OPENING, "day.csv", "UTF-8")
 
     def test_each_fault_is_one_line(self):
         for sheet in (
@@ -180,6 +182,56 @@ class Faults(DeskTest):
         self.assertIn("good: Unit under test", out)
         self.assertEqual((self.folder / "good.records").read_bytes(), DOCUMENT01)
         self.assertFalse((self.folder / "bad.records").exists())
+
+
+# What is put into damaged sheets.
+PIECES = [
+    '"',
+    "[",
+    "]",
+    "{",
+    "}",
+    "=",
+    "\n",
+    ",",
+    "-1",
+    "nan",
+    "1e400",
+    "true",
+    "06:00:00",
+    "2026-11-16",
+    '"25:61"',
+    '"12:00 -99"',
+]
+PIECES += [
+    '"1 kW"',
+    '"\\u0000"',
+    "9999-12-31T23:59:59Z",
+    "0001-01-01T00:00:00",
+    "99999999999999999999",
+    "[unit]",
+    "\x00",
+    "\u2028",
+]
+
+
+def damaged(chance: random.Random, text: str) -> str:
+    """A text with a few places changed, lines doubled, and values put in the place of others."""
+    for _ in range(chance.randint(1, 4)):
+        lines, at = text.split("\n"), chance.randrange(len(text) + 1)
+        place = chance.randrange(len(lines))
+        match chance.randrange(4):
+            case 0:
+                text = text[:at] + chance.choice(PIECES) + text[at:]
+            case 1:
+                text = text[:at] + text[at + chance.choice((1, 2, 5, 20)) :]
+            case 2:
+                lines[place] = lines[place].split("=")[0] + "= " + chance.choice(PIECES)
+                text = "\n".join(lines)
+            case 3:
+                lines.insert(chance.randrange(len(lines)), lines[place])
+                text = "\n".join(lines)
+    return text
 
 
 class Sheets(DeskTest):
@@ -233,6 +285,24 @@ class Sheets(DeskTest):
                 self.records(edit("2026-11-16", day))
         for day in ("2026-03-29", "2026-03-27", "2026-10-25"):
             self.records(edit("2026-11-16", day))
+
+    def test_damaged_sheets(self):
+        """They give records, or errors of a line each; nothing else."""
+        chance, outcomes = random.Random(20261116), [0, 0]
+        csv_text = HEAD + "06:00:00,06:00:00,MWOF,103,,\n05:50,06:30,TRIP,,,\n"
+        for number in range(600):
+            sheet = damaged(chance, SHEET)
+            if number % 3 == 0:
+                self.write("day.csv", damaged(chance, csv_text))
+                sheet = 'date = 2026-11-16\ninstructions = "day.csv"\n' + UNIT + OPENING
+            with self.subTest(number):
+                try:
+                    self.records(sheet)
+                    outcomes[0] += 1
+                except sheets.SheetError as error:
+                    self.assertTrue(error.faults and all(": " in fault and fault.isprintable() for fault in error.faults))
+                    outcomes[1] += 1
+        self.assertGreater(min(outcomes), 10)
 
     def test_mark_of_utf8(self):
         self.assertEqual(self.records("\ufeff" + SHEET.replace("\n", "\r\n")), DOCUMENT01)

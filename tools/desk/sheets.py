@@ -41,14 +41,21 @@ class SheetError(Exception):
         self.faults, self.unit, self.date = faults, unit, date
 
 
+def text_of(path: Path) -> str:
+    """The text of a file."""
+    try:
+        return path.read_bytes().decode("utf-8-sig")
+    except OSError as error:
+        raise SheetError([printable(f"{path}: {error.strerror}")]) from None
+    except UnicodeDecodeError:
+        raise SheetError([printable(f"{path}: no text in UTF-8")]) from None
+    except ValueError:
+        raise SheetError([printable(f"{path}: no name of a file")]) from None
+
+
 def parse(path: Path) -> dict:
     """The tables of a TOML file, decimals exact."""
-    try:
-        text = path.read_bytes().decode("utf-8-sig")
-    except OSError as error:
-        raise SheetError([f"{path}: {error.strerror}"]) from None
-    except UnicodeDecodeError:
-        raise SheetError([f"{path}: no text in UTF-8, so no sheet"]) from None
+    text = text_of(path)
     try:
         return tomllib.loads(text, parse_float=Decimal)
     except ValueError as error:
@@ -272,7 +279,7 @@ def read_opening(reader, sheet, day):
     day.opening = reader.table("opening", opening, OPENING, ("off",), ("after",))
     if type(opening) is not dict:
         return
-    if "off" not in opening and day.opening["level"] == 0 and len(reader.faults) == before:
+    if len(reader.faults) == before and "off" not in opening and day.opening["level"] == 0:
         reader.fault("opening", "off", "missing, where the level is 0")
     after = opening.get("after", 0)
     if type(after) is not int or after < 0:
@@ -303,12 +310,12 @@ def read_instruction(reader, table, value):
 def read_csv(reader):
     """The instructions of a CSV file, by its first line's names; an empty cell counts as missing."""
     try:
-        text = reader.file.read_bytes().decode("utf-8-sig")
-        rows = [(line, row) for line, row in numbered(csv.reader(io.StringIO(text, newline=""), strict=True)) if any(row)]
-    except OSError as error:
-        reader.fault("", "", error.strerror)
+        text = io.StringIO(text_of(reader.file), newline="")
+        rows = [(line, row) for line, row in numbered(csv.reader(text, strict=True)) if any(row)]
+    except SheetError as error:
+        reader.faults += error.faults
         return []
-    except (UnicodeDecodeError, csv.Error) as error:
+    except csv.Error as error:
         reader.fault("", "", f"no CSV file: {error}")
         return []
     keys = columns(reader, rows[0] if rows else (1, []))
