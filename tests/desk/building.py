@@ -6,6 +6,7 @@ import select
 import shutil
 import subprocess
 import time
+from pathlib import Path
 
 from support import PROFILER, ROOT, DeskTest
 
@@ -21,6 +22,14 @@ mkdir -p target/bin
 cp {PROFILER} target/bin/profiler
 """
 WAIT = 20
+
+
+def running(process):
+    """Whether a process is there and has not ended."""
+    try:
+        return Path(f"/proc/{process}/stat").read_text().rsplit(")", 1)[1].split()[0] != "Z"
+    except OSError:
+        return False
 
 
 class Building(DeskTest):
@@ -71,9 +80,9 @@ class Building(DeskTest):
             status, prover = self.interrupt()
             self.assertEqual(status, 130)
             until = time.monotonic() + WAIT
-            while os.path.exists(f"/proc/{prover}") and time.monotonic() < until:
+            while running(prover) and time.monotonic() < until:
                 time.sleep(0.02)
-            self.assertFalse(os.path.exists(f"/proc/{prover}"))
+            self.assertFalse(running(prover))
             self.assertFalse(self.out.exists())
 
     def interrupt(self):
