@@ -165,6 +165,10 @@ class Faults(DeskTest):
         ):
             self.assertEqual(len(self.refused(sheet, "", "")), 1)
 
+    def test_a_wrong_date_makes_no_wrong_times(self):
+        sheet = edit("effective = 06:00:00", "effective = 2026-11-17T01:30:00", edit("date = 2026-11-16\n", ""))
+        self.assertEqual(len(self.refused(sheet, "date", "missing")), 1)
+
     def test_all_at_once(self):
         sheet = edit("level = 103", "level = 103.0005", edit('"hot"', '"tepid"', edit("msg = 100\n", "")))
         self.assertEqual(len(self.refused(sheet, "", "")), 3)

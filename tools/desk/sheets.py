@@ -16,7 +16,7 @@ from desk.clock import ZONE, Clock, zone_named
 from desk.days import Day
 from desk.exact import HALF_HOURS
 from desk.fields import INSTRUCTION, OPENING, TRIGGER, UNIT, Code, Table, Triggers
-from desk.measures import Wrong, kind_of, printable, short
+from desk.measures import Time, Wrong, kind_of, printable, short
 
 UNKNOWN = "unknown"  # the date of a sheet that was made from records
 TOP = ("date", "zone", "unit", "opening", "instructions", "rest")
@@ -86,9 +86,10 @@ def toml_fault(text, message):
 
 
 class Reader:
-    """Reads the tables of one file by the fields of the records, and keeps every fault."""
+    """Reads the tables of one file by the fields of the records, and keeps every fault. Without a clock, as date or zone are
+    wrong, times are not looked at."""
 
-    def __init__(self, file: Path, clock: Clock, faults: list):
+    def __init__(self, file: Path, clock: Clock | None, faults: list):
         self.file, self.clock, self.faults = file, clock, faults
 
     def fault(self, table, field, words):
@@ -106,6 +107,8 @@ class Reader:
 
     def figure(self, table, name, value, field):
         """One figure, which has to fit in its bytes; 0 where it is wrong."""
+        if self.clock is None and isinstance(field.measure, Time):
+            return 0
         most = 2 ** (8 * field.width - field.signed)
         try:
             number = field.measure.read(value, self.clock)
@@ -182,10 +185,9 @@ def listed(names):
 def read(path: Path) -> Day:
     """The day of a sheet, or SheetError with every fault of it."""
     sheet, faults = parse(path), []
-    clock = clock_of(path, sheet, faults)
-    reader = Reader(path, clock, faults)
+    reader = Reader(path, clock_of(path, sheet, faults), faults)
     reader.known("", sheet, TOP)
-    day = Day(path.stem, clock, inputs=[path])
+    day = Day(path.stem, reader.clock or Clock(), inputs=[path])
     day.rest = rest_of(reader, sheet)
     read_unit(reader, sheet, day)
     read_opening(reader, sheet, day)
@@ -193,13 +195,13 @@ def read(path: Path) -> Day:
     if day.after > len(day.instructions):
         reader.fault("opening", "after", f"{day.after} is more than the instructions, {len(day.instructions)}")
     if faults:
-        raise SheetError(faults, day.unit_name, str(clock.date or ""))
+        raise SheetError(faults, day.unit_name, str(day.clock.date or ""))
     return day
 
 
 def clock_of(path, sheet, faults):
-    """The clock of the sheet's date and zone. One without a date serves to find further faults."""
-    reader = Reader(path, Clock(), faults)
+    """The clock of the sheet's date and zone, or None where they are wrong."""
+    reader = Reader(path, None, faults)
     day, zone = sheet.get("date"), sheet.get("zone", ZONE)
     if day is None:
         reader.fault("", "date", "missing")
@@ -209,13 +211,15 @@ def clock_of(path, sheet, faults):
         zone_named(zone)
     except Wrong as wrong:
         reader.fault("", "zone", str(wrong))
-    if faults or day == UNKNOWN:
+    if faults:
+        return None
+    if day == UNKNOWN:
         return Clock()
     try:
         clock = Clock(day, zone)
     except Wrong as wrong:
         reader.fault("", "date", str(wrong))
-        return Clock()
+        return None
     if clock.half_hours != HALF_HOURS:
         reader.fault("", "date", clock_change(clock))
     return clock
