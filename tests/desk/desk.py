@@ -13,7 +13,7 @@ from pathlib import Path
 
 import support
 
-PARTS = ("reading", "roundtrip", "reports", "mornings", "building", "browser")
+PARTS = ("reading", "roundtrip", "reports", "wording", "mornings", "building", "browser")
 
 
 def main() -> int:
@@ -24,7 +24,7 @@ def main() -> int:
     result = unittest.TextTestRunner(stream=sys.stdout, verbosity=0).run(suite)
     for test, reason in result.skipped:
         print(f"desk: not tried: {test.id()}: {reason}")
-    failed = len(result.failures) + len(result.errors)
+    failed = len({getattr(test, "test_case", test).id() for test, _ in result.failures + result.errors})
     print(f"desk: {result.testsRun - failed - len(result.skipped)} passed, {failed} failed")
     return int(failed > 0)
 

@@ -1,5 +1,6 @@
 """Mornings: one bad file stops no other; one that is cut off leaves the last one as it was."""
 
+import contextlib
 import json
 import os
 import pty
@@ -8,11 +9,12 @@ import signal
 import subprocess
 import sys
 import time
+from pathlib import Path
 from unittest import mock
 
 from support import PROFILER, ROOT, SHEET, DeskTest, quantities
 
-from desk import morning
+from desk import files, morning
 
 MORNING = ROOT / "examples" / "morning"
 DESK = [sys.executable, "-B", ROOT / "tools" / "desk" / "__main__.py"]
@@ -37,6 +39,7 @@ class Mornings(DeskTest):
         self.assertIn("2026-11-15-inishmor.toml, [instructions 2], level: 10.3333", out)
         self.assertIn("refusal 7, the effective time is outside the day: record 5, an instruction (DESY", out)
         rows = json.loads((self.out / "morning.json").read_text())
+        self.assertEqual(sum(row.get("MWh", 0) * 2000 for row in rows), kw)
         units = {row["unit"] for row in rows if row["accepted"]} | {rows[9]["unit"]}
         self.assertEqual((len(rows), len(units)), (11, 6))
         page = (self.out / "index.html").read_text()
@@ -80,8 +83,8 @@ class Mornings(DeskTest):
             self.assertEqual(self.desk("morning", self.folder)[0], 0)
         self.assertTrue((self.out / "b.html").exists())
         ended = subprocess.run(["sh", "-c", "echo $$"], capture_output=True, text=True, check=True).stdout.strip()
-        self.out.rename(self.folder / f".out.{ended}.old")
-        (self.folder / f".out.{ended}").mkdir()
+        self.out.rename(self.folder / f".out.desk-{ended}.old")
+        (self.folder / f".out.desk-{ended}").mkdir()
         self.write("b.toml", "date = ")
         morning.remove_left_over(self.out)
         self.assertTrue((self.out / "b.html").exists())
@@ -109,7 +112,7 @@ class Mornings(DeskTest):
         self.write("a.records", b"\x04")
         status, out, _ = self.desk("morning", self.folder)
         self.assertEqual(status, 1)
-        self.assertIn("another file of this name gives other records", out)
+        self.assertIn("the other file of this name gives other records", out)
 
     def test_unit_files_are_no_days(self):
         shutil.copy(MORNING / "units" / "derrybeg.toml", self.folder / "unit.toml")
@@ -169,8 +172,75 @@ class Mornings(DeskTest):
         self.assertEqual(ran.returncode, 1, ran.stderr)
         self.assertIn("11 days: 9 accepted, 2 refused", ran.stdout)
         program = json.loads((self.out / "2026-11-14-ballymoor.json").read_text())["program"]
-        self.assertRegex(program["commit"] or "no repository", "^[0-9a-f]{40}$|^no repository$")
+        source = ["--", "crates", "crates.txt"]
+        log, changes = (self.git("log", "-1", "--format=%H", *source), self.git("status", "--porcelain", *source))
+        self.assertEqual((program["commit"], program["changed"]), (log, None if changes is None else bool(changes)))
         self.assertIn(program["sha256"], (self.out / "2026-11-14-ballymoor.html").read_text())
+
+    def git(self, *words):
+        """What git prints here; None where there is no repository."""
+        ran = subprocess.run(["git", "-C", ROOT, *words], capture_output=True, text=True)
+        return None if ran.returncode else ran.stdout.strip()
+
+    def test_through_a_link(self):
+        (self.folder / "link").symlink_to(ROOT / "desk")
+        ran = subprocess.run([self.folder / "link", "--help"], capture_output=True, text=True)
+        self.assertEqual((ran.returncode, ran.stdout[:11]), (0, "usage: desk"))
+
+    def test_records_of_a_sheet_with_errors(self):
+        """Records that the tool wrote for a sheet are no day of their own, whatever becomes of the sheet."""
+        self.some("a")
+        self.desk("day", self.folder / "a.toml")
+        self.write("a.toml", SHEET.replace("level = 103", "level = 103.00001"))
+        status, out, _ = self.desk("morning", self.folder)
+        self.assertEqual((status, "1 day: 0 accepted, 1 refused" in out), (1, True), out)
+        self.write("a.toml", SHEET.replace("level = 103", "level = 104"))
+        status, out, _ = self.desk("morning", self.folder)
+        self.assertEqual((status, "1 day: 1 accepted" in out), (0, True), out)
+
+    def test_names_of_files(self):
+        """Names in capitals, names that are no text, links to nothing, folders, and the morning's own names: each has its row."""
+        self.write("E.TOML", SHEET)
+        self.write("index.toml", SHEET)
+        self.write("good.toml", SHEET)
+        (self.folder / "nothing.toml").symlink_to(self.folder / "none")
+        (self.folder / "folder.toml").mkdir()
+        Path(os.fsdecode(os.fsencode(self.folder) + b"/d\xeda.toml")).write_text(SHEET)
+        status, out, err = self.desk("morning", self.folder)
+        self.assertEqual((status, "6 days: 3 accepted, 3 refused" in out), (1, True), out + err)
+        self.assertTrue("index.html and morning.json are the morning's own" in out)
+        self.assertTrue("d?a.toml" in (self.out / "index.html").read_text())
+        self.assertTrue((self.out / "E.html").exists())
+
+    def test_a_fault_of_the_tool(self):
+        """Even that stops no other day."""
+        self.some("a", "b")
+        with mock.patch.object(files, "write", side_effect=[KeyError("x"), None]):
+            status, out, _ = self.desk("morning", self.folder)
+        self.assertEqual((status, "2 days: 1 accepted, 1 refused" in out), (1, True), out)
+
+    def test_folders_of_others_stay(self):
+        self.some("a")
+        self.write(".out.20261114/mine", "mine")
+        self.desk("morning", self.folder)
+        self.assertTrue((self.folder / ".out.20261114" / "mine").exists())
+
+    def test_output_that_cannot_be_written(self):
+        """Closed, or a pipe that does not block and that nobody empties: said in a line, and no success."""
+        words = [*DESK, "sheet", ROOT / "examples" / "forty-instructions.records", "--program", PROFILER]
+        ran = subprocess.run(["sh", "-c", 'exec "$@" >&-', "sh", *words], stderr=subprocess.PIPE, text=True)
+        self.assertEqual((ran.returncode, ran.stderr), (2, "desk: standard output is closed\n"))
+        ours, theirs = os.pipe()
+        os.set_blocking(theirs, False)
+        with contextlib.suppress(BlockingIOError):
+            while True:
+                os.write(theirs, bytes(4096))
+        ran = subprocess.run(words, stdout=theirs, stderr=subprocess.PIPE, text=True)
+        self.assertEqual(
+            (ran.returncode, ran.stderr), (2, "desk: the output could not be written whole: nobody empties the pipe\n")
+        )
+        os.close(ours)
+        os.close(theirs)
 
     def test_a_full_disk(self):
         """What could not be written whole is said, and is no success."""

@@ -5,6 +5,7 @@ import random
 from support import INSTRUCTION, OPENING, ROOT, SHEET, UNIT, DeskTest
 
 from desk import records, sheets
+from desk.clock import Clock
 
 DOCUMENT01 = (ROOT / "examples" / "document01.records").read_bytes()
 HEAD = "issue,effective,code,level,up,down\n"
@@ -34,7 +35,19 @@ FAULTS = {
     ),
     "after the day": (edit("effective = 06:00:00", "effective = 2026-11-17T06:00:00"), "[instructions 1], effective", "outside"),
     "another date": (edit("effective = 06:00:00", "effective = 2026-11-15T12:00:00"), "[instructions 1], effective", "outside"),
-    "parts of a second": (edit("issue = 06:00:00", "issue = 06:00:00.5"), "[instructions 1], issue", "no whole second"),
+    "parts of a second": (
+        edit("issue = 06:00:00", "issue = 06:00:00.5"),
+        "[instructions 1], issue",
+        "06:00:00.500000 is no whole second",
+    ),
+    "an exponent beyond measure": (edit("level = 103", "level = 1e9999999999999999999"), "[instructions 1], level", "'1e999"),
+    "digits beyond measure": (edit("level = 103", "level = " + "9" * 5000), "[[instructions]], level", "far too many digits"),
+    "hexadecimal digits beyond measure": (
+        edit("level = 103", "level = 0x" + "f" * 5000),
+        "[instructions 1], level",
+        "too many digits",
+    ),
+    "path of nothing": ('date = 2026-11-16\nunit = ""\n' + OPENING, "day.toml, unit", "Is a directory"),
     "no time": (edit("issue = 06:00:00", 'issue = "six"'), "[instructions 1], issue", "is no time"),
     "no time of day": (edit("issue = 06:00:00", 'issue = "25:00"'), "[instructions 1], issue", "no time of day"),
     "time of a wrong type": (edit("issue = 06:00:00", "issue = 6"), "[instructions 1], issue", "a time is wanted"),
@@ -90,8 +103,16 @@ FAULTS = {
     "instructions before the opening": (edit("off = 0", "off = 0\nafter = 2"), "[opening], after", "more than the instructions"),
     "bytes that are none": ('rest = "0g"\n' + SHEET, "rest", "hexadecimal"),
     "broken TOML": (edit("msg = 100", "msg = = 100"), "[unit], msg", ""),
-    "unit file that is missing": ('date = 2026-11-16\nunit = "none.toml"\n' + OPENING, "none.toml", "No such file"),
-    "CSV file that is missing": ('date = 2026-11-16\ninstructions = "none.csv"\n' + UNIT + OPENING, "none.csv", "No such file"),
+    "unit file that is missing": (
+        'date = 2026-11-16\nunit = "none.toml"\n' + OPENING,
+        "day.toml, unit",
+        "'none.toml': No such file",
+    ),
+    "CSV file that is missing": (
+        'date = 2026-11-16\ninstructions = "none.csv"\n' + UNIT + OPENING,
+        "day.toml, instructions",
+        "'none.csv': No such file",
+    ),
 }
 
 # The same for the CSV file of a sheet.
@@ -155,7 +176,11 @@ class Faults(DeskTest):
     def test_no_utf8(self):
         self.refused(b"\xff\xfe", "UTF-8", "")
         self.write("day.csv", b"\xff\xfe")
-        self.refused('date = 2026-11-16\ninstructions = "day.csv"\n' + UNIT + OPENING, "day.csv", "UTF-8")
+        self.refused(
+            'date = 2026-11-16\ninstructions = "day.csv"\n' + UNIT + OPENING,
+            "day.toml, instructions",
+            "'day.csv': no text in UTF-8",
+        )
 
     def test_each_fault_is_one_line(self):
         for sheet in (
@@ -240,7 +265,7 @@ def damaged(chance: random.Random, text: str) -> str:
 
 class Sheets(DeskTest):
     def records(self, sheet) -> bytes:
-        return sheets.read(self.write("day.toml", sheet)).records()
+        return sheets.read(self.write("day.toml", sheet), Clock()).records()
 
     def test_the_papers_day(self):
         self.assertEqual(self.records(SHEET), DOCUMENT01)

@@ -55,6 +55,13 @@ def table_with(page, head):
     return next(table for table in page.tables if head in table[0])
 
 
+def of_day(second):
+    """The time of day of a second, with the days after the first; no date, so every day has 24 hours."""
+    days, rest = divmod(second + 6 * 3600, 86_400)
+    text = f"{rest // 3600:02}:{rest // 60 % 60:02}:{rest % 60:02}"
+    return f"{text} {days:+}" if days else text
+
+
 def number(cell):
     return Fraction(cell.replace(",", "").removesuffix(" %"))
 
@@ -74,7 +81,6 @@ class Reports(DeskTest):
 
     def days(self):
         yield from vectors()
-        yield from sorted((ROOT / "examples" / "morning").glob("*derrybeg.toml"))
 
     def test_numbers_are_the_listings(self):
         for path in self.days():
@@ -92,8 +98,11 @@ class Reports(DeskTest):
                 self.assertEqual(data["sha256"]["records"], hashlib.sha256(files["records"]).hexdigest())
                 self.assertEqual(data["sha256"]["listing"], hashlib.sha256(printed).hexdigest())
                 page = Page(files["html"].decode())
-                for digest in data["sha256"].values():
-                    self.assertIn(digest, files["html"].decode())
+                for kind in ("csv", "html"):
+                    self.assertEqual(data["sha256"][kind], hashlib.sha256(files[kind]).hexdigest())
+                shown = dict(table_with(page, "figure")[1:])
+                self.assertEqual(shown["records, SHA-256"], data["sha256"]["records"])
+                self.assertEqual(shown["listing, SHA-256"], data["sha256"]["listing"])
                 if printed.startswith(b"X "):
                     self.assertEqual((data["accepted"], data["refusal"]["number"]), (False, int(printed[2:])))
                     self.assertIn(f"refusal {int(printed[2:])},", "".join(page.text))
@@ -105,7 +114,9 @@ class Reports(DeskTest):
         self.assertEqual([row["kW"] for row in data["half_hours"]], kw)
         self.assertEqual([one["fate"] for one in data["instructions"]], [fate for _, fate in lines["F"]])
         self.assertEqual([list(one.values()) for one in data["segments"]], lines["S"])
-        self.assertEqual(list(data["closing"].values()), lines["E"][0])
+        level, target, heat, off = lines["E"][0]
+        heat = ("hot", "warm", "cold")[heat - 1]
+        self.assertEqual(data["closing"], {"level": level, "target": target, "heat": heat, "off": off})
         self.assertEqual(data["total"]["kW"], sum(kw))
         self.assertTrue(data["within_allowance"])
         rows = table_with(page, "half-hour")[1:]
@@ -116,10 +127,30 @@ class Reports(DeskTest):
             self.assertEqual(one["kW"] - exact, difference)
             self.assertLessEqual(abs(difference), Fraction(one["allowed"]["fraction"]))
             self.assertLessEqual(abs(number(row[5]) - exact), Fraction(1, 10**6))
+        self.worst(data, table_with(page, "between"))
         if lines["F"]:
-            fates = [int(row[7].split(",")[0]) for row in table_with(page, "rule")[1:]]
-            self.assertEqual(fates, [fate for _, fate in lines["F"]])
-            self.assertTrue(all(row[8].endswith(".") for row in table_with(page, "rule")[1:]))
+            self.instructions(data["instructions"], table_with(page, "rule")[1:], [fate for _, fate in lines["F"]])
+
+    def worst(self, data, rows):
+        """The whole day, and the two boundaries that use most of the allowance."""
+        shares = [Fraction(one["share"]["fraction"]) for one in [*data["half_hours"], data["total"]]]
+        worst = Fraction(data["worst"]["share"]["fraction"])
+        self.assertGreaterEqual(worst, max(shares))
+        for row, one in zip(rows[1:], (data["total"], data["worst"]), strict=True):
+            self.assertIn(f"half-hours {one['first']} to {one['last']}", row[0])
+            self.assertEqual(number(row[1]), one["kW"])
+            self.assertLessEqual(abs(number(row[6]) - 100 * Fraction(one["share"]["fraction"])), Fraction(1, 200))
+
+    def instructions(self, entered, rows, fates):
+        """The table of instructions: times by the clock, acting times for those that have one, fates."""
+        for one, row, fate in zip(entered, rows, fates, strict=True):
+            acts = one["effective"] + (120 if one["code"] in ("MWOF", "MXON", "MXOF", "DESY") else 0)
+            acts = acts if fate in (0, 6, 7, 8) else None
+            self.assertEqual((one["acting"], one["fate"]), (acts, fate))
+            shown = [of_day(one["issue"]), of_day(one["effective"]), of_day(acts) if acts is not None else ""]
+            self.assertEqual(([row[1], row[2], row[6]], row[3]), (shown, one["code"]))
+            self.assertEqual(row[4], f"{one['level'] / 1000:,.3f}" if one["code"] == "MWOF" else "")
+            self.assertEqual((row[7], row[8]), (f"{fate}, {one['fate_in_words']}", one["rule"]))
 
     def test_rules_name_the_right_instruction(self):
         """Where a sentence names another instruction, that one is the reason."""
@@ -192,7 +223,7 @@ class Reports(DeskTest):
 
     def test_the_kept_picture(self):
         """The picture in docs/ is what the tool makes of its sheet now."""
-        outcome = of_sheet(self.program, ROOT / "examples" / "morning" / "2026-11-14-ballymoor.toml")
+        outcome = of_sheet(self.program, ROOT / "examples" / "morning" / "2026-11-14-ballymoor.toml", Clock())
         self.assertEqual(picture.svg(outcome), (ROOT / "docs" / "ballymoor.svg").read_text())
 
     def test_a_quantity_outside_its_allowance(self):
@@ -208,6 +239,7 @@ class Reports(DeskTest):
         data = json.loads((self.out / "day.json").read_text())
         self.assertFalse(data["within_allowance"])
         self.assertFalse(data["half_hours"][0]["within"])
+        self.assertTrue(any("half-hours 1 to 1: off by 10.0 kW" in fault for fault in data["faults"]))
         self.assertTrue(data["half_hours"][1]["within"])
 
     def test_a_profile_that_is_too_fast(self):
@@ -241,14 +273,56 @@ class Reports(DeskTest):
         self.assertIn("&lt;b&gt;&amp;", text)
 
     def test_nothing_is_overwritten(self):
-        """A day's files never take the place of what it was read from, nor of another day's."""
+        """A day's files never take the place of what this tool has not written, nor of another day's."""
         sheet = 'instructions = "day.csv"\n' + SHEET[: SHEET.index("[[instructions]]")]
         self.write("day.csv", "issue,effective,code,level,up,down\n06:00:00,06:00:00,MWOF,103,,\n")
-        before = {**self.files(), "day.toml": sheet.encode()}
-        status, _, err = self.desk("day", self.write("day.toml", sheet))
-        self.assertEqual((status, self.files()), (2, before))
-        self.assertIn("is not overwritten", err)
+        self.not_written("day.csv was not written by this tool", self.write("day.toml", sheet))
+        # Of two days with one name; of a customer's bytes beside the sheet that was made of them; of a file changed since.
         one, other = self.write("a/day.toml", SHEET), self.write("b/day.toml", SHEET.replace("level = 103", "level = 104"))
         status, _, err = self.desk("day", one, other, "--out", self.out)
-        self.assertEqual(status, 2)
-        self.assertIn("another day was written to", err)
+        self.assertEqual((status, "is another day's" in err), (2, True), err)
+        self.write("c/sent.records", self.program_records(SHEET))
+        self.not_written("sent.records was not written", self.write("c/sent.toml", SHEET.replace("level = 103", "level = 104")))
+        self.assertEqual(self.desk("day", self.write("d/day.toml", SHEET))[0], 0)
+        self.write("d/day.csv", "mine")
+        self.not_written("day.csv was not written by this tool, or was changed since", self.folder / "d" / "day.toml")
+
+    def program_records(self, sheet):
+        return of_sheet(self.program, self.write("made.toml", sheet), Clock()).records
+
+    def not_written(self, words, path):
+        before = self.files()
+        status, _, err = self.desk("day", path)
+        self.assertEqual((status, self.files()), (2, before))
+        self.assertTrue(words in err, err)
+
+    def test_a_corrected_sheet(self):
+        """What the tool itself wrote is written anew."""
+        path = self.write("day.toml", SHEET)
+        self.assertEqual(self.desk("day", path)[0], 0)
+        self.write("day.toml", SHEET.replace("level = 103", "level = 104"))
+        self.assertEqual(self.desk("day", path)[0], 0)
+        self.assertTrue("104000" in (self.folder / "day.csv").read_text())
+
+    def test_a_refused_sheet(self):
+        """Its report has what stands before the refusal, and no more."""
+        more = '\n[[instructions]]\neffective = {}\nissue = 06:00:00\ncode = "MWOF"\nlevel = {}\n'
+        sheet = SHEET + more.format("07:00:00", 3000) + more.format("08:00:00", 200)
+        files = self.made(self.write("day.toml", sheet))
+        self.assertEqual(files["listing"], b"X 9\n")
+        data = json.loads(files["json"])
+        self.assertEqual([one["level"] for one in data["instructions"]], [103_000])
+        self.assertEqual(data["refusal"]["record"], 4)
+        self.assertEqual(len(table_with(Page(files["html"].decode()), "instruction")), 2)
+
+    def test_an_unknown_date_is_given(self):
+        path = self.write("day.toml", SHEET.replace("date = 2026-11-16", 'date = "unknown"'))
+        self.assertEqual(self.desk("day", path, "--date", "2026-11-20")[0], 0)
+        self.assertEqual(json.loads((self.folder / "day.json").read_text())["date"], "2026-11-20")
+        self.assertEqual(self.desk("day", path, "--zone", "Foo/Bar")[0], 2)
+        self.assertEqual(self.desk("day", path, "--date", "2026-03-28")[0], 2)
+
+    def test_a_time_that_comes_twice(self):
+        """The offset tells the two apart."""
+        sheet = SHEET.replace("2026-11-16", "2026-10-26").replace("issue = 06:00:00", "issue = 2026-10-25T01:30:00+00:00")
+        self.assertTrue("01:30:00+00:00 -1" in self.made(self.write("day.toml", sheet))["html"].decode())

@@ -1,10 +1,13 @@
 """Bytes as sheets and back: the same bytes again, whatever they are."""
 
 import random
+import re
+import tomllib
 
 from support import ROOT, DeskTest, vectors
 
 from desk import sheets
+from desk.clock import Clock
 
 SEED, DAMAGED = 20261116, 200
 DATES = [(), ("--date", "2026-11-16"), ("--date", "2026-10-26"), ("--date", "2026-07-01", "--zone", "America/New_York")]
@@ -36,7 +39,7 @@ class RoundTrip(DeskTest):
         path = self.write("sent.records", data)
         status, text, err = self.desk("sheet", path, *words)
         self.assertIn(status, (0, 1), err)
-        self.assertEqual(sheets.read(self.write("sent.toml", text)).records(), data, text)
+        self.assertEqual(sheets.read(self.write("sent.toml", text), Clock()).records(), data, text)
         return text
 
     def test_every_vector(self):
@@ -54,7 +57,8 @@ class RoundTrip(DeskTest):
                 with self.subTest(path.name):
                     text = self.back(path.read_bytes())
                     self.assertIn(f"refusal {int(printed[2:])},", text)
-                    self.assertRegex(text, r"# It begins at byte \d+")
+                    start = int(re.search(r"# It begins at byte (\d+)", text)[1])
+                    self.assertEqual(bytes.fromhex(tomllib.loads(text)["rest"]), path.read_bytes()[start:])
 
     def test_damaged_bytes(self):
         chance, days = random.Random(SEED), [path.read_bytes() for path in vectors()]
@@ -93,4 +97,4 @@ class RoundTrip(DeskTest):
     def test_examples_have_sheets(self):
         for path in sorted((ROOT / "examples").glob("*.records")):
             with self.subTest(path.name):
-                self.assertEqual(sheets.read(path.with_suffix(".toml")).records(), path.read_bytes())
+                self.assertEqual(sheets.read(path.with_suffix(".toml"), Clock()).records(), path.read_bytes())

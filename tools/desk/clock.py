@@ -56,19 +56,18 @@ class Clock:
 
     def second(self, value) -> int:
         """What was typed, as seconds from 06:00."""
+        typed, days = value, 0
         if type(value) is str:
-            value = self.of_text(value.strip())
-        if type(value) is time:
-            value = (value, 0)
+            value, days = self.of_text(value.strip())
         if type(value) is datetime and self.date is None:
-            raise Wrong(f"{value}: the sheet's date is unknown, so a time of day is wanted")
-        if type(value) not in (tuple, datetime):
-            raise Wrong(f"{short(value)}, where a time is wanted")
-        if (value if type(value) is datetime else value[0]).microsecond:
-            raise Wrong(f"{value} is no whole second")
+            raise Wrong(f"{short(typed)}: the sheet's date is unknown, so a time of day is wanted")
+        if type(value) not in (time, datetime):
+            raise Wrong(f"{short(typed)}, where a time is wanted")
+        if value.microsecond:
+            raise Wrong(f"{short(typed)} is no whole second")
         if type(value) is datetime:
             return round((self.instant(value) - self.start).total_seconds())
-        of_day, days = value
+        of_day = value
         if self.date is not None:
             there = self.instant(datetime.combine(self.date + timedelta(days), of_day))
             return round((there - self.start).total_seconds())
@@ -84,7 +83,7 @@ class Clock:
         try:
             if ":" not in text:
                 raise ValueError
-            return datetime.fromisoformat(text)
+            return datetime.fromisoformat(text), 0
         except ValueError:
             words = "is no time; write 06:30, 06:30:00, 2026-11-17 01:30:00, or 01:30 +1 for the day after"
             raise Wrong(f"{short(text)} {words}") from None
@@ -104,14 +103,22 @@ class Clock:
     def text(self, second):
         """A second of the day for a reader: 09:30:00, or 01:30:00 +1."""
         days, of_day = self.parts(second)
-        return f"{of_day} {days:+d}" if days else str(of_day)
+        shown = self.moment(second).isoformat().split("T")[1] if self.comes_twice(second) else str(of_day)
+        return f"{shown} {days:+d}" if days else shown
+
+    def comes_twice(self, second):
+        """Whether the local time of a second comes twice, as the clocks go back."""
+        if self.date is None:
+            return False
+        there = self.moment(second)
+        return there.replace(fold=0).utcoffset() != there.replace(fold=1).utcoffset()
 
     def toml(self, second):
         """A second as a sheet has it; `second` reads it back."""
         if self.date is None:
             return f'"{self.text(second)}"'
         there = self.moment(second)
-        if there.replace(fold=0).utcoffset() != there.replace(fold=1).utcoffset():
+        if self.comes_twice(second):
             return there.isoformat()
         days, of_day = self.parts(second)
         return str(of_day) if days == 0 else there.replace(tzinfo=None).isoformat()

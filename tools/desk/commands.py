@@ -11,9 +11,9 @@ from datetime import date
 from pathlib import Path
 
 from desk import files, morning, report, sheets, words, writing
-from desk.clock import ZONE, Clock
+from desk.clock import ZONE, Clock, zone_named
 from desk.exact import HALF_HOURS
-from desk.measures import Wrong
+from desk.measures import Wrong, reason
 from desk.outcome import Outcome, of_file, of_records
 from desk.program import Program, ProgramError
 
@@ -25,7 +25,7 @@ def arguments() -> argparse.ArgumentParser:
     parser = argparse.ArgumentParser(prog="desk", description="The desk's tool: sheets in; listings, tables and pictures out.")
     commands = parser.add_subparsers(dest="command", required=True)
     of_date = argparse.ArgumentParser(add_help=False)
-    of_date.add_argument("--date", type=date.fromisoformat, help="the Trading Day of records files, which carry none: 2026-11-16")
+    of_date.add_argument("--date", type=date.fromisoformat, help="the Trading Day where records or sheet have none: 2026-11-16")
     of_date.add_argument("--zone", default=ZONE, help=f"its zone ({ZONE})")
     of_date.add_argument("--program", type=Path, help=argparse.SUPPRESS)  # another listing program, for tests
     day = commands.add_parser("day", parents=[of_date], help="works out days: NAME.records, .listing, .csv, .json, .html")
@@ -58,13 +58,6 @@ def main(words_: list[str] | None = None) -> int:
         return fail(reason(error) if error.filename else f"the output could not be written whole: {reason(error)}")
 
 
-def reason(error: Exception) -> str:
-    """An error in words, without its number."""
-    if isinstance(error, OSError) and error.strerror:
-        return f"{error.filename}: {error.strerror}" if error.filename else error.strerror
-    return str(error)
-
-
 def stop(number: int, _) -> None:
     """The first signal ends the tool; no later one may break into what is tidied up then."""
     for each in ENDING:
@@ -78,6 +71,8 @@ def fail(text: str) -> int:
 
 
 def clock_of(given) -> Clock:
+    """The clock of records files, and of sheets whose date is unknown."""
+    zone_named(given.zone)
     clock = Clock(given.date, given.zone)
     if clock.half_hours != HALF_HOURS:
         raise Wrong(f"--date: {sheets.clock_change(clock)}")
@@ -96,7 +91,7 @@ def day(given, clock: Clock) -> int:
                 fail(fault)
             status = max(status, ERROR)
             continue
-        except (OSError, ProgramError, ValueError) as error:
+        except Exception as error:
             status = max(status, fail(f"{path}: {reason(error)}"))
             continue
         print(said(outcome))

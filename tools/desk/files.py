@@ -1,6 +1,7 @@
 """The files of a day, side by side: records, listing, CSV, JSON, HTML. Each comes whole or not at all."""
 
 import csv
+import hashlib
 import io
 import json
 import os
@@ -10,33 +11,53 @@ from pathlib import Path
 from desk import report, words
 from desk.clock import Clock
 from desk.fields import HEATS, acting
+from desk.measures import printable
 from desk.outcome import Outcome
 
 MEASURES = {"levels, quantities": "kW", "rates": "kW/min", "times": "seconds from 06:00"}
 MEASURES["levels of opening, segments and closing"] = "grains, 1/60 kW"
-SUFFIXES = (".records", ".listing", ".csv", ".json", ".html")
 
 
 def contents(outcome: Outcome) -> dict[str, bytes]:
-    """What each file holds, by its suffix."""
-    made = (outcome.records, outcome.printed, table(outcome).encode(), data(outcome).encode(), report.html(outcome).encode())
-    return dict(zip(SUFFIXES, made, strict=True))
+    """What each file holds, by its suffix. The JSON file has the sums of all others."""
+    made = {".records": outcome.records, ".listing": outcome.printed}
+    made |= {".csv": table(outcome).encode(), ".html": report.html(outcome).encode()}
+    sums = {suffix.lstrip("."): digest(content) for suffix, content in made.items()}
+    return made | {".json": data(outcome, sums).encode()}
+
+
+def digest(content: bytes) -> str:
+    return hashlib.sha256(content).hexdigest()
+
+
+def own_sums(path: Path) -> dict[str, str]:
+    """The sums in a JSON file that this tool has written; none if there is no such file."""
+    try:
+        found = json.loads(path.read_bytes())
+        return {suffix: found["sha256"][suffix] for suffix in ("records", "listing", "csv", "html") if found["program"]}
+    except (OSError, ValueError, KeyError, TypeError, RecursionError):
+        return {}
+
+
+def is_own(path: Path) -> bool:
+    """Whether a day's file is as this tool has written it, by the JSON file beside it."""
+    sums = own_sums(path.with_name(path.stem + ".json"))
+    return bool(sums) if path.suffix == ".json" else sums.get(path.suffix.lstrip(".")) == digest(path.read_bytes())
 
 
 def write(outcome: Outcome, folder: Path, written: set[Path]) -> None:
-    """Writes the files beside each other. None is put in place before all are written, and none over a file that the day was
-    read from, or that stands in `written`, those of other days."""
+    """Writes the files beside each other. None is put in place before all are written; and none over a file that this tool has
+    not written, or that was changed since, or that stands in `written`, those of other days."""
     folder.mkdir(parents=True, exist_ok=True)
-    inputs = {path.resolve() for path in outcome.day.inputs}
     waiting = []
     try:
         for suffix, content in contents(outcome).items():
             path = folder / (outcome.day.name + suffix)
-            if path.resolve() in inputs | written:
-                if path.read_bytes() == content:
-                    continue
-                what = "this day was read from" if path.resolve() in inputs else "another day was written to"
-                raise FileExistsError(f"{path} is what {what}, and is not overwritten; name another folder (--out)")
+            if path.exists() and path.read_bytes() == content:
+                continue
+            if path.resolve() in written or (path.exists() and not is_own(path)):
+                what = "is another day's" if path.resolve() in written else "was not written by this tool, or was changed since"
+                raise FileExistsError(f"{path} {what}; it is not overwritten, name another folder (--out)")
             new = path.with_name(f".{path.name}.{os.getpid()}")
             waiting.append((new, path))
             new.write_bytes(content)
@@ -69,12 +90,12 @@ def moment(clock: Clock, second: int) -> str:
     return clock.moment(second).isoformat() if clock.date else clock.text(second)
 
 
-def data(outcome: Outcome) -> str:
+def data(outcome: Outcome, sums: dict[str, str]) -> str:
     """Everything, for other programs."""
     day, clock = outcome.day, outcome.day.clock
     found = {
-        "name": day.name,
-        "source": outcome.source.name,
+        "name": printable(day.name),
+        "source": printable(outcome.source.name),
         "unit_name": day.unit_name or None,
         "date": str(clock.date) if clock.date else None,
         "zone": clock.zone if clock.date else None,
@@ -86,7 +107,7 @@ def data(outcome: Outcome) -> str:
         "instructions": [instruction(outcome, place) for place in range(len(day.instructions))],
         "measures": MEASURES,
         **(closed(outcome) if outcome.refusal is None else {}),
-        "sha256": outcome.sums(),
+        "sha256": sums,
         "program": outcome.program,
     }
     return json.dumps(found, indent=1) + "\n"
@@ -106,7 +127,8 @@ def instruction(outcome, place):
     found |= {"effective_time": moment(clock, one["effective"]), "issue_time": moment(clock, one["issue"])}
     if outcome.listing:
         fate = outcome.listing.fates[place]
-        found |= {"acting": acting(one), "fate": fate, "fate_in_words": words.FATES.get(fate), "rule": outcome.rule(place)}
+        acts = acting(one) if fate in words.HAS_ACTING else None
+        found |= {"acting": acts, "fate": fate, "fate_in_words": words.FATES.get(fate), "rule": outcome.rule(place)}
     return found
 
 
@@ -133,5 +155,5 @@ def closed(outcome):
         "worst": span(found.worst),
         "within_allowance": found.within,
         "faults": words.faults(found),
-        "closing": outcome.listing.closing._asdict(),
+        "closing": {**outcome.listing.closing._asdict(), "heat": HEATS[outcome.listing.closing.heat - 1]},
     }

@@ -39,8 +39,18 @@ def printable(text):
     return "".join(letter if letter.isprintable() else "?" for letter in text)
 
 
+def reason(error: Exception) -> str:
+    """An error in one line, that of a file without its number."""
+    if isinstance(error, OSError) and error.strerror:
+        return printable(f"{error.filename}: {error.strerror}" if error.filename else error.strerror)
+    known = isinstance(error, (OSError, ValueError))
+    return printable(str(error) if known else f"a fault of this tool, {type(error).__name__}: {error}")
+
+
 def short(value):
     """A value as it was typed, cut to a readable length."""
+    if type(value) is int and value.bit_length() > 1000:
+        return "a number with far too many digits"
     text = repr(value) if type(value) is str else str(value)
     return text if len(text) <= 40 else text[:37] + "..."
 

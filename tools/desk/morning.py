@@ -1,9 +1,9 @@
 """A morning: every sheet and every records file of a folder, into a folder that is replaced only when it is whole."""
 
 import ctypes
-import glob
 import json
 import os
+import re
 import shutil
 import sys
 from dataclasses import dataclass
@@ -14,8 +14,9 @@ from urllib.parse import quote
 
 from desk import files, report, sheets, words
 from desk.clock import Clock
+from desk.measures import printable, reason
 from desk.outcome import Outcome, of_file
-from desk.program import Program, ProgramError
+from desk.program import Program
 
 INDEX, MADE = "index.html", "morning.json"  # a folder with the second was made by a morning, and may be replaced
 OLD = ".old"  # ends the name of a folder that is moved aside
@@ -54,7 +55,7 @@ class Row:
 
     def cells(self) -> list[str]:
         """File, unit, date, MWh, instructions by fate, answer."""
-        named = [self.path.name, self.unit, self.date]
+        named = [printable(self.path.name), self.unit, self.date]
         if not self.closed:
             return named + ["", "", self.answer]
         return named + [report.fixed(self.outcome.energy, 4), by_fate(self.outcome), self.answer]
@@ -78,31 +79,40 @@ def is_unit_file(path: Path) -> bool:
     return "capacity" in table and not DAY_KEYS & table.keys()
 
 
+def is_sheet(path: Path) -> bool:
+    return path.suffix.lower() == ".toml"
+
+
 def found(folder: Path) -> list[Path]:
-    """The sheets and records files of a folder, by name. Unit files are none, nor are hidden files."""
-    names = sorted(path for path in folder.iterdir() if path.suffix in (".toml", ".records") and not path.name.startswith("."))
-    return [path for path in names if path.is_file() and not (path.suffix == ".toml" and is_unit_file(path))]
+    """The sheets and records files of a folder by name, a sheet before records of the same name. Unit files are no days, nor
+    are hidden files, nor records that this tool has written beside their sheet."""
+    paths = [path for path in folder.iterdir() if path.suffix.lower() in (".toml", ".records") and not path.name.startswith(".")]
+    days = [path for path in paths if not (is_sheet(path) and is_unit_file(path))]
+    stems = {path.stem for path in days if is_sheet(path)}
+    kept = [path for path in days if is_sheet(path) or path.stem not in stems or not (path.is_file() and files.is_own(path))]
+    return sorted(kept, key=lambda path: (path.stem, not is_sheet(path), path.name))
 
 
 def work(program: Program, path: Path, clock: Clock, taken: dict[str, bytes], folder: Path) -> Row | None:
-    """One file's day, written; None for the records of a sheet that was done already. A bad file stops no other."""
+    """One file's day, written; None for records that are those of their sheet. A bad file stops no other."""
     try:
+        if path.stem in (Path(INDEX).stem, Path(MADE).stem):
+            raise ValueError(f"{INDEX} and {MADE} are the morning's own; give it another name")
         outcome = of_file(program, path, clock)
         row = Row(path, None, "", outcome.unit_name, outcome.date)
-        if taken.get(path.stem, outcome.records) != outcome.records:
-            row.fault = "not done: another file of this name gives other records"
-            return row
         if path.stem in taken:
-            return None
-        files.write(outcome, folder, set())
+            row.fault = "not done: the other file of this name gives other records"
+            return row if taken[path.stem] != outcome.records else None
         taken[path.stem] = outcome.records
+        files.write(outcome, folder, set())
         row.outcome = outcome
         return row
     except sheets.SheetError as error:
+        taken.setdefault(path.stem, b"")
         here = f"{path.parent}{os.sep}"
         return Row(path, None, "; ".join(fault.replace(here, "") for fault in error.faults), error.unit, error.date)
-    except (ProgramError, OSError, ValueError) as error:
-        return Row(path, fault=f"not done: {error}")
+    except Exception as error:
+        return Row(path, fault=f"not done: {reason(error)}")
 
 
 def show(text: str) -> None:
@@ -114,15 +124,14 @@ def show(text: str) -> None:
 
 def run(program: Program, folder: Path, out: Path, clock: Clock) -> list[Row]:
     """The morning's rows, in the order of the files; sheets come before records of the same name."""
-    paths = sorted(found(folder), key=lambda path: (path.stem, path.suffix != ".toml"))
-    out = out.resolve()
+    paths, out = found(folder), out.resolve()
     remove_left_over(out)
     new = beside(out, os.getpid())
     new.mkdir(parents=True)
     rows, taken = [], {}
     try:
         for place, path in enumerate(paths, 1):
-            show(f"{place} of {len(paths)}: {path.name}")
+            show(printable(f"{place} of {len(paths)}: {path.name}"))
             row = work(program, path, clock, taken, new)
             rows += [row] if row else []
         (new / INDEX).write_text(index(folder, rows), encoding="utf-8")
@@ -136,14 +145,15 @@ def run(program: Program, folder: Path, out: Path, clock: Clock) -> list[Row]:
 
 def beside(out: Path, process: int) -> Path:
     """Where a process makes what is to take a folder's place."""
-    return out.with_name(f".{out.name}.{process}")
+    return out.with_name(f".{out.name}.desk-{process}")
 
 
 def remove_left_over(out: Path) -> None:
     """Removes what mornings that were cut off have left beside the folder; one that was moved aside comes back."""
-    for path in sorted(out.parent.glob(f".{glob.escape(out.name)}.*"), reverse=True) if out.parent.is_dir() else []:
-        process = path.name.removesuffix(OLD).rsplit(".", 1)[1]
-        if not process.isdecimal() or runs(int(process[:9])):
+    ours = re.compile(rf"\.{re.escape(out.name)}\.desk-([0-9]{{1,9}})({re.escape(OLD)})?")
+    for path in sorted(out.parent.iterdir(), reverse=True) if out.parent.is_dir() else []:
+        match = ours.fullmatch(path.name)
+        if not match or runs(int(match[1])):
             continue
         if path.name.endswith(OLD) and not out.exists():
             os.rename(path, out)
@@ -189,11 +199,11 @@ def index(folder: Path, rows: list[Row]) -> str:
     for row in rows:
         cells = [escape(cell) for cell in row.cells()]
         if row.outcome:
-            cells[0] = f'<a href="{quote(row.path.stem)}.html">{cells[0]}</a>'
+            cells[0] = f'<a href="{quote(os.fsencode(row.path.stem))}.html">{cells[0]}</a>'
         if row.status:
             cells[-1] = f'<span class="bad">{cells[-1]}</span>'
         lines.append(cells)
-    name = folder.resolve().name
+    name = printable(folder.resolve().name)
     body = f"<h1>Morning, folder {escape(name)}</h1>\n<p>{escape(summary(rows))}</p>\n{report.table(HEADS, lines)}"
     return report.page(f"Morning, folder {name}", body + f'\n<p class="small">{report.OUTSIDE}</p>')
 
@@ -202,7 +212,7 @@ def data(rows: list[Row]) -> str:
     """The morning's table for other programs."""
     found = []
     for row in rows:
-        one = {"file": row.path.name, "unit": row.unit, "date": row.date, "accepted": row.closed, "answer": row.answer}
+        one = {"file": printable(row.path.name), "unit": row.unit, "date": row.date, "accepted": row.closed, "answer": row.answer}
         if row.closed:
             fates = row.outcome.listing.fates
             one["fates"] = {str(fate): fates.count(fate) for fate in sorted(set(fates))}

@@ -10,6 +10,7 @@ from desk import audit, days, listing, records, sheets, words
 from desk.clock import Clock
 from desk.exact import HALF_HOUR
 from desk.fields import acting
+from desk.measures import printable
 from desk.program import Program, Refusal
 
 
@@ -64,7 +65,7 @@ class Outcome:
 
     @property
     def title(self) -> str:
-        return f"{self.day.name}: {self.unit_name}, Trading Day {self.date}"
+        return f"{printable(self.day.name)}: {self.unit_name}, Trading Day {self.date}"
 
     @property
     def energy(self) -> Fraction:
@@ -99,18 +100,19 @@ def short(clock: Clock, second: int) -> str:
 
 
 def answer(program: Program, day: days.Day, source: Path, data: bytes) -> Outcome:
-    """The program's answer to a day's records. What stands in bytes that no sheet can say is read from them."""
+    """The program's answer to a day's records. Of a day that is refused, or that has bytes which no sheet can say, what was
+    let in is read from the records."""
     printed = program.run(data)
     refusal = program.refusal(data, printed)
-    if day.rest is not None:
+    if refusal or day.rest is not None:
         let_in = refusal.place - 1 if refusal else len(records.split(data))
         day = days.of_bytes(day, data, let_in)
     return Outcome(day, source, data, printed, refusal, program.identity)
 
 
-def of_sheet(program: Program, path: Path) -> Outcome:
+def of_sheet(program: Program, path: Path, clock: Clock) -> Outcome:
     """A sheet's day."""
-    day = sheets.read(path)
+    day = sheets.read(path, clock)
     return answer(program, day, path, day.records())
 
 
@@ -119,10 +121,10 @@ def of_records(program: Program, path: Path, clock: Clock) -> Outcome:
     try:
         data = path.read_bytes()
     except OSError as error:
-        raise sheets.SheetError([f"{path}: {error.strerror}"]) from None
+        raise sheets.Unreadable(path, error.strerror) from None
     return answer(program, days.Day(path.stem, clock, rest=data, inputs=[path]), path, data)
 
 
 def of_file(program: Program, path: Path, clock: Clock) -> Outcome:
     """The day of a sheet or of a records file."""
-    return of_records(program, path, clock) if path.suffix == ".records" else of_sheet(program, path)
+    return (of_records if path.suffix.lower() == ".records" else of_sheet)(program, path, clock)

@@ -115,11 +115,11 @@ def limits(outcome, scale):
         names.setdefault(unit[key], []).append(name)
     for kw, same in names.items():
         yield line(LEFT, scale.y(kw), RIGHT, scale.y(kw), 'class="limit"')
-    # Labels keep a line's height apart, from the lowest up.
-    below = Decimal(scale.bottom + 12)
-    for kw, same in sorted(names.items()):
-        below = min(scale.y(kw) - 3, below - 10)
-        yield text(RIGHT - 4, below, f"{', '.join(same)} {words.mw(kw)}", "end", ' class="name"')
+    # Labels keep a line's height apart, from the highest down.
+    above = Decimal(scale.top - 1)
+    for kw, same in sorted(names.items(), reverse=True):
+        above = max(scale.y(kw) - 3, above + 10)
+        yield text(RIGHT - 4, above, f"{', '.join(same)} {words.mw(kw)}", "end", ' class="name"')
 
 
 def profile(outcome, scale):

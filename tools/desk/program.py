@@ -18,7 +18,7 @@ WORDS = gristpebble.WORDS
 WAITS = b"X 2\n"  # what the program says of records that were all let in and do not close the day
 
 
-class ProgramError(Exception):
+class ProgramError(OSError):
     """The program could not be built or did not answer."""
 
 

@@ -6,6 +6,7 @@ from html import escape
 from desk import picture, words
 from desk.exact import HALF_HOUR
 from desk.fields import Code, acting
+from desk.measures import printable
 from desk.outcome import Outcome, short
 
 STYLE = """
@@ -67,7 +68,7 @@ def html(outcome: Outcome) -> str:
 def heading(outcome):
     clock = outcome.day.clock
     zone = f"times of {escape(clock.zone)}" if clock.date else "records carry no date; times count from 06:00"
-    return f"{escape(outcome.source.name)}; from 06:00 to 06:00, {clock.half_hours} half-hours; {zone}; +1 marks the day after"
+    return f"{escape(printable(outcome.source.name))}; from 06:00 to 06:00, {clock.half_hours} half-hours; {zone}; +1 marks the day after"
 
 
 def refused(outcome):

@@ -41,23 +41,39 @@ class SheetError(Exception):
         self.faults, self.unit, self.date = faults, unit, date
 
 
+class Unreadable(SheetError):
+    """A file that could not be read, and why."""
+
+    def __init__(self, path, why):
+        super().__init__([printable(f"{path}: {why}")])
+        self.why = why
+
+
 def text_of(path: Path) -> str:
     """The text of a file."""
     try:
         return path.read_bytes().decode("utf-8-sig")
     except OSError as error:
-        raise SheetError([printable(f"{path}: {error.strerror}")]) from None
+        raise Unreadable(path, error.strerror) from None
     except UnicodeDecodeError:
-        raise SheetError([printable(f"{path}: no text in UTF-8")]) from None
+        raise Unreadable(path, "no text in UTF-8") from None
     except ValueError:
-        raise SheetError([printable(f"{path}: no name of a file")]) from None
+        raise Unreadable(path, "no name of a file") from None
+
+
+def decimal(text: str) -> Decimal | str:
+    """A number as it is typed; text where its exponent is beyond all measure."""
+    try:
+        return Decimal(text)
+    except ArithmeticError:
+        return text
 
 
 def parse(path: Path) -> dict:
     """The tables of a TOML file, decimals exact."""
     text = text_of(path)
     try:
-        return tomllib.loads(text, parse_float=Decimal)
+        return tomllib.loads(text, parse_float=decimal)
     except ValueError as error:
         raise SheetError([printable(f"{path}{toml_fault(text, str(error))}")]) from None
     except RecursionError:
@@ -77,6 +93,8 @@ def toml_fault(text, message):
     words = re.sub(r" \(at .*\)$", "", message)
     if message.startswith("Cannot"):
         words = "given twice"
+    elif message.startswith("Exceeds the limit"):
+        words = "a number with far too many digits"
     elif inline := re.match(r"Duplicate inline table key '(.*)'", message):
         words = f"{inline[1]} given twice"
     elif re.search(r"=\s*[0-9]{1,2}:[0-9]{2}\s*(#.*)?$", line):
@@ -182,12 +200,12 @@ def listed(names):
     return ", ".join(names)
 
 
-def read(path: Path) -> Day:
-    """The day of a sheet, or SheetError with every fault of it."""
+def read(path: Path, unknown: Clock) -> Day:
+    """The day of a sheet, or SheetError with every fault of it. `unknown` is the clock of a sheet whose date is unknown."""
     sheet, faults = parse(path), []
-    reader = Reader(path, clock_of(path, sheet, faults), faults)
+    reader = Reader(path, clock_of(path, sheet, unknown, faults), faults)
     reader.known("", sheet, TOP)
-    day = Day(path.stem, reader.clock or Clock(), inputs=[path])
+    day = Day(path.stem, reader.clock or unknown, inputs=[path])
     day.rest = rest_of(reader, sheet)
     read_unit(reader, sheet, day)
     read_opening(reader, sheet, day)
@@ -199,7 +217,7 @@ def read(path: Path) -> Day:
     return day
 
 
-def clock_of(path, sheet, faults):
+def clock_of(path, sheet, unknown, faults):
     """The clock of the sheet's date and zone, or None where they are wrong."""
     reader = Reader(path, None, faults)
     day, zone = sheet.get("date"), sheet.get("zone", ZONE)
@@ -214,7 +232,7 @@ def clock_of(path, sheet, faults):
     if faults:
         return None
     if day == UNKNOWN:
-        return Clock()
+        return unknown
     try:
         clock = Clock(day, zone)
     except Wrong as wrong:
@@ -254,9 +272,12 @@ def read_unit(reader, sheet, day):
     if type(unit) is str:
         path = reader.file.parent / unit
         day.inputs.append(path)
-        day.unit_name = path.stem
+        day.unit_name = printable(path.stem)
         try:
             unit = parse(path)
+        except Unreadable as error:
+            reader.fault("", "unit", f"{short(unit)}: {error.why}")
+            return
         except SheetError as error:
             reader.faults += error.faults
             return
@@ -298,7 +319,12 @@ def read_instructions(reader, sheet, day):
     if type(given) is str:
         path = reader.file.parent / given
         day.inputs.append(path)
-        day.instructions = read_csv(Reader(path, reader.clock, reader.faults))
+        try:
+            text = text_of(path)
+        except Unreadable as error:
+            reader.fault("", "instructions", f"{short(given)}: {error.why}")
+            return
+        day.instructions = read_csv(Reader(path, reader.clock, reader.faults), text)
     elif type(given) is not list:
         reader.fault("", "instructions", f"{kind_of(given)}, where tables or the path of a CSV file are wanted")
     else:
@@ -311,14 +337,11 @@ def read_instruction(reader, table, value):
     return reader.table(table, value, INSTRUCTION, ("up", "down") if mwof else ("level", "up", "down"))
 
 
-def read_csv(reader):
+def read_csv(reader, text):
     """The instructions of a CSV file, by its first line's names; an empty cell counts as missing."""
     try:
-        text = io.StringIO(text_of(reader.file), newline="")
-        rows = [(line, row) for line, row in numbered(csv.reader(text, strict=True)) if any(row)]
-    except SheetError as error:
-        reader.faults += error.faults
-        return []
+        lines = csv.reader(io.StringIO(text, newline=""), strict=True)
+        rows = [(line, row) for line, row in numbered(lines) if any(row)]
     except csv.Error as error:
         reader.fault("", "", f"no CSV file: {error}")
         return []

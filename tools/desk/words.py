@@ -63,7 +63,7 @@ def effect(instruction, mwof, unit):
         return f"Goes to {mw(min(level, unit['capacity']))}{cut}."
     if name == "SYNC":
         target = min(max(level, unit["msg"]), unit["capacity"])
-        return f"Synchronises and goes to {mw(target)}: the larger of its level and Minimum Stable Generation{beside}."
+        return f"Synchronises and goes to {mw(target)}: the larger of its level and Minimum Stable Generation, at most capacity{beside}."
     return {
         "DESY": f"Goes down to 0 and desynchronises{', with the rates of the MWOF beside it' if mwof else ''}.",
         "TRIP": "Is at 0 from this second on.",
@@ -97,22 +97,28 @@ def superseded(instructions, fates, place):
 
 
 def outranked(instructions, fates, place):
-    group = together(instructions, fates, place)
-    used = next((i for i in group if fates[i] != 2), None)
+    used = next((i for i in together(instructions, fates, place) if fates[i] != 2), None)
     if used is None:
         return "Another instruction of this effective time and issue time is used."
     mine, theirs = instructions[place], instructions[used]
-    which = f"Instruction {used + 1} ({order(theirs)}) of the same times is used"
-    if mine["code"] == theirs["code"] == Code.MWOF:
-        return f"{which}: its level is larger, or equal and entered earlier."
+    return f"Instruction {used + 1} ({order(theirs)}) of the same times is used{preferred(mine, theirs, instructions)}."
+
+
+def preferred(mine, theirs, instructions):
+    """Why one instruction is used and not another of the same times."""
+    if mine["code"] == theirs["code"] and mine["level"] == theirs["level"]:
+        return ": it was entered earlier"
     if mine["code"] == theirs["code"]:
-        return f"{which}: it was entered earlier."
+        return ": its level is larger"
     best = carried(theirs, instructions)
-    if best and best is mine:
-        return f"{which}, with the level and the rates of this one."
-    if best and best is not theirs:
-        return f"{which}: it carries the largest MWOF beside it, {mw(best['level'])}."
-    return f"{which}: it ranks higher."
+    if best is None or best is theirs:
+        return ": it ranks higher"
+    if best is mine:
+        return ", with the rates of this one" if theirs["code"] == Code.DESY else ", with the level and the rates of this one"
+    which = f"the MWOF that it carries ({mw(best['level'])})"
+    if mine["code"] != Code.MWOF:
+        return f": {which} ranks higher"
+    return f": {which} {'was entered earlier' if best['level'] == mine['level'] else 'has the larger level'}"
 
 
 def repeated(instructions, fates, place):
