@@ -4,7 +4,7 @@ import random
 
 from support import INSTRUCTION, OPENING, ROOT, SHEET, UNIT, DeskTest
 
-from desk import records, sheets
+from desk import records, sheets, tables
 from desk.clock import Clock
 
 DOCUMENT01 = (ROOT / "examples" / "document01.records").read_bytes()
@@ -300,7 +300,7 @@ class Sheets(DeskTest):
         self.assertEqual(second("2026-10-24T06:00:00", october), -25 * 3600)
         self.assertEqual(second("2026-10-25T01:30:00+01:00", october), -5 * 3600 - 1800)
         for twice_or_never, day in (("2026-10-25T01:30:00", "2026-10-26"), ("2026-03-29T01:30:00", "2026-03-30")):
-            with self.assertRaisesRegex(sheets.SheetError, "twice|does not exist"):
+            with self.assertRaisesRegex(tables.SheetError, "twice|does not exist"):
                 second(twice_or_never, edit("2026-11-16", day))
 
     def test_another_zone(self):
@@ -310,7 +310,7 @@ class Sheets(DeskTest):
 
     def test_number_of_half_hours(self):
         for day, half_hours in (("2026-03-28", 46), ("2026-10-24", 50), ("2027-03-27", 46), ("2025-10-25", 50)):
-            with self.assertRaisesRegex(sheets.SheetError, f"{half_hours} half-hours; the program takes days of 48 only"):
+            with self.assertRaisesRegex(tables.SheetError, f"{half_hours} half-hours; the program takes days of 48 only"):
                 self.records(edit("2026-11-16", day))
         for day in ("2026-03-29", "2026-03-27", "2026-10-25"):
             self.records(edit("2026-11-16", day))
@@ -328,7 +328,7 @@ class Sheets(DeskTest):
                 try:
                     self.records(sheet)
                     outcomes[0] += 1
-                except sheets.SheetError as error:
+                except tables.SheetError as error:
                     self.assertTrue(error.faults and all(": " in fault and fault.isprintable() for fault in error.faults))
                     outcomes[1] += 1
         self.assertGreater(min(outcomes), 10)

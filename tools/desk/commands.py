@@ -10,7 +10,7 @@ import sys
 from datetime import date
 from pathlib import Path
 
-from desk import files, morning, report, sheets, words, writing
+from desk import files, morning, report, sheets, tables, words, writing
 from desk.clock import ZONE, Clock, zone_named
 from desk.exact import HALF_HOURS
 from desk.measures import Wrong, reason
@@ -86,7 +86,7 @@ def day(given, clock: Clock) -> int:
         try:
             outcome = of_file(program, path, clock)
             files.write(outcome, given.out or path.parent, written)
-        except sheets.SheetError as error:
+        except tables.SheetError as error:
             for fault in error.faults:
                 fail(fault)
             status = max(status, ERROR)
@@ -138,7 +138,7 @@ def table(rows) -> str:
 def sheet(given, clock: Clock) -> int:
     try:
         outcome = of_records(Program(given.program), given.records, clock)
-    except sheets.SheetError as error:
+    except tables.SheetError as error:
         return fail(str(error))
     print(writing.sheet(outcome.day, given.records.name, outcome.refusal), end="")
     return REFUSED if outcome.refusal else GOOD

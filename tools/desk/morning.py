@@ -12,7 +12,7 @@ from html import escape
 from pathlib import Path
 from urllib.parse import quote
 
-from desk import files, report, sheets, words
+from desk import files, report, tables, words
 from desk.clock import Clock
 from desk.measures import printable, reason
 from desk.outcome import Outcome, of_file
@@ -73,8 +73,8 @@ def by_fate(outcome: Outcome) -> str:
 def is_unit_file(path: Path) -> bool:
     """Whether a TOML file is a unit's, which sheets share."""
     try:
-        table = sheets.parse(path)
-    except sheets.SheetError:
+        table = tables.parse(path)
+    except tables.SheetError:
         return False
     return "capacity" in table and not DAY_KEYS & table.keys()
 
@@ -107,7 +107,7 @@ def work(program: Program, path: Path, clock: Clock, taken: dict[str, bytes], fo
         files.write(outcome, folder, set())
         row.outcome = outcome
         return row
-    except sheets.SheetError as error:
+    except tables.SheetError as error:
         taken.setdefault(path.stem, b"")
         here = f"{path.parent}{os.sep}"
         return Row(path, None, "; ".join(fault.replace(here, "") for fault in error.faults), error.unit, error.date)

@@ -6,7 +6,7 @@ from fractions import Fraction
 from functools import cached_property
 from pathlib import Path
 
-from desk import audit, days, listing, records, sheets, words
+from desk import audit, days, listing, records, sheets, tables, words
 from desk.clock import Clock
 from desk.exact import HALF_HOUR
 from desk.fields import acting
@@ -121,7 +121,7 @@ def of_records(program: Program, path: Path, clock: Clock) -> Outcome:
     try:
         data = path.read_bytes()
     except OSError as error:
-        raise sheets.Unreadable(path, error.strerror) from None
+        raise tables.Unreadable(path, error.strerror) from None
     return answer(program, days.Day(path.stem, clock, rest=data, inputs=[path]), path, data)
 
 
