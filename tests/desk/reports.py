@@ -320,6 +320,9 @@ class Reports(DeskTest):
         self.assertEqual(self.desk("day", path, "--date", "2026-11-20")[0], 0)
         self.assertEqual(json.loads((self.folder / "day.json").read_text())["date"], "2026-11-20")
         self.assertEqual(self.desk("day", path, "--zone", "Foo/Bar")[0], 2)
+        path = self.write("zone.toml", 'zone = "America/New_York"\n' + path.read_text())
+        self.assertEqual(self.desk("day", path, "--date", "2026-11-20")[0], 0)
+        self.assertEqual(json.loads((self.folder / "zone.json").read_text())["zone"], "America/New_York")
         self.assertEqual(self.desk("day", path, "--date", "2026-03-28")[0], 2)
 
     def test_a_time_that_comes_twice(self):

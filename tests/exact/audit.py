@@ -86,7 +86,7 @@ def difference(block, every_pair):
 def compare(block, every_pair):
     at = next(i for i, line in enumerate(block) if line.startswith("R "))
     given, text = records(bytes.fromhex(block[at][2:])), "".join(block[at + 1 : -1]).encode()
-    day = next(demand3.days(block))
+    day = demand3.day_of(block)
     parsed = listing.parse(text)
     if printed(parsed) != text:
         return "the parsed listing prints otherwise"
@@ -106,17 +106,11 @@ def compare(block, every_pair):
 
 def check_part(task):
     """Every `parts`-th day: passed, and the differences found."""
-    path, part, parts = task
-    passed, found, block, count = 0, [], [], 0
-    with open(path, encoding="ascii") as lines:
-        for line in lines:
-            block.append(line)
-            if line == "\n":
-                if count % parts == part:
-                    wrong = difference(block, count // parts % ALL_PAIRS == 0)
-                    passed += not wrong
-                    found += [f"{block[0].strip()}: {wrong}"] if wrong else []
-                block, count = [], count + 1
+    passed, found = 0, []
+    for count, block in enumerate(demand3.exported(*task)):
+        wrong = difference(block, count % ALL_PAIRS == 0)
+        passed += not wrong
+        found += [f"{block[0].strip()}: {wrong}"] if wrong else []
     return passed, found
 
 

@@ -37,10 +37,22 @@ def course(unit, numbers):
     return Course(unit, begin, end, start, target * GRAINS, heat, numbers[5:10], numbers[10:15])
 
 
-def days(lines):
-    """The exported days: number, unit, courses, segments, quantities; the records (R) are for the test of the audit."""
+def exported(path, part=0, parts=1):
+    """The lines of every `parts`-th exported day."""
+    block, count = [], 0
+    with open(path, encoding="ascii") as lines:
+        for line in lines:
+            block.append(line)
+            if line == "\n":
+                if count % parts == part:
+                    yield block
+                block, count = [], count + 1
+
+
+def day_of(block):
+    """An exported day: number, unit, courses, segments, quantities; the records (R) are for the test of the audit."""
     day = None
-    for line in lines:
+    for line in block:
         words = line.split()
         kind = words[0] if words else ""
         numbers = [int(word) for word in words[1:]] if kind != "R" else []
@@ -55,8 +67,7 @@ def days(lines):
         elif kind == "Q":
             first, last, quantity = numbers
             day["quantities"] += [quantity] * (last - first + 1)
-        elif kind == "":
-            yield day
+    return day
 
 
 def faults(day, used=None):
@@ -67,34 +78,22 @@ def faults(day, used=None):
 
 def check_part(task):
     """Every `parts`-th day: passed, the faults found, and the most of the allowance for stops that was needed."""
-    path, part, parts = task
-    passed, found, block, count, used = 0, [], [], 0, [0.0]
-    with open(path, encoding="ascii") as lines:
-        for line in lines:
-            block.append(line)
-            if line == "\n":
-                if count % parts == part:
-                    for day in days(block):
-                        wrong = faults(day, used)
-                        passed += not wrong
-                        found += [f"day {day['number']}: {wrong[0]}"] if wrong else []
-                block, count = [], count + 1
+    passed, found, used = 0, [], [0.0]
+    for day in map(day_of, exported(*task)):
+        wrong = faults(day, used)
+        passed += not wrong
+        found += [f"day {day['number']}: {wrong[0]}"] if wrong else []
     return passed, found, used[0]
 
 
 def self_test(path):
     """Wrong quantities, rates and levels must be found: a check of the check."""
-    sample, block = None, []
-    with open(path, encoding="ascii") as lines:
-        for line in lines:
-            block.append(line)
-            if line == "\n":
-                day = next(days(block))
-                block = []
-                if len(day["segments"]) > 4 and any(c.stops and c.end - c.begin > 3_600 for c in day["courses"]):
-                    sample = day
-                    break
-    assert sample and not faults(sample)
+
+    def serves(day):
+        return len(day["segments"]) > 4 and any(c.stops and c.end - c.begin > 3_600 for c in day["courses"])
+
+    sample = next(day for day in map(day_of, exported(path)) if serves(day))
+    assert not faults(sample)
     wrong = 0
     largest = max(c.allowance for c in sample["courses"])
     for change in (1, -1):

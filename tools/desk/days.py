@@ -1,7 +1,6 @@
 """A day as the desk holds it: what was typed or read, before the program has seen it."""
 
 from dataclasses import dataclass, field, replace
-from pathlib import Path
 
 from desk import records
 from desk.clock import Clock
@@ -23,7 +22,6 @@ class Day:
     after: int = 0
     instructions: list[dict] = field(default_factory=list)
     rest: bytes | None = None
-    inputs: list[Path] = field(default_factory=list)  # the files that it was read from
 
     def records(self) -> bytes:
         """The records, one after the other, as the program takes them."""

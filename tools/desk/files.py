@@ -1,7 +1,6 @@
 """The files of a day, side by side: records, listing, CSV, JSON, HTML. Each comes whole or not at all."""
 
 import csv
-import hashlib
 import io
 import json
 import os
@@ -13,6 +12,7 @@ from desk.clock import Clock
 from desk.fields import HEATS, acting
 from desk.measures import printable
 from desk.outcome import Outcome
+from desk.program import digest
 
 MEASURES = {"levels, quantities": "kW", "rates": "kW/min", "times": "seconds from 06:00"}
 MEASURES["levels of opening, segments and closing"] = "grains, 1/60 kW"
@@ -24,10 +24,6 @@ def contents(outcome: Outcome) -> dict[str, bytes]:
     made |= {".csv": table(outcome).encode(), ".html": report.html(outcome).encode()}
     sums = {suffix.lstrip("."): digest(content) for suffix, content in made.items()}
     return made | {".json": data(outcome, sums).encode()}
-
-
-def digest(content: bytes) -> str:
-    return hashlib.sha256(content).hexdigest()
 
 
 def own_sums(path: Path) -> dict[str, str]:

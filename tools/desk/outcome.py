@@ -1,6 +1,5 @@
 """What became of a day: its records, what the program printed, and what is worked out of both."""
 
-import hashlib
 from dataclasses import dataclass
 from fractions import Fraction
 from functools import cached_property
@@ -11,7 +10,7 @@ from desk.clock import Clock
 from desk.exact import HALF_HOUR
 from desk.fields import acting
 from desk.measures import printable
-from desk.program import Program, Refusal
+from desk.program import Program, Refusal, digest
 
 
 @dataclass(frozen=True)
@@ -79,7 +78,7 @@ class Outcome:
 
     def sums(self) -> dict:
         """SHA-256 of records and listing."""
-        return {"records": hashlib.sha256(self.records).hexdigest(), "listing": hashlib.sha256(self.printed).hexdigest()}
+        return {"records": digest(self.records), "listing": digest(self.printed)}
 
     def rule(self, place: int) -> str:
         """The rule behind an instruction's fate."""
@@ -122,7 +121,7 @@ def of_records(program: Program, path: Path, clock: Clock) -> Outcome:
         data = path.read_bytes()
     except OSError as error:
         raise tables.Unreadable(path, error.strerror) from None
-    return answer(program, days.Day(path.stem, clock, rest=data, inputs=[path]), path, data)
+    return answer(program, days.Day(path.stem, clock, rest=data), path, data)
 
 
 def of_file(program: Program, path: Path, clock: Clock) -> Outcome:

@@ -105,12 +105,12 @@ class Program:
     @property
     def identity(self) -> dict:
         """Which program this is: SHA-256 of it and, of the one of this repository, where its source stands."""
-        return {"sha256": digest(self.path), **(source() if self.own else {"commit": None, "changed": None})}
+        return {"sha256": digest(self.path.read_bytes()), **(source() if self.own else {"commit": None, "changed": None})}
 
 
-@cache
-def digest(path: Path) -> str:
-    return hashlib.sha256(path.read_bytes()).hexdigest()
+def digest(content: bytes) -> str:
+    """SHA-256 of bytes."""
+    return hashlib.sha256(content).hexdigest()
 
 
 @cache

@@ -37,7 +37,7 @@ def read(path: Path, unknown: Clock) -> Day:
     sheet, faults = parse(path), []
     reader = Reader(path, clock_of(path, sheet, unknown, faults), faults)
     reader.known("", sheet, TOP)
-    day = Day(path.stem, reader.clock or unknown, inputs=[path])
+    day = Day(path.stem, reader.clock or unknown)
     day.rest = rest_of(reader, sheet)
     read_unit(reader, sheet, day)
     read_opening(reader, sheet, day)
@@ -63,8 +63,10 @@ def clock_of(path, sheet, unknown, faults):
         reader.fault("", "zone", str(wrong))
     if faults:
         return None
-    if day == UNKNOWN:
+    if day == UNKNOWN and unknown.date is None:
         return unknown
+    if day == UNKNOWN:
+        day, zone = unknown.date, sheet.get("zone", unknown.zone)
     try:
         clock = Clock(day, zone)
     except Wrong as wrong:
@@ -103,7 +105,6 @@ def read_unit(reader, sheet, day):
     table = "unit"
     if type(unit) is str:
         path = reader.file.parent / unit
-        day.inputs.append(path)
         day.unit_name = printable(path.stem)
         try:
             unit = parse(path)
@@ -150,7 +151,6 @@ def read_instructions(reader, sheet, day):
     given = sheet.get("instructions", [])
     if type(given) is str:
         path = reader.file.parent / given
-        day.inputs.append(path)
         try:
             text = text_of(path)
         except Unreadable as error:

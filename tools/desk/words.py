@@ -91,7 +91,8 @@ def without_effect(instruction, at_0):
 
 
 def superseded(instructions, fates, place):
-    latest = max(together(instructions, fates, place), key=lambda i: instructions[i]["issue"], default=None)
+    # Those that step 1 left all have the latest issue time.
+    latest = next(iter(together(instructions, fates, place)), None)
     which = f"instruction {latest + 1} ({order(instructions[latest])})" if latest is not None else "another one"
     return f"For the same effective time {which} was issued later (P.12)."
 

@@ -60,26 +60,26 @@ fn take_read(day: Day, buf: &[u8], n: usize) -> Turn {
 }
 
 // How many bytes were read, and whether a read failed.
-pub struct Reached {
+pub struct ReadTo {
     pub at: usize,
     pub failed: bool,
 }
 
 // One read, to the place `at` on and no further than n.
-fn read_on(buf: &mut [u8], at: usize, n: usize) -> Reached {
+fn read_on(buf: &mut [u8], at: usize, n: usize) -> ReadTo {
     if n <= at || buf.len() < n {
-        return Reached { at, failed: false };
+        return ReadTo { at, failed: false };
     }
     let part = &mut buf[at..n];
     let got = libc::read(STDIN_FILENO, part);
-    Reached {
+    ReadTo {
         at: at + io::count(got, part),
         failed: got < 0,
     }
 }
 
 // Reads the first n bytes of the buffer, fewer where the input ends or a read fails.
-fn read_first(buf: &mut [u8], n: usize) -> Reached {
+fn read_first(buf: &mut [u8], n: usize) -> ReadTo {
     let mut at: usize = 0;
     while at < n {
         let next = read_on(buf, at, n);
@@ -91,7 +91,7 @@ fn read_first(buf: &mut [u8], n: usize) -> Reached {
         }
         at = next.at;
     }
-    Reached { at, failed: false }
+    ReadTo { at, failed: false }
 }
 
 fn take_record(day: Day, n: usize) -> Turn {

@@ -36,22 +36,22 @@ fn put_result(result: u64, out: &[u8]) -> bool {
 }
 
 // The place that a read came to, and whether it failed.
-pub struct Reached {
+pub struct ReadTo {
     pub at: usize,
     pub failed: bool,
 }
 
 // One read, to the place n on.
-fn read_on(buf: &mut [u8], n: usize) -> Reached {
+fn read_on(buf: &mut [u8], n: usize) -> ReadTo {
     if buf.len() <= n {
-        return Reached {
+        return ReadTo {
             at: n,
             failed: false,
         };
     }
     let part = &mut buf[n..];
     let got = libc::read(STDIN_FILENO, part);
-    Reached {
+    ReadTo {
         at: n + io::count(got, part),
         failed: got < 0,
     }
