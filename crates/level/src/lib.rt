@@ -3,6 +3,20 @@ ghost use mathlib.Core.Path.{_≡_};
 ghost use Prim.Native.Nat.{min, max};
 ghost use Rattle.level.specs.Level.{fromKw};
 
+// ---- numbers that more than one place needs, each said once; `specs/Numbers` has the same
+
+// The seconds of a half-hour.
+pub const HALF_HOUR: u32 = 1800;
+// The half-hours, and the seconds, of the longest day that there is; its boundaries are one more than its half-hours.
+pub const MOST_HALF_HOURS: usize = 48;
+pub const MOST_SECONDS: u32 = 86400;
+pub const BOUNDARIES: usize = 49;
+// Places for instructions, and for courses: one for each instruction, and that of the start.
+pub const INSTRUCTIONS: usize = 40;
+pub const COURSES: usize = 41;
+
+// ---- levels
+
 // A level. A grain is 1/60 kW, so that a rate of r kW a minute is r grains a second. (The grain is document 01's own unit.)
 pub struct Level {
     pub grains: u64,

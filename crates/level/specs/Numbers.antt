@@ -1,0 +1,28 @@
+-- Numbers that more than one place needs, each said once; `level/src` has the same as constants.
+-- Assumes nothing.
+use Prim.Native.Nat.{ℕ}
+
+-- "a half-hour 1,800" seconds
+abbrev pub halfHour : ℕ
+halfHour = 1800
+
+-- the half-hours, and the seconds, of the longest day that there is; its boundaries are one more than its half-hours
+abbrev pub mostHalfHours : ℕ
+mostHalfHours = 48
+
+abbrev pub mostSeconds : ℕ
+mostSeconds = 86400
+
+abbrev pub boundaryPlaces : ℕ
+boundaryPlaces = 49
+
+-- instructions: "23 forty-first instruction"; a course for each of them, and that of the start
+abbrev pub instructionPlaces : ℕ
+instructionPlaces = 40
+
+abbrev pub coursePlaces : ℕ
+coursePlaces = 41
+
+-- every level (grains) of a course lies below this: what 32 bits of kW come to, at 60 grains a kW, and more
+abbrev pub levelBound : ℕ
+levelBound = 274877906944
