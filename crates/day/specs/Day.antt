@@ -5,11 +5,10 @@ use mathlib.Core.List.{List, [], _∷_}
 use mathlib.Core.Bool.{Bool, true, false}
 use lib.ListN.{length, getD, take, set, replicate}
 use Rattle.level.specs.Lists.{listFrom, filled}
-use Rattle.records.specs.declared.Effect.the-variants.{Fail}
 use Rattle.records.specs.declared.UnitData.{UnitData}
 use Rattle.records.specs.declared.Opening.{Opening}
 use Rattle.records.specs.declared.Instruction.{Instruction}
-use Rattle.records.specs.Records.{unitOf, openingOf}
+use Rattle.records.specs.Records.{unitOf, openingOf, noInstruction}
 use Rattle.course.specs.declared.Course.{Course}
 use Rattle.profile.specs.declared.Closing.{Closing}
 use Rattle.profile.specs.Profile.{Way, Found, found, rounded}
@@ -23,9 +22,6 @@ abbrev pub daySeconds : ℕ
 daySeconds = 86400
 
 -- what an array's unused places hold
-abbrev pub noInstruction : Instruction
-noInstruction = record { effective = 0; issue = 0; meaning = record { lag = 0; rank = 0; effect = Fail }; level = 0; up = 0; down = 0 }
-
 abbrev pub noCourse : Course
 noCourse = record { begin = 0; start = record { grains = 0 }; target = 0; heat = 0; up = 0; down = 0 }
 

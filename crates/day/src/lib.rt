@@ -3,7 +3,7 @@ ghost use mathlib.Core.Path.{_≡_};
 ghost use mathlib.Core.List.{[]};
 ghost use Prim.Native.Nat.{_<_};
 ghost use Rattle.records.specs.Records.{unitOf, openingOf};
-ghost use Rattle.day.specs.Day.{noInstruction, noCourse, empty, withUnit, withOpening, withInstruction};
+ghost use Rattle.day.specs.Day.{noCourse, empty, withUnit, withOpening, withInstruction};
 
 // A day. Before close it holds the unit, the opening and the instructions let in, `count` of them. Close adds the fates
 // by number, the courses (`started` of them), twice the recorded area from 06:00 to each of the 49 half-hour boundaries
@@ -84,26 +84,6 @@ pub fn no_opening() -> records::Opening
     }
 }
 
-// What an unused place of the instructions holds.
-pub fn no_instruction() -> records::Instruction
-    ensures { λ r. ⌜ r ≡ noInstruction ⌝ }
-{
-    let effect = records::Effect::Fail;
-    let meaning = records::Meaning {
-        lag: 0,
-        rank: 0,
-        effect,
-    };
-    records::Instruction {
-        effective: 0,
-        issue: 0,
-        meaning,
-        level: 0,
-        up: 0,
-        down: 0,
-    }
-}
-
 // What an unused place of the courses holds.
 pub fn no_course() -> course::Course
     ensures { λ r. ⌜ r ≡ noCourse ⌝ }
@@ -125,7 +105,7 @@ pub fn empty_day() -> Day
 {
     let unit = no_unit();
     let opening = no_opening();
-    let instruction = no_instruction();
+    let instruction = records::no_instruction();
     let course = no_course();
     let level = course.start;
     let closing = profile::Closing {

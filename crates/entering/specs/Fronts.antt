@@ -13,7 +13,7 @@ use Rattle.records.specs.declared.Answer.the-variants.{Accepted, Refused}
 use Rattle.records.specs.declared.Refusal.{Refusal}
 use Rattle.records.specs.declared.Refusal.the-variants.{TooFewBytes, SecondOne, BeforeUnit, OpeningTooHigh, TooManyInstructions, AfterClose, NotReady, QuantityTooHigh}
 use Rattle.records.specs.Answers.{accepted, refusing, firstRefusal}
-use Rattle.records.specs.Records.{unitOf, openingOf}
+use Rattle.records.specs.Records.{unitOf, openingOf, noInstruction}
 use Rattle.units.specs.declared.UnitRead.{UnitRead}
 use Rattle.units.specs.Decoded.{unitRead}
 use Rattle.fields.specs.declared.OpeningRead.{OpeningRead}
@@ -22,7 +22,7 @@ use Rattle.fields.specs.Decoded.{openingRead, instructionRead}
 use Rattle.profile.specs.Profile.{Found}
 use Rattle.day.specs.declared.Day.{Day}
 use Rattle.day.specs.declared.Stepped.{Stepped}
-use Rattle.day.specs.Day.{daySeconds, noInstruction, withUnit, withOpening, withInstruction, closedWith}
+use Rattle.day.specs.Day.{daySeconds, withUnit, withOpening, withInstruction, closedWith}
 use Rattle.day.specs.Step.{tooHigh, quantityTooHigh}
 
 -- ---- refused unread

@@ -102,7 +102,7 @@ fn refuse_instruction(r: Refusal) -> InstructionRead
     ensures { λ i. ⌜ i ≡ instructionRefused r ⌝ }
 {
     let answer = Answer::Refused(r);
-    let instruction = day::no_instruction();
+    let instruction = records::no_instruction();
     InstructionRead {
         answer,
         instruction,

@@ -1,6 +1,6 @@
 -- Numbers that more than one place needs, each said once; `level/src` has the same as constants.
 -- Assumes nothing.
-use Prim.Native.Nat.{ℕ}
+use Prim.Native.Nat.{ℕ, suc, _*_}
 
 -- "a half-hour 1,800" seconds
 abbrev pub halfHour : ℕ
@@ -11,17 +11,17 @@ abbrev pub mostHalfHours : ℕ
 mostHalfHours = 48
 
 abbrev pub mostSeconds : ℕ
-mostSeconds = 86400
+mostSeconds = halfHour * mostHalfHours
 
 abbrev pub boundaryPlaces : ℕ
-boundaryPlaces = 49
+boundaryPlaces = suc mostHalfHours
 
--- instructions: "23 forty-first instruction"; a course for each of them, and that of the start
+-- "At most 40 instructions"; a course for each of them, and that of the start
 abbrev pub instructionPlaces : ℕ
 instructionPlaces = 40
 
 abbrev pub coursePlaces : ℕ
-coursePlaces = 41
+coursePlaces = suc instructionPlaces
 
 -- every level (grains) of a course lies below this: what 32 bits of kW come to, at 60 grains a kW, and more
 abbrev pub levelBound : ℕ

@@ -8,12 +8,12 @@ ghost use Rattle.level.specs.Level.{fromKw};
 // The seconds of a half-hour.
 pub const HALF_HOUR: u32 = 1800;
 // The half-hours, and the seconds, of the longest day that there is; its boundaries are one more than its half-hours.
-pub const MOST_HALF_HOURS: usize = 48;
-pub const MOST_SECONDS: u32 = 86400;
-pub const BOUNDARIES: usize = 49;
+pub const MOST_HALF_HOURS: u32 = 48;
+pub const MOST_SECONDS: u32 = HALF_HOUR * MOST_HALF_HOURS;
+pub const BOUNDARIES: usize = MOST_HALF_HOURS as usize + 1;
 // Places for instructions, and for courses: one for each instruction, and that of the start.
 pub const INSTRUCTIONS: usize = 40;
-pub const COURSES: usize = 41;
+pub const COURSES: usize = INSTRUCTIONS + 1;
 
 // ---- levels
 
@@ -46,6 +46,25 @@ pub fn smaller(a: u32, b: u32) -> u32
         return a;
     }
     b
+}
+
+// The smaller of two numbers of 64 bits; of two counts of places.
+pub fn smaller_long(x: u64, y: u64) -> u64
+    ensures { λ r. ⌜ r ≡ min x y ⌝ }
+{
+    if x <= y {
+        return x;
+    }
+    y
+}
+
+pub fn smaller_count(m: usize, n: usize) -> usize
+    ensures { λ r. ⌜ r ≡ min m n ⌝ }
+{
+    if m <= n {
+        return m;
+    }
+    n
 }
 
 // The larger of two figures.

@@ -5,6 +5,7 @@ use mathlib.Core.List.{List, [], _∷_, _++_}
 use lib.Dec.{eqb}
 use lib.ListN.{getD}
 use Rattle.level.specs.Choice.{pick}
+use Rattle.records.specs.declared.Effect.the-variants.{Fail}
 use Rattle.records.specs.declared.Trigger.{Trigger}
 use Rattle.records.specs.declared.Column.{Column}
 use Rattle.records.specs.declared.UnitData.{UnitData}
@@ -86,3 +87,7 @@ instructionOf b = record {
   up = numberAt b 13;
   down = numberAt b 17;
 }
+
+-- what a place for an instruction holds that none has taken
+abbrev pub noInstruction : Instruction
+noInstruction = record { effective = 0; issue = 0; meaning = record { lag = 0; rank = 0; effect = Fail }; level = 0; up = 0; down = 0 }

@@ -5,7 +5,7 @@ ghost use lib.ListN.{getD};
 ghost use Rattle.records.specs.declared.Coded.the-variants.{Means};
 ghost use Rattle.records.specs.Answers.{refusalNumber, numberOf, accepted};
 ghost use Rattle.records.specs.Codes.{meaningOf, codeNumber};
-ghost use Rattle.records.specs.Records.{numberAt};
+ghost use Rattle.records.specs.Records.{numberAt, noInstruction};
 
 // A soak or dwell trigger: a level in kW, and the minutes that the unit holds there. 0 minutes: no hold.
 pub struct Trigger {
@@ -198,6 +198,26 @@ pub fn code_number(e: Effect) -> u8
         Effect::Mxof => 5,
         Effect::Desy => 6,
         Effect::Fail => 7,
+    }
+}
+
+// What a place for an instruction holds that none has taken.
+pub fn no_instruction() -> Instruction
+    ensures { λ r. ⌜ r ≡ noInstruction ⌝ }
+{
+    let effect = Effect::Fail;
+    let meaning = Meaning {
+        lag: 0,
+        rank: 0,
+        effect,
+    };
+    Instruction {
+        effective: 0,
+        issue: 0,
+        meaning,
+        level: 0,
+        up: 0,
+        down: 0,
     }
 }
 

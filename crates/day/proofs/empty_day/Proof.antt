@@ -5,7 +5,7 @@ use Rattle.day.proofs.empty_day.Tie as tie
 use Rattle.day.proofs.empty_day.Reads as reads
 use Rattle.day.proofs.empty_day.Lts as lts
 use Rattle.day.proofs.no_course.Reads as no-course-reads
-use Rattle.day.proofs.no_instruction.Reads as no-instruction-reads
+use Rattle.records.proofs.no_instruction.Reads as no-instruction-reads
 use Rattle.day.proofs.no_opening.Reads as no-opening-reads
 use Rattle.day.proofs.no_unit.Reads as no-unit-reads
 
