@@ -3,14 +3,14 @@
 use Prim.Native.Nat.{ℕ, zero, suc, _+_, _-_, _<_, _≤_}
 use mathlib.Core.Path.{_≡_}
 use mathlib.Core.List.{List, [], _∷_}
-use mathlib.Core.Bool.{Bool, _&&_, _||_}
-use lib.Dec.{leb, eqb}
+use lib.Dec.{eqb}
 use lib.ListN.{set, getD, replicate}
 use Rattle.level.specs.Choice.{pick}
+use Rattle.level.specs.Numbers.{instructionPlaces}
 use Rattle.records.specs.declared.Effect.the-variants.{Sync}
-use Rattle.records.specs.Codes.{codeNumber, same}
+use Rattle.records.specs.Codes.{same}
 use Rattle.validation.specs.declared.Numbered.{Numbered}
-use Rattle.validation.specs.Kept.{effectiveOf, effectOf, Mark, Checked, acting}
+use Rattle.validation.specs.Kept.{effectOf, Mark, Checked, acting}
 use Rattle.choosing.specs.Working.{noNumbered}
 
 -- ---- step 3: the kept ones stand in an array, the latest last; fates by number in another, 2 where none is settled
@@ -24,11 +24,8 @@ pub record Checking : Type 0 where
 abbrev pub checking : List Numbered → ℕ → List ℕ → Checking
 checking kept height fates = record { kept = kept; height = height; fates = fates }
 
-abbrev pub codeOf : Numbered → ℕ
-codeOf o = codeNumber (effectOf o)
-
-abbrev pub numberOf : Numbered → ℕ
-numberOf o = o .number
+abbrev pub entryNumber : Numbered → ℕ
+entryNumber o = o .number
 
 -- the numbers f of the first h kept ones stand in another array, at the same places
 abbrev pub Noted : (Numbered → ℕ) → List ℕ → List Numbered → ℕ → Type 0
@@ -39,27 +36,19 @@ unfoldable pub stackOf : List Numbered → ℕ → List Numbered
 stackOf ks zero = []
 stackOf ks (suc h) = getD ks h noNumbered ∷ stackOf ks h
 
--- the code of the latest; 0 where there is none
-unfoldable pub topCode : List Numbered → ℕ → ℕ
-topCode ks zero = 0
-topCode ks (suc h) = codeNumber (effectOf (getD ks h noNumbered))
-
--- one of this code repeats a last one of that code
-unfoldable pub repeatsCode : ℕ → ℕ → Bool
-repeatsCode code last = eqb code last && (eqb code 4 || (eqb code 6 || eqb code 1))
-
 -- d places from a on, the latest first
-unfoldable pub between : List Numbered → ℕ → ℕ → List Numbered
-between ks a zero = []
-between ks a (suc d) = getD ks (a + d) noNumbered ∷ between ks a d
+unfoldable pub stackFrom : List Numbered → ℕ → ℕ → List Numbered
+stackFrom ks a zero = []
+stackFrom ks a (suc d) = getD ks (a + d) noNumbered ∷ stackFrom ks a d
 
 -- how many stand up to the latest SYNC; 0 where there is none
 unfoldable pub syncPlace : List Numbered → ℕ → ℕ
 syncPlace ks zero = 0
 syncPlace ks (suc h) = pick (same (effectOf (getD ks h noNumbered)) Sync) (suc h) (syncPlace ks h)
 
-unfoldable pub withinHour : Numbered → Numbered → Bool
-withinHour k o = leb (effectiveOf o) (effectiveOf k + 3600)
+-- so it is noted beside each of the first h
+abbrev pub Synced : List ℕ → List Numbered → ℕ → Type 0
+Synced places ks h = (j : ℕ) → j < h → getD places j 0 ≡ syncPlace ks (suc j)
 
 -- one fate set; the marks set, the first of them last
 unfoldable pub setFate : List ℕ → ℕ → ℕ → List ℕ
@@ -81,19 +70,22 @@ noneChecked = record { kept = []; marks = [] }
 -- the arrays say what the definition's lists say
 pub record Tracks (s : Checking) (m : Checked) : Type 0 where
   pub stack : stackOf (s .kept) (s .height) ≡ m .kept
-  pub settled : s .fates ≡ marked (replicate 40 2) (m .marks)
+  pub settled : s .fates ≡ marked (replicate instructionPlaces 2) (m .marks)
 
 abbrev pub Follows : Checking → Checking → (Checked → Checked) → Type 0
 Follows s r f = (m : Checked) → Tracks s m → Tracks r (f m)
 
--- the first h of these acting times are such as numbers of 32 bits add up to
+-- later than any acting time: what two numbers of 32 bits cannot add up to
+abbrev pub never : ℕ
+never = 8589934592
+
 abbrev pub Soon : List ℕ → ℕ → Type 0
-Soon times h = (j : ℕ) → j < h → getD times j 0 < 8589934592
+Soon times h = (j : ℕ) → j < h → getD times j 0 < never
 
 -- step 3 has come to this: the kept ones and the fates, and beside them the numbers and the acting times of the kept ones
 pub record Stepped (kept : List Numbered) (height : ℕ) (fates numbers times : List ℕ) (m : Checked) : Type 0 where
-  pub few : height ≤ 40
+  pub few : height ≤ instructionPlaces
   pub tracks : Tracks (checking kept height fates) m
-  pub named : Noted numberOf numbers kept height
+  pub named : Noted entryNumber numbers kept height
   pub timed : Noted acting times kept height
   pub soon : Soon times height

@@ -8,26 +8,26 @@ use native.Mathlib.Numerals.{add-one}
 use native.Mathlib.Decide.{decLe}
 use native.Mathlib.Omega.{arith}
 use lib.Dec.{leb, ltb, eqb}
-use lib.ListN.{length, take, drop, getD, set, replicate, length-take, length-append, length-replicate, replicate-append-replicate}
-use lib.Seq.{getD-take, length-take-le, take-all, take-take, take-append-seam, take-append-le, take-set-lt, set-append-seam}
+use lib.ListN.{length, take, drop, getD, set, length-take, length-append}
+use lib.Seq.{getD-take, length-take-le, take-all}
 use borrow.Author.Tests.{lt-ltb, le-ltb, le-leb, lt-leb, eq-eqb, ne-eqb}
 use Rattle.level.specs.Choice.{pick}
-use Rattle.level.specs.Lists.{some, those, filled}
-use Rattle.level.proofs.Lists.{left-cons}
-use Rattle.records.specs.Codes.{codeNumber}
+use Rattle.level.specs.Numbers.{instructionPlaces}
+use Rattle.level.specs.Lists.{some, those}
+use Rattle.level.proofs.Arrays.{filled-listed, filled-push}
+use Rattle.level.proofs.Lists.{map-length, left-cons}
+use Rattle.records.specs.declared.Effect.{Effect}
+use Rattle.records.specs.declared.Effect.the-variants.{Sync, Desy}
+use Rattle.records.specs.Codes.{same}
 use Rattle.validation.specs.declared.Numbered.{Numbered}
 use Rattle.records.specs.declared.Instruction.{Instruction}
 use Rattle.validation.proofs.Few.{numbered-length}
-use Rattle.validation.specs.Kept.{numbered, effectiveOf, effectOf, superseded, group, highest, firstOne, orElse, usedOf, nextTime, usedFrom, used}
-use Rattle.ranking.specs.Found.{foundList, bestFrom, earliest}
-use Rattle.choosing.specs.Working.{noNumbered, entered, holding, pushed, joined, issueOf, Timed, laterOf, latestAt, supersededAt, earlierOf, nextAt}
+use Rattle.validation.specs.Kept.{numbered, effectiveOf, effectOf, superseded, group, highest, firstOne, orElse, present, usedOf, nextTime, usedFrom, used}
+use Rattle.ranking.specs.Found.{foundList, bestFrom}
+use Rattle.choosing.specs.Working.{noNumbered, numberedAt, sequenceOf, pushed, joined, issueTimeOf, Timed, laterOf, latestAt, supersededAmong, earlierOf, nextTimeAmong}
 use Rattle.choosing.specs.declared.Sequence.{Sequence}
 use Rattle.ranking.specs.declared.Found.{Found}
 use Rattle.ranking.specs.declared.Found.the-variants.{One, Nothing}
-
-pub map-length : {A B : Type 0} (f : A → B) (xs : List A) → length (map f xs) ≡ length xs
-map-length f [] = refl
-map-length f (x ∷ xs) = ap suc (map-length f xs)
 
 -- ---- what is left of the first n places, from the place i on
 module _ {A : Type 0} (xs : List A) (n : ℕ) where
@@ -39,68 +39,50 @@ module _ {A : Type 0} (xs : List A) (n : ℕ) where
   unfolding those
   those-keep f i d h k e = rw (left-cons xs n i d h k, e)
 
--- ---- an array that begins with a list
-module _ {A : Type 0} (x : A) where
-  pub filled-listed : (n : ℕ) (xs : List A) → length xs ≤ n → take (length xs) (filled n x xs) ≡ xs
-  unfolding filled
-  filled-listed n xs h = rw (take-take (length xs) n (xs ++ replicate n x) h, take-append-seam)
-
-  pub filled-push : (n : ℕ) (xs : List A) (o : A) → length xs < n → set (filled n x xs) (length xs) o ≡ filled n x (xs ++ (o ∷ []))
-  unfolding filled
-  filled-push zero xs o h = absurd (omega arith)
-  filled-push (suc m) xs o h =
-      let r : replicate (suc m) x ≡ replicate m x ++ (x ∷ []) = ap (λ (k : ℕ). replicate k x) (sym (add-one m)) ∙ sym (replicate-append-replicate m 1 x) in
-      let k : suc m ≤ length (xs ++ (o ∷ replicate m x)) = simp (length-append, length-replicate) (omega arith) in
-      let e : take (suc m) (xs ++ (o ∷ replicate (suc m) x)) ≡ take (suc m) (xs ++ (o ∷ replicate m x)) =
-      ap (λ (l : List A). take (suc m) (xs ++ (o ∷ l))) r ∙ (ap (take (suc m)) (sym (append-assoc xs (o ∷ replicate m x) (x ∷ []))) ∙ take-append-le (suc m) (xs ++ (o ∷ replicate m x)) (x ∷ []) k) in
-      sym (take-set-lt (suc m) (xs ++ replicate (suc m) x) (length xs) o h)
-      ∙ (ap (take (suc m)) (set-append-seam xs x (replicate m x) o)
-      ∙ (sym e ∙ ap (take (suc m)) (sym (append-assoc xs (o ∷ []) (replicate (suc m) x)))))
-
 -- ---- sequences
 -- a sequence that holds the beginning of a whole; the rest of it is still to come
 pub record Begun (s : Sequence) (rest whole : List Numbered) : Type 0 where
   pub xs : List Numbered
-  pub holds : s ≡ holding xs
+  pub holds : s ≡ sequenceOf xs
   pub parts : xs ++ rest ≡ whole
 
-pub push-holding : (xs : List Numbered) (o : Numbered) → length xs < 40 → pushed (holding xs) o ≡ holding (xs ++ (o ∷ []))
+pub push-sequence : (xs : List Numbered) (o : Numbered) → length xs < instructionPlaces → pushed (sequenceOf xs) o ≡ sequenceOf (xs ++ (o ∷ []))
 unfolding pushed
-push-holding xs o h =
+push-sequence xs o h =
     let e : length xs + 1 ≡ length (xs ++ (o ∷ [])) = simp length-append in
-    λ i. record { items = filled-push noNumbered 40 xs o h i; count = e i }
+    λ i. record { items = filled-push noNumbered instructionPlaces xs o h i; count = e i }
 
 -- nothing is in it yet; all is in it
-pub begun-none : (whole : List Numbered) → Begun (holding []) whole whole
+pub begun-none : (whole : List Numbered) → Begun (sequenceOf []) whole whole
 begun-none whole = record { xs = []; holds = refl; parts = refl }
 
-pub begun-all : {s : Sequence} {whole : List Numbered} → Begun s [] whole → s ≡ holding whole
-begun-all b = b .holds ∙ ap holding (sym (append-nil (b .xs)) ∙ b .parts)
+pub begun-all : {s : Sequence} {whole : List Numbered} → Begun s [] whole → s ≡ sequenceOf whole
+begun-all b = b .holds ∙ ap sequenceOf (sym (append-nil (b .xs)) ∙ b .parts)
 
 module _ {s : Sequence} {rest whole : List Numbered} where
-  pub begun-push : (o : Numbered) → s .count < 40 → Begun s (o ∷ rest) whole → Begun (pushed s o) rest whole
+  pub begun-push : (o : Numbered) → s .count < instructionPlaces → Begun s (o ∷ rest) whole → Begun (pushed s o) rest whole
   begun-push o h b =
-      let k : length (b .xs) < 40 = omega (arith, ap (λ (q : Sequence). q .count) (b .holds)) in
+      let k : length (b .xs) < instructionPlaces = omega (arith, ap (λ (q : Sequence). q .count) (b .holds)) in
       record {
         xs = b .xs ++ (o ∷ []);
-        holds = ap (λ (q : Sequence). pushed q o) (b .holds) ∙ push-holding (b .xs) o k;
+        holds = ap (λ (q : Sequence). pushed q o) (b .holds) ∙ push-sequence (b .xs) o k;
         parts = append-assoc (b .xs) (o ∷ []) rest ∙ b .parts;
       }
 
   -- stored in place
-  pub begun-store : (k : ℕ) (o : Numbered) → s .count ≡ k → k < 40 → Begun s (o ∷ rest) whole → Begun (record { items = set (s .items) k o; count = k + 1 }) rest whole
+  pub begun-store : (k : ℕ) (o : Numbered) → s .count ≡ k → k < instructionPlaces → Begun s (o ∷ rest) whole → Begun (record { items = set (s .items) k o; count = k + 1 }) rest whole
   unfolding pushed
   begun-store k o e h b = rw e at (begun-push o (omega arith) b)
 
-  pub begun-found : (f : Found) → s .count < 40 → Begun s (foundList f ++ rest) whole → Begun (joined s f) rest whole
+  pub begun-found : (f : Found) → s .count < instructionPlaces → Begun s (foundList f ++ rest) whole → Begun (joined s f) rest whole
   unfolding joined
   begun-found (One o) h b = begun-push o h b
   begun-found Nothing h b = b
 
 -- the list that a sequence holds
-pub held : {s : Sequence} {xs : List Numbered} → s ≡ holding xs → s .count ≤ 40 → take (s .count) (s .items) ≡ xs
+pub held : {s : Sequence} {xs : List Numbered} → s ≡ sequenceOf xs → s .count ≤ instructionPlaces → take (s .count) (s .items) ≡ xs
 held {s} {xs} e h =
-    ap (λ (q : Sequence). take (q .count) (q .items)) e ∙ filled-listed noNumbered 40 xs (omega (arith, ap (λ (q : Sequence). q .count) e))
+    ap (λ (q : Sequence). take (q .count) (q .items)) e ∙ filled-listed noNumbered instructionPlaces xs (omega (arith, ap (λ (q : Sequence). q .count) e))
 
 pub joined-count : (s : Sequence) (f : Found) → joined s f .count ≤ s .count + 1
 unfolding joined pushed
@@ -113,29 +95,21 @@ module _ (x j t best : ℕ) where
   unfolding laterOf
   later-other h = simp (ne-eqb _ _ h)
 
-  pub later-more : x ≡ t → best < j → j ≡ laterOf x j t best
+  pub later-same : x ≡ t → max j best ≡ laterOf x j t best
   unfolding laterOf
-  later-more h k = simp (eq-eqb _ _ h) (omega arith)
-
-  pub later-not : x ≡ t → j ≤ best → best ≡ laterOf x j t best
-  unfolding laterOf
-  later-not h k = simp (eq-eqb _ _ h) (omega arith)
+  later-same h = rw (eq-eqb _ _ h)
 
 module _ (x t best : ℕ) where
   pub earlier-past : x < t → best ≡ earlierOf x t best
   unfolding earlierOf
   earlier-past h = simp (lt-leb _ _ h)
 
-  pub earlier-less : t ≤ x → x < best → x ≡ earlierOf x t best
+  pub earlier-from : t ≤ x → min x best ≡ earlierOf x t best
   unfolding earlierOf
-  earlier-less h k = simp (le-leb _ _ h) (omega arith)
+  earlier-from h = rw (le-leb _ _ h)
 
-  pub earlier-not : t ≤ x → best ≤ x → best ≡ earlierOf x t best
-  unfolding earlierOf
-  earlier-not h k = simp (le-leb _ _ h) (omega arith)
-
-pub next-none : {ts : List ℕ} (end t : ℕ) → ts ≡ [] → nextAt end ts t ≡ end
-unfolding nextAt
+pub next-none : {ts : List ℕ} (end t : ℕ) → ts ≡ [] → nextTimeAmong end ts t ≡ end
+unfolding nextTimeAmong
 next-none end t e = rw e
 
 pub latest-none : {ts : List ℕ} (js : List ℕ) (t : ℕ) → ts ≡ [] → latestAt ts js t ≡ 0
@@ -143,8 +117,8 @@ unfolding latestAt
 latest-none js t e = rw e
 
 module _ (ts : List ℕ) (n : ℕ) (fits : n ≤ length ts) where
-  pub next-more : (end t i : ℕ) → i < n → earlierOf (getD ts i 0) t (nextAt end (drop (i + 1) (take n ts)) t) ≡ nextAt end (drop i (take n ts)) t
-  unfolding nextAt
+  pub next-more : (end t i : ℕ) → i < n → earlierOf (getD ts i 0) t (nextTimeAmong end (drop (i + 1) (take n ts)) t) ≡ nextTimeAmong end (drop i (take n ts)) t
+  unfolding nextTimeAmong
   next-more end t i h = rw (left-cons ts n i 0 h fits)
 
   pub latest-more : (js : List ℕ) → n ≤ length js → (t i : ℕ) → i < n → laterOf (getD ts i 0) (getD js i 0) t (latestAt (drop (i + 1) (take n ts)) (drop (i + 1) (take n js)) t) ≡ latestAt (drop i (take n ts)) (drop i (take n js)) t
@@ -159,23 +133,23 @@ later-either true issue j best = elim (decLe (suc issue) j) [
   | no h ↦ rw (le-ltb issue j (omega arith)) (elim (decLe (suc issue) best) [ yes k ↦ rw (lt-ltb issue best k, lt-ltb issue (max j best) (omega arith)) | no k ↦ rw (le-ltb issue best (omega arith), le-ltb issue (max j best) (omega arith)) ])
 ]
 
-superseded-times : (os : List Numbered) (o : Numbered) → supersededAt (map effectiveOf os) (map issueOf os) (effectiveOf o) (issueOf o) ≡ superseded os o
+superseded-times : (os : List Numbered) (o : Numbered) → supersededAmong (map effectiveOf os) (map issueTimeOf os) (effectiveOf o) (issueTimeOf o) ≡ superseded os o
 unfolding superseded some latestAt laterOf
-superseded-times [] o = le-ltb (issueOf o) 0 (omega arith)
+superseded-times [] o = le-ltb (issueTimeOf o) 0 (omega arith)
 superseded-times (x ∷ os) o =
-    later-either (eqb (effectiveOf x) (effectiveOf o)) (issueOf o) (issueOf x) (latestAt (map effectiveOf os) (map issueOf os) (effectiveOf o))
-    ∙ ap (λ (b : Bool). (eqb (effectiveOf x) (effectiveOf o) && ltb (issueOf o) (issueOf x)) || b) (superseded-times os o)
+    later-either (eqb (effectiveOf x) (effectiveOf o)) (issueTimeOf o) (issueTimeOf x) (latestAt (map effectiveOf os) (map issueTimeOf os) (effectiveOf o))
+    ∙ ap (λ (b : Bool). (eqb (effectiveOf x) (effectiveOf o) && ltb (issueTimeOf o) (issueTimeOf x)) || b) (superseded-times os o)
 
-next-times : (end : ℕ) (os : List Numbered) (t : ℕ) → nextAt end (map effectiveOf os) t ≡ nextTime end os t
-unfolding nextAt nextTime earlierOf
+next-times : (end : ℕ) (os : List Numbered) (t : ℕ) → nextTimeAmong end (map effectiveOf os) t ≡ nextTime end os t
+unfolding nextTimeAmong nextTime earlierOf
 next-times end [] t = refl
 next-times end (o ∷ os) t = ap (λ (k : ℕ). pick (leb t (effectiveOf o)) (min (effectiveOf o) k) k) (next-times end os t)
 
 module _ {os : List Numbered} {ts js : List ℕ} (timed : Timed os ts js) where
-  pub superseded-is : (o : Numbered) (t issue : ℕ) → t ≡ effectiveOf o → issue ≡ issueOf o → supersededAt ts js t issue ≡ superseded os o
+  pub superseded-is : (o : Numbered) (t issue : ℕ) → t ≡ effectiveOf o → issue ≡ issueTimeOf o → supersededAmong ts js t issue ≡ superseded os o
   superseded-is o t issue e k = rw (timed .effective, timed .issued, e, k) (superseded-times os o)
 
-  pub next-is : (end t : ℕ) → nextAt end ts t ≡ nextTime end os t
+  pub next-is : (end t : ℕ) → nextTimeAmong end ts t ≡ nextTime end os t
   next-is end t = rw (timed .effective) (next-times end os t)
 
 map-at : (f : Numbered → ℕ) (xs : List Numbered) (i : ℕ) → getD (map f xs) i (f noNumbered) ≡ f (getD xs i noNumbered)
@@ -191,9 +165,9 @@ pub time-at : (f : Numbered → ℕ) (os : List Numbered) (ts : List ℕ) (n i :
 time-at f os ts n i e h =
     sym (getD-take n ts i (f noNumbered) h) ∙ (ap (λ (l : List ℕ). getD l i (f noNumbered)) e ∙ (map-at f (take n os) i ∙ ap f (getD-take n os i noNumbered h)))
 
-pub superseded-at : {os : List Numbered} {ts js : List ℕ} → Timed os ts js → (i : ℕ) → supersededAt ts js (getD ts i 0) (getD js i 0) ≡ superseded os (getD os i noNumbered)
+pub superseded-at : {os : List Numbered} {ts js : List ℕ} → Timed os ts js → (i : ℕ) → supersededAmong ts js (getD ts i 0) (getD js i 0) ≡ superseded os (getD os i noNumbered)
 superseded-at {os} {ts} {js} timed i =
-    superseded-is timed (getD os i noNumbered) (getD ts i 0) (getD js i 0) (ap (λ (l : List ℕ). getD l i 0) (timed .effective) ∙ map-at effectiveOf os i) (ap (λ (l : List ℕ). getD l i 0) (timed .issued) ∙ map-at issueOf os i)
+    superseded-is timed (getD os i noNumbered) (getD ts i 0) (getD js i 0) (ap (λ (l : List ℕ). getD l i 0) (timed .effective) ∙ map-at effectiveOf os i) (ap (λ (l : List ℕ). getD l i 0) (timed .issued) ∙ map-at issueTimeOf os i)
 
 -- left at the effective time t
 unfoldable pub inGroup : List Numbered → ℕ → Numbered → Bool
@@ -219,8 +193,8 @@ module _ (os : List Numbered) (t : ℕ) (o : Numbered) where
 -- ---- a group walked: of those before, the highest ranked, the earliest SYNC and the earliest DESY; the rest is still to come
 pub record Walked (best sync desy : Found) (rest whole : List Numbered) : Type 0 where
   pub highest-so : bestFrom (foundList best) rest ≡ bestFrom [] whole
-  pub sync-so : orElse (foundList sync) (earliest 4 rest) ≡ earliest 4 whole
-  pub desy-so : orElse (foundList desy) (earliest 6 rest) ≡ earliest 6 whole
+  pub sync-so : orElse (foundList sync) (present Sync rest) ≡ present Sync whole
+  pub desy-so : orElse (foundList desy) (present Desy rest) ≡ present Desy whole
 
 pub walked-none : (whole : List Numbered) → Walked Nothing Nothing Nothing whole whole
 walked-none whole = record { highest-so = refl; sync-so = refl; desy-so = refl }
@@ -230,24 +204,24 @@ unfolding bestFrom highest
 best-more (One b) o rest = refl
 best-more Nothing o rest = refl
 
-earliest-more : (code : ℕ) (f : Found) (o : Numbered) (rest : List Numbered) → orElse (orElse (foundList f) (earliest code (o ∷ []))) (earliest code rest) ≡ orElse (foundList f) (earliest code (o ∷ rest))
-unfolding earliest those
-earliest-more code (One b) o rest = refl
-earliest-more code Nothing o rest = go (eqb (codeNumber (effectOf o)) code)
+present-more : (code : Effect) (f : Found) (o : Numbered) (rest : List Numbered) → orElse (orElse (foundList f) (present code (o ∷ []))) (present code rest) ≡ orElse (foundList f) (present code (o ∷ rest))
+unfolding present those
+present-more code (One b) o rest = refl
+present-more code Nothing o rest = go (same (effectOf o) code)
   where
     go : (b : Bool) →
-        orElse (firstOne (pick b (o ∷ []) [])) (firstOne (those (λ (x : Numbered). eqb (codeNumber (effectOf x)) code) rest))
-        ≡ firstOne (pick b (o ∷ those (λ (x : Numbered). eqb (codeNumber (effectOf x)) code) rest) (those (λ (x : Numbered). eqb (codeNumber (effectOf x)) code) rest))
+        orElse (firstOne (pick b (o ∷ []) [])) (firstOne (those (λ (x : Numbered). same (effectOf x) code) rest))
+        ≡ firstOne (pick b (o ∷ those (λ (x : Numbered). same (effectOf x) code) rest) (those (λ (x : Numbered). same (effectOf x) code) rest))
     go true = refl
     go false = refl
 
 -- with o looked at
 pub walked-more : {best sync desy better s d : Found} {rest whole : List Numbered} (o : Numbered) → foundList better ≡ bestFrom (foundList best) (o ∷ []) →
-    foundList s ≡ orElse (foundList sync) (earliest 4 (o ∷ [])) → foundList d ≡ orElse (foundList desy) (earliest 6 (o ∷ [])) → Walked best sync desy (o ∷ rest) whole → Walked better s d rest whole
+    foundList s ≡ orElse (foundList sync) (present Sync (o ∷ [])) → foundList d ≡ orElse (foundList desy) (present Desy (o ∷ [])) → Walked best sync desy (o ∷ rest) whole → Walked better s d rest whole
 walked-more {best} {sync} {desy} {better} {s} {d} {rest} o p q r w = record {
   highest-so = ap (λ (l : List Numbered). bestFrom l rest) p ∙ (best-more best o rest ∙ w .highest-so);
-  sync-so = ap (λ (l : List Numbered). orElse l (earliest 4 rest)) q ∙ (earliest-more 4 sync o rest ∙ w .sync-so);
-  desy-so = ap (λ (l : List Numbered). orElse l (earliest 6 rest)) r ∙ (earliest-more 6 desy o rest ∙ w .desy-so);
+  sync-so = ap (λ (l : List Numbered). orElse l (present Sync rest)) q ∙ (present-more Sync sync o rest ∙ w .sync-so);
+  desy-so = ap (λ (l : List Numbered). orElse l (present Desy rest)) r ∙ (present-more Desy desy o rest ∙ w .desy-so);
 }
 
 best-all : (f : Found) → foundList f ≡ bestFrom (foundList f) []
@@ -255,21 +229,21 @@ unfolding bestFrom highest
 best-all (One b) = refl
 best-all Nothing = refl
 
-earliest-all : (code : ℕ) (f : Found) → foundList f ≡ orElse (foundList f) (earliest code [])
-unfolding earliest those
-earliest-all code (One b) = refl
-earliest-all code Nothing = refl
+present-all : (code : Effect) (f : Found) → foundList f ≡ orElse (foundList f) (present code [])
+unfolding present those
+present-all code (One b) = refl
+present-all code Nothing = refl
 
 -- all of it
 module _ {best sync desy : Found} {whole : List Numbered} (w : Walked best sync desy [] whole) where
   pub walked-best : foundList best ≡ bestFrom [] whole
   walked-best = best-all best ∙ w .highest-so
 
-  pub walked-sync : foundList sync ≡ earliest 4 whole
-  walked-sync = earliest-all 4 sync ∙ w .sync-so
+  pub walked-sync : foundList sync ≡ present Sync whole
+  walked-sync = present-all Sync sync ∙ w .sync-so
 
-  pub walked-desy : foundList desy ≡ earliest 6 whole
-  walked-desy = earliest-all 6 desy ∙ w .desy-so
+  pub walked-desy : foundList desy ≡ present Desy whole
+  walked-desy = present-all Desy desy ∙ w .desy-so
 
 pub those-none : {A : Type 0} {xs : List A} (f : A → Bool) → xs ≡ [] → those f xs ≡ []
 unfolding those
@@ -319,7 +293,7 @@ module _ (is : List Instruction) (n : ℕ) (fits : n ≤ length is) where
   pub all-numbered : take n (numbered 1 (take n is)) ≡ numbered 1 (take n is)
   all-numbered = take-all n (numbered 1 (take n is)) (omega (arith, as-many))
 
-  pub number-here : (i : ℕ) → i < n → getD (numbered 1 (take n is)) i noNumbered ≡ entered i (getD is i (noNumbered .instruction))
+  pub number-here : (i : ℕ) → i < n → getD (numbered 1 (take n is)) i noNumbered ≡ numberedAt i (getD is i (noNumbered .instruction))
   number-here i h =
       let e : 1 + i ≡ i + 1 = omega arith in
       number-from 1 (take n is) i (omega (arith, length-take-le n is fits)) ∙ (λ j. record { number = e j; instruction = getD-take n is i (noNumbered .instruction) h j })

@@ -11,13 +11,15 @@ use lib.ListN.{length, take, drop, getD, length-take}
 use lib.Seq.{getD-take}
 use borrow.Author.Tests.{ltb-true, leb-true, eqb-true, not-true, lt-ltb, le-ltb, le-leb, lt-leb, eq-eqb, ne-eqb}
 use Rattle.level.specs.Choice.{pick}
+use Rattle.level.specs.Numbers.{instructionPlaces}
 use Rattle.level.specs.Lists.{some, those}
-use Rattle.level.proofs.Lists.{left-cons, left-none}
+use Rattle.level.proofs.Lists.{and-true, left-cons, left-none}
+use Rattle.records.specs.declared.Effect.the-variants.{Mwof, Sync, Desy}
 use Rattle.records.specs.Codes.{codeNumber}
 use Rattle.validation.specs.declared.Numbered.{Numbered}
 use Rattle.validation.specs.Kept.{effectiveOf, effectOf, superseded, group, highest, present, merged, usedOf, nextTime, usedFrom, used}
 use Rattle.ranking.specs.Found.{foundList}
-use Rattle.choosing.specs.Working.{noNumbered, holding, joined, issueOf, laterOf, latestAt, rises, Rising, hasTime, followsTime, aloneAt, Run}
+use Rattle.choosing.specs.Working.{noNumbered, sequenceOf, joined, issueTimeOf, laterOf, latestAt, rises, Rising, hasTimeAt, followsTime, aloneAt, Run}
 use Rattle.choosing.specs.declared.Sequence.{Sequence}
 use Rattle.ranking.specs.declared.Found.{Found}
 use Rattle.choosing.proofs.Laws.{Begun, begun-none, begun-found, used-stop, used-more}
@@ -65,23 +67,23 @@ module _ {A : Type 0} (d : A) (f : A → Bool) where
 
 used-alone : (o : Numbered) → o ∷ [] ≡ usedOf (o ∷ [])
 unfolding usedOf highest merged present those
-used-alone o = elim (ℕ-discrete (codeNumber (effectOf o)) 2) [
+used-alone o = elim (ℕ-discrete (codeNumber (effectOf o)) (codeNumber Mwof)) [
   | no n ↦ simp (ne-eqb _ _ n)
   | yes e ↦
-      let s : codeNumber (effectOf o) ≡ 4 → ⊥ = omega arith in
-      let d : codeNumber (effectOf o) ≡ 6 → ⊥ = omega arith in
+      let s : codeNumber (effectOf o) ≡ codeNumber Sync → ⊥ = omega arith in
+      let d : codeNumber (effectOf o) ≡ codeNumber Desy → ⊥ = omega arith in
       simp (eq-eqb _ _ e, ne-eqb _ _ s, ne-eqb _ _ d)
 ]
 
 module _ (os : List Numbered) (i : ℕ) (h : i < length os) (alone : (j : ℕ) → j < length os → (j ≡ i → ⊥) → timeAt os j ≡ timeAt os i → ⊥) where
   stays : superseded os (getD os i noNumbered) ≡ false
   unfolding superseded
-  stays = some-no noNumbered (λ (x : Numbered). eqb (effectiveOf x) (timeAt os i) && ltb (issueOf (getD os i noNumbered)) (issueOf x)) os each
+  stays = some-no noNumbered (λ (x : Numbered). eqb (effectiveOf x) (timeAt os i) && ltb (issueTimeOf (getD os i noNumbered)) (issueTimeOf x)) os each
     where
-      each : (j : ℕ) → j < length os → (eqb (timeAt os j) (timeAt os i) && ltb (issueOf (getD os i noNumbered)) (issueOf (getD os j noNumbered))) ≡ false
+      each : (j : ℕ) → j < length os → (eqb (timeAt os j) (timeAt os i) && ltb (issueTimeOf (getD os i noNumbered)) (issueTimeOf (getD os j noNumbered))) ≡ false
       each j l = elim (ℕ-discrete j i) [
         | no n ↦ rw (ne-eqb (timeAt os j) (timeAt os i) (alone j l n))
-        | yes e ↦ rw (e, eq-eqb (timeAt os i) (timeAt os i) refl, le-ltb (issueOf (getD os i noNumbered)) (issueOf (getD os i noNumbered)) (omega arith))
+        | yes e ↦ rw (e, eq-eqb (timeAt os i) (timeAt os i) refl, le-ltb (issueTimeOf (getD os i noNumbered)) (issueTimeOf (getD os i noNumbered)) (omega arith))
       ]
 
   group-alone : group os (timeAt os i) ≡ getD os i noNumbered ∷ []
@@ -108,7 +110,7 @@ pub record Reached (end : ℕ) (os : List Numbered) (ts : List ℕ) (n i : ℕ) 
   pub begun : Begun out (usedFrom end os fuel time) (used end os)
 
 module _ (end : ℕ) (os : List Numbered) (ts : List ℕ) (n : ℕ) (long : length os ≡ n) (at : (j : ℕ) → j < n → getD ts j 0 ≡ timeAt os j) (rising : Rising ts n) where
-  pub reached-none : Reached end os ts n 0 (holding [])
+  pub reached-none : Reached end os ts n 0 (sequenceOf [])
   unfolding used
   reached-none = record { time = 0; fuel = length os; enough = omega arith; before = λ j l. absurd (omega arith); after = λ j p l. omega arith; begun = begun-none (usedFrom end os (length os) 0) }
 
@@ -137,7 +139,7 @@ module _ (end : ℕ) (os : List Numbered) (ts : List ℕ) (n : ℕ) (long : leng
         omega (arith, at i h)
 
     -- one group more: those from the place i up to the place k
-    pub reached-more : (k : ℕ) (f : Found) → out .count < 40 → i < n → getD ts i 0 < end → Run ts n (getD ts i 0) (i + 1) k → foundList f ≡ usedOf (group os (getD ts i 0)) → Reached end os ts n k (joined out f)
+    pub reached-more : (k : ℕ) (f : Found) → out .count < instructionPlaces → i < n → getD ts i 0 < end → Run ts n (getD ts i 0) (i + 1) k → foundList f ≡ usedOf (group os (getD ts i 0)) → Reached end os ts n k (joined out f)
     reached-more k f room h early run e =
         let x : ℕ = getD ts i 0 in
         let q : usedFrom end os (r .fuel) (r .time) ≡ foundList f ++ usedFrom end os (r .fuel - 1) (x + 1) =
@@ -174,10 +176,6 @@ module _ (end : ℕ) (os : List Numbered) (ts : List ℕ) (n : ℕ) (long : leng
         ]
 
 -- ---- the times in order
-and-true : (a b : Bool) → (a && b) ≡ true → (a ≡ true) × (b ≡ true)
-and-true true b e = (refl, e)
-and-true false b e = absurd (true≢false (sym e))
-
 -- any two of them
 rising-any : (before : ℕ) (ts : List ℕ) → rises before ts ≡ true → (i j : ℕ) → i ≤ j → j < length ts → (before ≤ getD ts i 0) × (getD ts i 0 ≤ getD ts j 0)
 unfolding rises
@@ -222,17 +220,17 @@ follows-so ts at t e =
     (ltb-true 0 at (a .0), eqb-true (getD ts (at - 1) 0) t (a .1))
 
 module _ (ts : List ℕ) (n at : ℕ) where
-  pub alone-no-next : hasTime ts n (at + 1) (getD ts at 0) ≡ true → false ≡ aloneAt ts n at
+  pub alone-no-next : hasTimeAt ts n (at + 1) (getD ts at 0) ≡ true → false ≡ aloneAt ts n at
   unfolding aloneAt
   alone-no-next e = rw e
 
-  pub alone-before : hasTime ts n (at + 1) (getD ts at 0) ≡ false → not (followsTime ts at (getD ts at 0)) ≡ aloneAt ts n at
+  pub alone-before : hasTimeAt ts n (at + 1) (getD ts at 0) ≡ false → not (followsTime ts at (getD ts at 0)) ≡ aloneAt ts n at
   unfolding aloneAt
   alone-before e = rw e
 
   -- no other of the first n times is that at this place
   alone-only : Rising ts n → at < n → aloneAt ts n at ≡ true → (j : ℕ) → j < n → (j ≡ at → ⊥) → getD ts j 0 ≡ getD ts at 0 → ⊥
-  unfolding aloneAt hasTime followsTime
+  unfolding aloneAt hasTimeAt followsTime
   alone-only rising h e j l ne q =
       let t = getD ts at 0 in
       let next = ltb (at + 1) n && eqb (getD ts (at + 1) 0) t in

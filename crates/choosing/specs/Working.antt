@@ -8,8 +8,9 @@ use lib.Dec.{leb, ltb, eqb}
 use lib.ListN.{length, set, getD}
 use Rattle.level.specs.Lists.{filled}
 use Rattle.level.specs.Choice.{pick}
-use Rattle.records.specs.declared.Effect.the-variants.{Trip}
+use Rattle.level.specs.Numbers.{instructionPlaces}
 use Rattle.records.specs.declared.Instruction.{Instruction}
+use Rattle.records.specs.Records.{noInstruction}
 use Rattle.validation.specs.declared.Numbered.{Numbered}
 use Rattle.validation.specs.Kept.{effectiveOf}
 use Rattle.choosing.specs.declared.Sequence.{Sequence}
@@ -18,18 +19,15 @@ use Rattle.ranking.specs.declared.Found.the-variants.{One, Nothing}
 
 -- a place that holds none
 abbrev pub noNumbered : Numbered
-noNumbered = record {
-  number = 0;
-  instruction = record { effective = 0; issue = 0; meaning = record { lag = 0; rank = 0; effect = Trip }; level = 0; up = 0; down = 0 };
-}
+noNumbered = record { number = 0; instruction = noInstruction }
 
--- the one at the place i, from 0
-abbrev pub entered : ℕ → Instruction → Numbered
-entered i x = record { number = i + 1; instruction = x }
+-- the instruction at the place i, from 0, with its number
+abbrev pub numberedAt : ℕ → Instruction → Numbered
+numberedAt i x = record { number = i + 1; instruction = x }
 
 -- the sequence that holds these; a sequence with one more
-abbrev pub holding : List Numbered → Sequence
-holding xs = record { items = filled 40 noNumbered xs; count = length xs }
+abbrev pub sequenceOf : List Numbered → Sequence
+sequenceOf xs = record { items = filled instructionPlaces noNumbered xs; count = length xs }
 
 unfoldable pub pushed : Sequence → Numbered → Sequence
 pushed s o = record { items = set (s .items) (s .count) o; count = s .count + 1 }
@@ -38,15 +36,15 @@ unfoldable pub joined : Sequence → Found → Sequence
 joined s (One o) = pushed s o
 joined s Nothing = s
 
--- ---- over the effective times and the issue times
+-- ---- over the effective times and the issue times, which the code has in arrays of their own
 
-abbrev pub issueOf : Numbered → ℕ
-issueOf o = o .instruction .issue
+abbrev pub issueTimeOf : Numbered → ℕ
+issueTimeOf o = o .instruction .issue
 
 -- these are the times of these
 pub record Timed (os : List Numbered) (times issues : List ℕ) : Type 0 where
   pub effective : times ≡ map effectiveOf os
-  pub issued : issues ≡ map issueOf os
+  pub issued : issues ≡ map issueTimeOf os
 
 -- the latest so far, with one more looked at; the latest issue time of those at the effective time t, 0 where there is none
 unfoldable pub laterOf : ℕ → ℕ → ℕ → ℕ → ℕ
@@ -57,17 +55,18 @@ latestAt [] js t = 0
 latestAt (x ∷ xs) [] t = 0
 latestAt (x ∷ xs) (j ∷ js) t = laterOf x j t (latestAt xs js t)
 
--- one of those at the effective time t has a later issue time
-abbrev pub supersededAt : List ℕ → List ℕ → ℕ → ℕ → Bool
-supersededAt ts js t issue = ltb issue (latestAt ts js t)
+-- one of those at the effective time t has a later issue time: `superseded` of the validation, over the times (`superseded-is`, proofs/Laws, equates them)
+abbrev pub supersededAmong : List ℕ → List ℕ → ℕ → ℕ → Bool
+supersededAmong ts js t issue = ltb issue (latestAt ts js t)
 
--- the least so far, with one more looked at; the least of the times from t on, else the day's end
+-- the least so far, with one more looked at; the least of the times from t on, else the day's end:
+-- `nextTime` of the validation, over the times (`next-is`, proofs/Laws, equates them)
 unfoldable pub earlierOf : ℕ → ℕ → ℕ → ℕ
 earlierOf x t best = pick (leb t x) (min x best) best
 
-unfoldable pub nextAt : ℕ → List ℕ → ℕ → ℕ
-nextAt end [] t = end
-nextAt end (x ∷ xs) t = earlierOf x t (nextAt end xs t)
+unfoldable pub nextTimeAmong : ℕ → List ℕ → ℕ → ℕ
+nextTimeAmong end [] t = end
+nextTimeAmong end (x ∷ xs) t = earlierOf x t (nextTimeAmong end xs t)
 
 -- each of the times is at least the one before it, the first at least `before`
 unfoldable pub rises : ℕ → List ℕ → Bool
@@ -79,8 +78,8 @@ abbrev pub Rising : List ℕ → ℕ → Type 0
 Rising ts n = (i j : ℕ) → i ≤ j → j < n → getD ts i 0 ≤ getD ts j 0
 
 -- a place is among the first n and has the time t
-unfoldable pub hasTime : List ℕ → ℕ → ℕ → ℕ → Bool
-hasTime ts n at t = ltb at n && eqb (getD ts at 0) t
+unfoldable pub hasTimeAt : List ℕ → ℕ → ℕ → ℕ → Bool
+hasTimeAt ts n at t = ltb at n && eqb (getD ts at 0) t
 
 -- the place before, where there is one, has the time t
 unfoldable pub followsTime : List ℕ → ℕ → ℕ → Bool
@@ -88,7 +87,7 @@ followsTime ts at t = ltb 0 at && eqb (getD ts (at - 1) 0) t
 
 -- neither the next place nor the one before has the time at a place
 unfoldable pub aloneAt : List ℕ → ℕ → ℕ → Bool
-aloneAt ts n at = not (hasTime ts n (at + 1) (getD ts at 0)) && not (followsTime ts at (getD ts at 0))
+aloneAt ts n at = not (hasTimeAt ts n (at + 1) (getD ts at 0)) && not (followsTime ts at (getD ts at 0))
 
 -- among the first n times, from a place on, the run of t ends before the place r
 pub record Run (ts : List ℕ) (n t from r : ℕ) : Type 0 where

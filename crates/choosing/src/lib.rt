@@ -4,24 +4,21 @@ ghost use Prim.Native.Nat.{_-_, _<_, _≤_};
 ghost use mathlib.Core.Bool.{_&&_};
 ghost use mathlib.Core.List.{[]};
 ghost use lib.ListN.{length, take, getD};
+ghost use Rattle.level.specs.Numbers.{instructionPlaces};
 ghost use Rattle.validation.specs.Kept.{numbered, group, usedOf, used};
 ghost use Rattle.ranking.specs.Found.{foundList};
-ghost use Rattle.choosing.specs.Working.{noNumbered, entered, holding, pushed, joined, Timed, laterOf, latestAt, hasTime, followsTime, aloneAt, rises, earlierOf, nextAt, Rising, Run};
+ghost use Rattle.choosing.specs.Working.{noNumbered, numberedAt, sequenceOf, pushed, joined, Timed, laterOf, latestAt, hasTimeAt, followsTime, aloneAt, rises, earlierOf, nextTimeAmong, Rising, Run};
 
 // Some of the instructions, in order: the first `count` places.
 pub struct Sequence {
-    pub items: [validation::Numbered; 40],
+    pub items: [validation::Numbered; level::INSTRUCTIONS],
     pub count: usize,
 }
 
-const SYNC: u8 = 4;
-
-const DESY: u8 = 6;
-
 // The instruction at a place, with its number: from 1 as entered.
 fn number_at(instruction: records::Instruction, at: usize) -> validation::Numbered
-    requires { ⌜ at < 40 ⌝ }
-    ensures { λ r. ⌜ r ≡ entered at instruction ⌝ }
+    requires { ⌜ at < instructionPlaces ⌝ }
+    ensures { λ r. ⌜ r ≡ numberedAt at instruction ⌝ }
 {
     let number = at as u32 + 1;
     validation::Numbered {
@@ -32,23 +29,19 @@ fn number_at(instruction: records::Instruction, at: usize) -> validation::Number
 
 // ---- sequences
 
-// A place that holds none.
+// A place that holds none. Field by field: the compiler then sees zeros, and fills an array of them at once.
 pub fn no_one() -> validation::Numbered
     ensures { λ r. ⌜ r ≡ noNumbered ⌝ }
 {
-    let effect = records::Effect::Trip;
-    let meaning = records::Meaning {
-        lag: 0,
-        rank: 0,
-        effect,
-    };
+    let i = records::no_instruction();
+    let meaning = i.meaning;
     let instruction = records::Instruction {
-        effective: 0,
-        issue: 0,
+        effective: i.effective,
+        issue: i.issue,
         meaning,
-        level: 0,
-        up: 0,
-        down: 0,
+        level: i.level,
+        up: i.up,
+        down: i.down,
     };
     validation::Numbered {
         number: 0,
@@ -58,16 +51,16 @@ pub fn no_one() -> validation::Numbered
 
 // None of them.
 pub fn empty() -> Sequence
-    ensures { λ r. ⌜ r ≡ holding [] ⌝ }
+    ensures { λ r. ⌜ r ≡ sequenceOf [] ⌝ }
 {
     let none = no_one();
-    let items = [none; 40];
+    let items = [none; level::INSTRUCTIONS];
     Sequence { items, count: 0 }
 }
 
 // With one more.
 fn push(s: Sequence, o: validation::Numbered) -> Sequence
-    requires { ⌜ s .count < 40 ⌝ }
+    requires { ⌜ s .count < instructionPlaces ⌝ }
     ensures { λ r. ⌜ r ≡ pushed s o ⌝ }
 {
     let at = s.count;
@@ -79,7 +72,7 @@ fn push(s: Sequence, o: validation::Numbered) -> Sequence
 
 // With what was found.
 fn push_found(s: Sequence, found: ranking::Found) -> Sequence
-    requires { ⌜ s .count < 40 ⌝ }
+    requires { ⌜ s .count < instructionPlaces ⌝ }
     ensures { λ r. ⌜ r ≡ joined s found ⌝ }
 {
     match found {
@@ -97,15 +90,17 @@ fn later(x: u32, j: u32, t: u32, best: u32) -> u32
     if x != t {
         return best;
     }
-    if best < j {
-        return j;
-    }
-    best
+    level::larger(j, best)
 }
 
 // The latest issue time of those of the first n at the effective time t; 0 where there is none.
-fn latest_at(times: &[u32; 40], issues: &[u32; 40], n: usize, t: u32) -> u32
-    requires { ⌜ (n ≤ 40) × (n ≤ length (now times)) × (n ≤ length (now issues)) ⌝ }
+fn latest_at(
+    times: &[u32; level::INSTRUCTIONS],
+    issues: &[u32; level::INSTRUCTIONS],
+    n: usize,
+    t: u32,
+) -> u32
+    requires { ⌜ (n ≤ instructionPlaces) × (n ≤ length (now times)) × (n ≤ length (now issues)) ⌝ }
     ensures { λ r. ⌜ r ≡ latestAt (take n (now (times .entry))) (take n (now (issues .entry))) t ⌝ }
 {
     let mut best: u32 = 0;
@@ -120,9 +115,9 @@ fn latest_at(times: &[u32; 40], issues: &[u32; 40], n: usize, t: u32) -> u32
 }
 
 // A place is among the first n and has the time t.
-fn has_time(times: &[u32; 40], n: usize, at: usize, t: u32) -> bool
-    requires { ⌜ n ≤ 40 ⌝ }
-    ensures { λ r. ⌜ r ≡ hasTime (now (times .entry)) n at t ⌝ }
+fn has_time(times: &[u32; level::INSTRUCTIONS], n: usize, at: usize, t: u32) -> bool
+    requires { ⌜ n ≤ instructionPlaces ⌝ }
+    ensures { λ r. ⌜ r ≡ hasTimeAt (now (times .entry)) n at t ⌝ }
 {
     if n <= at {
         return false;
@@ -131,8 +126,8 @@ fn has_time(times: &[u32; 40], n: usize, at: usize, t: u32) -> bool
 }
 
 // The place before has the time t.
-fn follows_time(times: &[u32; 40], at: usize, t: u32) -> bool
-    requires { ⌜ at ≤ 40 ⌝ }
+fn follows_time(times: &[u32; level::INSTRUCTIONS], at: usize, t: u32) -> bool
+    requires { ⌜ at ≤ instructionPlaces ⌝ }
     ensures { λ r. ⌜ r ≡ followsTime (now (times .entry)) at t ⌝ }
 {
     if at == 0 {
@@ -142,8 +137,8 @@ fn follows_time(times: &[u32; 40], at: usize, t: u32) -> bool
 }
 
 // The times stand in order, and neither neighbour of a place has its time: no other has it.
-fn stands_alone(times: &[u32; 40], n: usize, at: usize, ordered: bool) -> bool
-    requires { ⌜ (at < n) × (n ≤ 40) ⌝ }
+fn stands_alone(times: &[u32; level::INSTRUCTIONS], n: usize, at: usize, ordered: bool) -> bool
+    requires { ⌜ (at < n) × (n ≤ instructionPlaces) ⌝ }
     ensures { λ r. ⌜ r ≡ (ordered && aloneAt (now (times .entry)) n at) ⌝ }
 {
     if !ordered {
@@ -158,14 +153,14 @@ fn stands_alone(times: &[u32; 40], n: usize, at: usize, ordered: bool) -> bool
 
 // The latest issue time of those at the effective time of a place; `before` is that for the place before it.
 pub fn latest_of(
-    times: &[u32; 40],
-    issues: &[u32; 40],
+    times: &[u32; level::INSTRUCTIONS],
+    issues: &[u32; level::INSTRUCTIONS],
     n: usize,
     at: usize,
     ordered: bool,
     before: u32,
 ) -> u32
-    requires { ⌜ (at < n) × (n ≤ 40) × (n ≤ length (now times)) × (n ≤ length (now issues)) × (ordered ≡ rises 0 (take n (now times))) ⌝ }
+    requires { ⌜ (at < n) × (n ≤ instructionPlaces) × (n ≤ length (now times)) × (n ≤ length (now issues)) × (ordered ≡ rises 0 (take n (now times))) ⌝ }
     requires { ⌜ (0 < at → before ≡ latestAt (take n (now times)) (take n (now issues)) (getD (now times) (at - 1) 0)) ⌝ }
     ensures { λ r. ⌜ r ≡ latestAt (take n (now (times .entry))) (take n (now (issues .entry))) (getD (now (times .entry)) at 0) ⌝ }
 {
@@ -183,13 +178,13 @@ pub fn latest_of(
 
 // The one that is used of those left at the effective time t, of the first n with these times.
 fn used_at(
-    instructions: [records::Instruction; 40],
-    times: &[u32; 40],
-    issues: &[u32; 40],
+    instructions: [records::Instruction; level::INSTRUCTIONS],
+    times: &[u32; level::INSTRUCTIONS],
+    issues: &[u32; level::INSTRUCTIONS],
     n: usize,
     t: u32,
 ) -> ranking::Found
-    requires { ⌜ (n ≤ 40) × Timed (numbered 1 (take n instructions)) (take n (now times)) (take n (now issues)) ⌝ }
+    requires { ⌜ (n ≤ instructionPlaces) × Timed (numbered 1 (take n instructions)) (take n (now times)) (take n (now issues)) ⌝ }
     ensures { λ r. ⌜ foundList r ≡ usedOf (group (numbered 1 (take n instructions)) t) ⌝ }
 {
     let latest = latest_at(times, issues, n, t);
@@ -209,9 +204,9 @@ fn used_at(
         let instruction = instructions[at];
         let o = number_at(instruction, at);
         best = ranking::better(best, o);
-        let s = ranking::of_code(o, SYNC);
+        let s = ranking::of_code(o, records::Effect::Sync);
         sync = ranking::or_else(sync, s);
-        let d = ranking::of_code(o, DESY);
+        let d = ranking::of_code(o, records::Effect::Desy);
         desy = ranking::or_else(desy, d);
     }
     ranking::used_of(best, sync, desy)
@@ -226,16 +221,13 @@ fn earlier(x: u32, t: u32, best: u32) -> u32
     if x < t {
         return best;
     }
-    if x < best {
-        return x;
-    }
-    best
+    level::smaller(x, best)
 }
 
 // The least of the first n times from t on; the day's end where there is none.
-fn next_time(times: &[u32; 40], n: usize, t: u32, end: u32) -> u32
-    requires { ⌜ (n ≤ 40) × (n ≤ length (now times)) ⌝ }
-    ensures { λ r. ⌜ r ≡ nextAt end (take n (now (times .entry))) t ⌝ }
+fn next_time(times: &[u32; level::INSTRUCTIONS], n: usize, t: u32, end: u32) -> u32
+    requires { ⌜ (n ≤ instructionPlaces) × (n ≤ length (now times)) ⌝ }
+    ensures { λ r. ⌜ r ≡ nextTimeAmong end (take n (now (times .entry))) t ⌝ }
 {
     let mut best = end;
     let mut i = n;
@@ -248,8 +240,8 @@ fn next_time(times: &[u32; 40], n: usize, t: u32, end: u32) -> u32
 }
 
 // The first n times stand in order.
-pub fn in_order(times: &[u32; 40], n: usize) -> bool
-    requires { ⌜ (n ≤ 40) × (n ≤ length (now times)) ⌝ }
+pub fn in_order(times: &[u32; level::INSTRUCTIONS], n: usize) -> bool
+    requires { ⌜ (n ≤ instructionPlaces) × (n ≤ length (now times)) ⌝ }
     ensures { λ r. ⌜ r ≡ rises 0 (take n (now (times .entry))) ⌝ }
 {
     let mut before: u32 = 0;
@@ -266,8 +258,8 @@ pub fn in_order(times: &[u32; 40], n: usize) -> bool
 }
 
 // The place after the run of the time t from a place on.
-fn run_end(times: &[u32; 40], n: usize, t: u32, from: usize) -> usize
-    requires { ⌜ (from ≤ n) × (n ≤ 40) ⌝ }
+fn run_end(times: &[u32; level::INSTRUCTIONS], n: usize, t: u32, from: usize) -> usize
+    requires { ⌜ (from ≤ n) × (n ≤ instructionPlaces) ⌝ }
     ensures { λ r. ⌜ Run (now (times .entry)) n t from r ⌝ }
 {
     let mut i = from;
@@ -282,14 +274,14 @@ fn run_end(times: &[u32; 40], n: usize, t: u32, from: usize) -> usize
 
 // Those used, where the times stand in order: those at one time stand side by side, and one alone is used as it is.
 fn used_ordered(
-    instructions: [records::Instruction; 40],
-    times: &[u32; 40],
-    issues: &[u32; 40],
+    instructions: [records::Instruction; level::INSTRUCTIONS],
+    times: &[u32; level::INSTRUCTIONS],
+    issues: &[u32; level::INSTRUCTIONS],
     n: usize,
     end: u32,
 ) -> Sequence
-    requires { ⌜ (n ≤ 40) × Timed (numbered 1 (take n instructions)) (take n (now times)) (take n (now issues)) × Rising (now times) n ⌝ }
-    ensures { λ r. ⌜ (r ≡ holding (used end (numbered 1 (take n instructions)))) × (r .count ≤ 40) ⌝ }
+    requires { ⌜ (n ≤ instructionPlaces) × Timed (numbered 1 (take n instructions)) (take n (now times)) (take n (now issues)) × Rising (now times) n ⌝ }
+    ensures { λ r. ⌜ (r ≡ sequenceOf (used end (numbered 1 (take n instructions)))) × (r .count ≤ instructionPlaces) ⌝ }
 {
     let mut out = empty();
     let mut i: usize = 0;
@@ -323,14 +315,14 @@ fn used_ordered(
 
 // Those used, whatever the order of the times: those at the next time, one time after another.
 fn used_any(
-    instructions: [records::Instruction; 40],
-    times: &[u32; 40],
-    issues: &[u32; 40],
+    instructions: [records::Instruction; level::INSTRUCTIONS],
+    times: &[u32; level::INSTRUCTIONS],
+    issues: &[u32; level::INSTRUCTIONS],
     n: usize,
     end: u32,
 ) -> Sequence
-    requires { ⌜ (n ≤ 40) × Timed (numbered 1 (take n instructions)) (take n (now times)) (take n (now issues)) ⌝ }
-    ensures { λ r. ⌜ (r ≡ holding (used end (numbered 1 (take n instructions)))) × (r .count ≤ 40) ⌝ }
+    requires { ⌜ (n ≤ instructionPlaces) × Timed (numbered 1 (take n instructions)) (take n (now times)) (take n (now issues)) ⌝ }
+    ensures { λ r. ⌜ (r ≡ sequenceOf (used end (numbered 1 (take n instructions)))) × (r .count ≤ instructionPlaces) ⌝ }
 {
     let mut out = empty();
     let mut t: u32 = 0;
@@ -350,15 +342,15 @@ fn used_any(
 
 // Those used, in the order of their effective times.
 pub fn used_in(
-    instructions: [records::Instruction; 40],
-    times: &[u32; 40],
-    issues: &[u32; 40],
+    instructions: [records::Instruction; level::INSTRUCTIONS],
+    times: &[u32; level::INSTRUCTIONS],
+    issues: &[u32; level::INSTRUCTIONS],
     n: usize,
     end: u32,
     ordered: bool,
 ) -> Sequence
-    requires { ⌜ (n ≤ 40) × (n ≤ length (now times)) × Timed (numbered 1 (take n instructions)) (take n (now times)) (take n (now issues)) × (ordered ≡ rises 0 (take n (now times))) ⌝ }
-    ensures { λ r. ⌜ (r ≡ holding (used end (numbered 1 (take n instructions)))) × (r .count ≤ 40) ⌝ }
+    requires { ⌜ (n ≤ instructionPlaces) × (n ≤ length (now times)) × Timed (numbered 1 (take n instructions)) (take n (now times)) (take n (now issues)) × (ordered ≡ rises 0 (take n (now times))) ⌝ }
+    ensures { λ r. ⌜ (r ≡ sequenceOf (used end (numbered 1 (take n instructions)))) × (r .count ≤ instructionPlaces) ⌝ }
 {
     if ordered {
         return used_ordered(instructions, times, issues, n, end);

@@ -7,11 +7,11 @@ use mathlib.Core.Bool.{Bool, true, false, true≢false}
 use native.Mathlib.Decide.{decLe, ℕ-discrete}
 use native.Mathlib.Omega.{arith}
 use lib.Dec.{leb, eqb}
-use lib.ListN.{length, take, getD, set, replicate, length-map, List·getD-append, List·getD-map}
-use lib.Seq.{getD-take, take-set-lt, set-append-left}
+use lib.ListN.{length, getD, set, length-map, List·getD-map}
 use borrow.Author.Tests.{le-leb, lt-leb, eq-eqb, ne-eqb}
 use Rattle.level.specs.Choice.{pick}
 use Rattle.level.specs.Lists.{All, filled}
+use Rattle.level.specs.Numbers.{instructionPlaces}
 use Rattle.level.proofs.Lists.{by-bool}
 use Rattle.records.specs.declared.UnitData.{UnitData}
 use Rattle.records.specs.declared.Instruction.{Instruction}
@@ -22,12 +22,13 @@ use Rattle.validation.specs.Kept.{Mark, mark, numbered, superseded, effectOf, e
 use Rattle.validation.proofs.Few.{numbered-length, fates-length}
 use Rattle.choosing.specs.Working.{noNumbered}
 use Rattle.profile.specs.declared.UnderWay.{UnderWay}
-use Rattle.profile.specs.declared.State.{State}
 use Rattle.profile.specs.State.{byRule}
-use Rattle.profile.specs.Effects.{Followed, idle, begun, goesOn, replaces, stateAt, follow}
+use Rattle.profile.specs.Effects.{goesOn, replaces, follow}
+use Rattle.level.proofs.Arrays.{filled-at, filled-set}
+use Rattle.profile.proofs.Following.{follow-ind}
 use Rattle.close.specs.declared.Fates.{Fates}
 use Rattle.following.specs.Walk.{fateIn}
-use Rattle.close.specs.Laying.{overFate, overAll, laid, laidAll, marksFrom}
+use Rattle.close.specs.Laying.{overFate, overAll, overlaid, overlaidAll, marksFrom}
 
 -- ---- one fate, case by case
 module _ (fates : List ℕ) (count number fate : ℕ) where
@@ -52,21 +53,21 @@ module _ (s : Fates) (number fate : ℕ) where
   abbrev with : List ℕ → Fates
   with fates = record { count = s .count; fates = fates }
 
-  pub laid-none : number ≡ 0 → s ≡ laid s number fate
-  unfolding laid
-  laid-none z = ap with (over-none (s .fates) (s .count) number fate z)
+  pub overlaid-none : number ≡ 0 → s ≡ overlaid s number fate
+  unfolding overlaid
+  overlaid-none z = ap with (over-none (s .fates) (s .count) number fate z)
 
-  pub laid-out : (number ≡ 0 → ⊥) → s .count ≤ number - 1 → s ≡ laid s number fate
-  unfolding laid
-  laid-out z h = ap with (over-out (s .fates) (s .count) number fate z h)
+  pub overlaid-out : (number ≡ 0 → ⊥) → s .count ≤ number - 1 → s ≡ overlaid s number fate
+  unfolding overlaid
+  overlaid-out z h = ap with (over-out (s .fates) (s .count) number fate z h)
 
-  pub laid-one : (number ≡ 0 → ⊥) → number - 1 < s .count → getD (s .fates) (number - 1) 0 ≡ 1 → s ≡ laid s number fate
-  unfolding laid
-  laid-one z h e = ap with (over-one (s .fates) (s .count) number fate z h e)
+  pub overlaid-one : (number ≡ 0 → ⊥) → number - 1 < s .count → getD (s .fates) (number - 1) 0 ≡ 1 → s ≡ overlaid s number fate
+  unfolding overlaid
+  overlaid-one z h e = ap with (over-one (s .fates) (s .count) number fate z h e)
 
-  pub laid-set : (number ≡ 0 → ⊥) → number - 1 < s .count → (getD (s .fates) (number - 1) 0 ≡ 1 → ⊥) → with (set (s .fates) (number - 1) fate) ≡ laid s number fate
-  unfolding laid
-  laid-set z h e = ap with (over-set (s .fates) (s .count) number fate z h e)
+  pub overlaid-set : (number ≡ 0 → ⊥) → number - 1 < s .count → (getD (s .fates) (number - 1) 0 ≡ 1 → ⊥) → with (set (s .fates) (number - 1) fate) ≡ overlaid s number fate
+  unfolding overlaid
+  overlaid-set z h e = ap with (over-set (s .fates) (s .count) number fate z h e)
 
 -- the loop from the last to the first
 module _ (acts : List Numbered) (own : List ℕ) (n : ℕ) where
@@ -81,17 +82,23 @@ module _ (acts : List Numbered) (own : List ℕ) (n : ℕ) where
       ap (marksFrom acts own (i - 1)) {x = n - (i - 1)} {y = suc (n - i)} (omega arith)
       ∙ ap (λ (j : ℕ). record { number = getD acts (i - 1) noNumbered .number; fate = getD own (i - 1) 0 } ∷ marksFrom acts own j (n - i)) {x = suc (i - 1)} {y = i} (omega arith)
 
-  pub laid-start : (s : Fates) → s ≡ laidAll s (marksFrom acts own n (n - n))
-  unfolding laidAll overAll
-  laid-start s = sym (ap (laidAll s) marks-none)
+  pub overlaid-start : (s : Fates) → s ≡ overlaidAll s (marksFrom acts own n (n - n))
+  unfolding overlaidAll overAll
+  overlaid-start s = sym (ap (overlaidAll s) marks-none)
 
-  pub laid-back : (s r : Fates) (i : ℕ) → 0 < i → i ≤ n → r ≡ laidAll s (marksFrom acts own i (n - i)) →
-      laid r (getD acts (i - 1) noNumbered .number) (getD own (i - 1) 0) ≡ laidAll s (marksFrom acts own (i - 1) (n - (i - 1)))
-  unfolding laidAll laid overAll
-  laid-back s r i h k e = ap (λ (x : Fates). laid x (getD acts (i - 1) noNumbered .number) (getD own (i - 1) 0)) e ∙ sym (ap (laidAll s) (marks-back i h k))
+  pub overlaid-back : (s r : Fates) (i : ℕ) → 0 < i → i ≤ n → r ≡ overlaidAll s (marksFrom acts own i (n - i)) →
+      overlaid r (getD acts (i - 1) noNumbered .number) (getD own (i - 1) 0) ≡ overlaidAll s (marksFrom acts own (i - 1) (n - (i - 1)))
+  unfolding overlaidAll overlaid overAll
+  overlaid-back s r i h k e = ap (λ (x : Fates). overlaid x (getD acts (i - 1) noNumbered .number) (getD own (i - 1) 0)) e ∙ sym (ap (overlaidAll s) (marks-back i h k))
 
-  pub laid-end : (s r : Fates) (i : ℕ) → i ≡ 0 → r ≡ laidAll s (marksFrom acts own i (n - i)) → r ≡ laidAll s (marksFrom acts own 0 n)
-  laid-end s r i z e = e ∙ ap (λ (k : ℕ). laidAll s (marksFrom acts own k (n - k))) z ∙ ap (λ (k : ℕ). laidAll s (marksFrom acts own 0 k)) {x = n - 0} {y = n} (omega arith)
+  pub overlaid-end : (s r : Fates) (i : ℕ) → i ≡ 0 → r ≡ overlaidAll s (marksFrom acts own i (n - i)) → r ≡ overlaidAll s (marksFrom acts own 0 n)
+  overlaid-end s r i z e = e ∙ ap (λ (k : ℕ). overlaidAll s (marksFrom acts own k (n - k))) z ∙ ap (λ (k : ℕ). overlaidAll s (marksFrom acts own 0 k)) {x = n - 0} {y = n} (omega arith)
+
+-- the fates of those from the place i on are laid over
+pub record LaidFrom (n : ℕ) (acts : List Numbered) (own : List ℕ) (s r : Fates) (i : ℕ) : Type 0 where
+  pub within : i ≤ n
+  pub few : r .count ≤ instructionPlaces
+  pub over : r ≡ overlaidAll s (marksFrom acts own i (n - i))
 
 -- ---- no mark gives fate 1
 abbrev NotOne : List Mark → Type 0
@@ -192,45 +199,35 @@ module _ (all : List Numbered) (m : Mark) (ms : List Mark) where
       let f : eqb (m .number) k ≡ false = ne-eqb (m .number) k (λ q. omega arith) in
       λ x. pick (superseded all o) 1 ((ap (λ (b : Bool). pick b (m .fate) (fateAmong k ms)) f) x) ∷ (mark-set (suc k) j is (omega arith) (omega arith) one) x
 
--- ---- arrays that begin with a list
-module _ {A : Type 0} (z : A) (n : ℕ) (xs : List A) where
-  filled-at : (j : ℕ) (d : A) → j < length xs → j < n → getD (filled n z xs) j d ≡ getD xs j d
-  unfolding filled
-  filled-at j d h k = getD-take n (xs ++ replicate n z) j d k ∙ List·getD-append xs (replicate n z) d j h
-
-  filled-set : (j : ℕ) (v : A) → j < length xs → j < n → set (filled n z xs) j v ≡ filled n z (set xs j v)
-  unfolding filled
-  filled-set j v h k = sym (take-set-lt n (xs ++ replicate n z) j v k) ∙ ap (take n) (set-append-left xs (replicate n z) j v h)
-
 -- ---- one more mark in front is one more fate laid over
-module _ (all : List Numbered) (is : List Instruction) (few : length is ≤ 40) where
+module _ (all : List Numbered) (is : List Instruction) (few : length is ≤ instructionPlaces) where
   abbrev fatesBy : List Mark → List ℕ
   fatesBy ms = fatesOf all ms (numbered 1 is)
 
   many : (ms : List Mark) → length (fatesBy ms) ≡ length is
   many ms = fates-length all ms (numbered 1 is) ∙ numbered-length 1 is
 
-  over-mark : (m : Mark) (ms : List Mark) → NotOne ms → overFate (filled 40 0 (fatesBy ms)) (length is) (m .number) (m .fate) ≡ filled 40 0 (fatesBy (m ∷ ms))
+  over-mark : (m : Mark) (ms : List Mark) → NotOne ms → overFate (filled instructionPlaces 0 (fatesBy ms)) (length is) (m .number) (m .fate) ≡ filled instructionPlaces 0 (fatesBy (m ∷ ms))
   over-mark m ms d =
-      let xs : List ℕ = filled 40 0 (fatesBy ms) in
+      let xs : List ℕ = filled instructionPlaces 0 (fatesBy ms) in
       let j : ℕ = m .number - 1 in
       elim (ℕ-discrete (m .number) 0) [
-        | yes z ↦ sym (over-none xs (length is) (m .number) (m .fate) z) ∙ sym (ap (filled 40 0) (mark-other all m ms 1 is (λ i p q. omega arith)))
+        | yes z ↦ sym (over-none xs (length is) (m .number) (m .fate) z) ∙ sym (ap (filled instructionPlaces 0) (mark-other all m ms 1 is (λ i p q. omega arith)))
         | no z ↦ elim (decLe (length is) j) [
-          | yes h ↦ sym (over-out xs (length is) (m .number) (m .fate) z h) ∙ sym (ap (filled 40 0) (mark-other all m ms 1 is (λ i p q. omega arith)))
+          | yes h ↦ sym (over-out xs (length is) (m .number) (m .fate) z h) ∙ sym (ap (filled instructionPlaces 0) (mark-other all m ms 1 is (λ i p q. omega arith)))
           | no h ↦
-              let here : getD xs j 0 ≡ getD (fatesBy ms) j 0 = filled-at 0 40 (fatesBy ms) j 0 (omega (arith, many ms)) (omega arith) in
+              let here : getD xs j 0 ≡ getD (fatesBy ms) j 0 = filled-at 0 instructionPlaces (fatesBy ms) j 0 (omega (arith, many ms)) (omega arith) in
               elim (ℕ-discrete (getD (fatesBy ms) j 0) 1) [
-                | yes e ↦ sym (over-one xs (length is) (m .number) (m .fate) z (omega arith) (here ∙ e)) ∙ sym (ap (filled 40 0) (mark-one all m ms d 1 j is (omega arith) (omega arith) e))
+                | yes e ↦ sym (over-one xs (length is) (m .number) (m .fate) z (omega arith) (here ∙ e)) ∙ sym (ap (filled instructionPlaces 0) (mark-one all m ms d 1 j is (omega arith) (omega arith) e))
                 | no e ↦
                     sym (over-set xs (length is) (m .number) (m .fate) z (omega arith) (λ q. e (sym here ∙ q)))
-                    ∙ filled-set 0 40 (fatesBy ms) j (m .fate) (omega (arith, many ms)) (omega arith)
-                    ∙ sym (ap (filled 40 0) (mark-set all m ms 1 j is (omega arith) (omega arith) e))
+                    ∙ filled-set 0 instructionPlaces (fatesBy ms) j (m .fate) (omega (arith, many ms)) (omega arith)
+                    ∙ sym (ap (filled instructionPlaces 0) (mark-set all m ms 1 j is (omega arith) (omega arith) e))
               ]
         ]
       ]
 
-  over-marks : (ns ms : List Mark) → NotOne ns → NotOne ms → overAll (filled 40 0 (fatesBy ms)) (length is) ns ≡ filled 40 0 (fatesBy (ns ++ ms))
+  over-marks : (ns ms : List Mark) → NotOne ns → NotOne ms → overAll (filled instructionPlaces 0 (fatesBy ms)) (length is) ns ≡ filled instructionPlaces 0 (fatesBy (ns ++ ms))
   unfolding overAll
   over-marks [] ms p q = refl
   over-marks (n ∷ ns) ms p q =
@@ -256,54 +253,46 @@ marks-are acts own i (m ∷ ms) h =
     (ap (λ (k : ℕ). getD acts k noNumbered .number) f ∙ b .0, ap (λ (k : ℕ). getD own k 0) f ∙ b .1))) x
 
 -- as many as act, with their numbers, and none has fate 1
-abbrev Are : List Mark → List Numbered → Type 0
-Are ms ns = (length ms ≡ length ns) × ((j : ℕ) → getD ms j noMark .number ≡ getD ns j noNumbered .number) × NotOne ms
+record Are (ms : List Mark) (ns : List Numbered) : Type 0 where
+  many : length ms ≡ length ns
+  numbers : (j : ℕ) → getD ms j noMark .number ≡ getD ns j noNumbered .number
+  not-one : NotOne ms
 
 one-more : (o : Numbered) (os : List Numbered) (fate : ℕ) → eqb fate 1 ≡ false → (ms : List Mark) → Are ms os → Are (mark fate o ∷ ms) (o ∷ os)
-one-more o os fate e ms a = (ap suc (a .0), at, (e, a .2))
+one-more o os fate e ms a = record { many = ap suc (a .many); numbers = at; not-one = (e, a .not-one) }
   where
     at : (j : ℕ) → getD (mark fate o ∷ ms) j noMark .number ≡ getD (o ∷ os) j noNumbered .number
     at zero = refl
-    at (suc j) = a .1 j
+    at (suc j) = a .numbers j
 
-module _ (u : UnitData) where
-  abbrev marksOf : UnderWay → List Numbered → List Mark
-  marksOf now os = follow byRule u now os .marks
-
-  pub follow-marks : (now : UnderWay) (os : List Numbered) → Are (marksOf now os) os
-  unfolding follow goesOn replaces
-  follow-marks now [] = (refl, λ j. refl, tt)
-  follow-marks now (o ∷ os) =
-      let s : State = stateAt byRule u now (acting o) in
-      go (begun u now o s) (idle (o .instruction .meaning .effect) (o .instruction .level) (s .level) (now .maximised)) (follow-marks now os) (follow-marks (begun u now o s) os)
-    where
-      go : (next : UnderWay) (b : Bool) → Are (marksOf now os) os → Are (marksOf next os) os →
-          let f : Followed = elim b [ true ↦ goesOn o (follow byRule u now os) | false ↦ replaces now o (follow byRule u next os) ] in Are (f .marks) (o ∷ os)
-      go next true p q = one-more o os 7 refl (marksOf now os) p
-      go next false p q = one-more o os 0 refl (marksOf next os) q
+follow-marks : (u : UnitData) (now : UnderWay) (os : List Numbered) → Are (follow byRule u now os .marks) os
+follow-marks u = follow-ind byRule u (λ now os f. Are (f .marks) os)
+    (λ now. record { many = refl; numbers = λ j. refl; not-one = tt })
+    (λ now o os f e a. unfold goesOn in one-more o os 7 refl (f .marks) a)
+    (λ now o os g f e a. unfold replaces in one-more o os 0 refl (f .marks) a)
 
 -- ---- all together
 
-module _ (u : UnitData) (now : UnderWay) (os : List Numbered) (few : length os ≤ 40) where
+module _ (u : UnitData) (now : UnderWay) (os : List Numbered) (few : length os ≤ instructionPlaces) where
   abbrev own : List Mark
-  own = marksOf u now os
+  own = follow byRule u now os .marks
 
   -- what the arrays of those that act hold
-  pub own-marks : marksFrom (filled 40 noNumbered os) (filled 40 0 (map fateIn own)) 0 (length os) ≡ own
+  pub own-marks : marksFrom (filled instructionPlaces noNumbered os) (filled instructionPlaces 0 (map fateIn own)) 0 (length os) ≡ own
   own-marks =
       let f = follow-marks u now os in
-      ap (marksFrom (filled 40 noNumbered os) (filled 40 0 (map fateIn own)) 0) (sym (f .0))
-      ∙ marks-are (filled 40 noNumbered os) (filled 40 0 (map fateIn own)) 0 own
+      ap (marksFrom (filled instructionPlaces noNumbered os) (filled instructionPlaces 0 (map fateIn own)) 0) (sym (f .many))
+      ∙ marks-are (filled instructionPlaces noNumbered os) (filled instructionPlaces 0 (map fateIn own)) 0 own
       (λ j p.
       let e : 0 + j ≡ j = omega arith in
       let q : j < length (map fateIn own) = omega (arith, length-map own fateIn) in (
-        ap (λ (k : ℕ). getD (filled 40 noNumbered os) k noNumbered .number) e
-            ∙ ap (λ (o : Numbered). o .number) (filled-at noNumbered 40 os j noNumbered (omega (arith, f .0)) (omega (arith, f .0))) ∙ sym (f .1 j),
-        ap (λ (k : ℕ). getD (filled 40 0 (map fateIn own)) k 0) e
-            ∙ filled-at 0 40 (map fateIn own) j 0 q (omega (arith, f .0)) ∙ List·getD-map fateIn own j noMark,
+        ap (λ (k : ℕ). getD (filled instructionPlaces noNumbered os) k noNumbered .number) e
+            ∙ ap (λ (o : Numbered). o .number) (filled-at noNumbered instructionPlaces os j noNumbered (omega (arith, f .many)) (omega (arith, f .many))) ∙ sym (f .numbers j),
+        ap (λ (k : ℕ). getD (filled instructionPlaces 0 (map fateIn own)) k 0) e
+            ∙ filled-at 0 instructionPlaces (map fateIn own) j 0 q (omega (arith, f .many)) ∙ List·getD-map fateIn own j noMark,
       ))
 
-  pub fates-found : (end : ℕ) (is : List Instruction) → length is ≤ 40 →
-      overAll (filled 40 0 (fatesOf (numbered 1 is) (validated end (numbered 1 is) .marks) (numbered 1 is))) (length is) own
-      ≡ filled 40 0 (fatesOf (numbered 1 is) (own ++ validated end (numbered 1 is) .marks) (numbered 1 is))
-  fates-found end is h = over-marks (numbered 1 is) is h own (validated end (numbered 1 is) .marks) (follow-marks u now os .2) (marks-not end (numbered 1 is))
+  pub fates-found : (end : ℕ) (is : List Instruction) → length is ≤ instructionPlaces →
+      overAll (filled instructionPlaces 0 (fatesOf (numbered 1 is) (validated end (numbered 1 is) .marks) (numbered 1 is))) (length is) own
+      ≡ filled instructionPlaces 0 (fatesOf (numbered 1 is) (own ++ validated end (numbered 1 is) .marks) (numbered 1 is))
+  fates-found end is h = over-marks (numbered 1 is) is h own (validated end (numbered 1 is) .marks) (follow-marks u now os .not-one) (marks-not end (numbered 1 is))

@@ -1,17 +1,15 @@
 -- What is followed, with the fates laid over, is what close finds.
 -- Assumes nothing.
-use Prim.Native.Nat.{ℕ, suc, _+_, _-_, min, _≤_, _<_}
+use Prim.Native.Nat.{ℕ, suc, _+_, _*_, _-_, min, _≤_, _<_}
 use mathlib.Core.Path.{_≡_, refl, ap, sym, _∙_, subst}
 use mathlib.Core.List.{List, [], _∷_, map}
-use mathlib.Core.Bool.{Bool, true, false}
 use native.Mathlib.Omega.{arith}
 use lib.ListN.{length, take, getD, length-take, length-map}
 use lib.Dec.{ltb}
 use Rattle.level.specs.Level.{grains}
 use Rattle.level.specs.Lists.{All, some, listFrom, filled}
+use Rattle.level.specs.Numbers.{halfHour, mostHalfHours, instructionPlaces, boundaryPlaces}
 use Rattle.records.specs.declared.UnitData.{UnitData}
-use Rattle.records.specs.declared.Opening.{Opening}
-use Rattle.records.specs.declared.Instruction.{Instruction}
 use Rattle.course.specs.declared.Course.{Course}
 use Rattle.validation.specs.declared.Numbered.{Numbered}
 use Rattle.validation.specs.Kept.{acting, numbered, validated}
@@ -20,56 +18,33 @@ use Rattle.validation.proofs.Few.{numbered-length, acts-few}
 use Rattle.keeping.specs.declared.Validation.{Validation}
 use Rattle.choosing.specs.Working.{noNumbered}
 use Rattle.keeping.specs.Outcome.{outcomeOf, validationOf}
-use Rattle.choosing.proofs.Laws.{filled-listed}
+use Rattle.level.proofs.Arrays.{filled-listed, filled-at}
 use Rattle.profile.specs.declared.UnderWay.{UnderWay}
-use Rattle.profile.specs.declared.State.{State}
+use Rattle.profile.specs.declared.Taken.{Taken}
 use Rattle.profile.specs.State.{byRule}
-use Rattle.profile.specs.Effects.{Followed, idle, begun, opened, underWay, courseFrom, goesOn, replaces, stateAt, follow}
-use Rattle.profile.specs.Profile.{Span, spansOf, recordedTo, recordedIn, rounded, twinTo, courseOf, closingBy, closingOf, paper, found, foundBy}
+use Rattle.profile.specs.Taken.{entered}
+use Rattle.profile.specs.Effects.{Followed, startCourse, underWay, courseFrom, stateAt, follow}
+use Rattle.profile.specs.Profile.{Span, spansOf, recordedTo, recordedIn, rounded, twinTo, courseOf, paper, found, foundBy}
+use Rattle.profile.specs.Finding.{arraysOf, quantityAt}
 use Rattle.profile.proofs.Areas.{area-to}
 use Rattle.profile.proofs.Tiles.{day-tiles}
 use Rattle.profile.proofs.Whole.{list-same}
 use Rattle.profile.proofs.Near.{all-map}
-use Rattle.profile.proofs.Most.{Below, courses-below, opened-below}
-use Rattle.profile.proofs.Found.{spans, list-at, sums-step, found-sums, found-quantities}
-use Rattle.day.specs.Day.{halfHours, quantityAt}
-use Rattle.day.specs.Step.{quantityTooHigh}
+use Rattle.profile.proofs.Most.{Below, courses-below, start-below}
+use Rattle.profile.proofs.Found.{spans, list-length, list-at, sums-step, found-sums, found-quantities}
 use Rattle.summing.specs.Summing.{someAbove}
-use Rattle.following.specs.declared.Walk.{Walk}
 use Rattle.following.specs.declared.Followed.{Followed as Following}
-use Rattle.following.specs.Walk.{fateIn, lastOf, walkOf, walkAll}
-use Rattle.following.specs.Following.{Ordered, LowStart, coursesFrom, lastIn, FollowedBy}
+use Rattle.following.specs.declared.Walk.{Walk}
+use Rattle.following.specs.Walk.{fateIn, walkOf, walkAll}
+use Rattle.following.specs.Following.{Ordered, LowStart, coursesFrom, lastIn, Followable, FollowedBy}
 use Rattle.close.specs.declared.Fates.{Fates}
-use Rattle.close.specs.Laying.{overAll, laidAll, marksFrom}
-use Rattle.close.specs.Finding.{arraysOf, findingOf}
+use Rattle.close.specs.Laying.{overAll, overlaidAll, marksFrom}
 use Rattle.close.proofs.Laying.{own-marks, fates-found}
 
--- ---- the last course
-module _ (u : UnitData) (end : ℕ) where
-  closing-last : (c : UnderWay) (cs : List UnderWay) → closingOf paper u end (c ∷ cs) ≡ closingBy (lastOf c cs) (stateAt byRule u (lastOf c cs) end)
-  unfolding closingOf lastOf
-  closing-last c [] = refl
-  closing-last c (d ∷ ds) = closing-last d ds
-
-  closing-found : (now : UnderWay) (os : List Numbered) (d : UnderWay) →
-      closingOf paper u end (follow byRule u now os .courses) ≡ closingBy (lastOf d (follow byRule u now os .courses)) (stateAt byRule u (lastOf d (follow byRule u now os .courses)) end)
-  unfolding follow goesOn replaces lastOf
-  closing-found now [] d = closing-last now []
-  closing-found now (o ∷ os) d =
-      let s : State = stateAt byRule u now (acting o) in
-      go (begun u now o s) (idle (o .instruction .meaning .effect) (o .instruction .level) (s .level) (now .maximised)) (closing-found now os d)
-    where
-      go : (next : UnderWay) (b : Bool) →
-          closingOf paper u end (follow byRule u now os .courses) ≡ closingBy (lastOf d (follow byRule u now os .courses)) (stateAt byRule u (lastOf d (follow byRule u now os .courses)) end) →
-          let f : Followed = elim b [ true ↦ goesOn o (follow byRule u now os) | false ↦ replaces now o (follow byRule u next os) ] in
-          closingOf paper u end (f .courses) ≡ closingBy (lastOf d (f .courses)) (stateAt byRule u (lastOf d (f .courses)) end)
-      go next true ih = ih
-      go next false ih = closing-last now (follow byRule u next os .courses)
-
 -- ---- those that act stand in order
-rising-ordered : (a : ℕ) (os : List Numbered) → a ≤ 86400 → All (λ (l : Numbered). a ≤ acting l) os → Rises os → All (λ (o : Numbered). acting o < 86400) os → Ordered a os
-rising-ordered a [] le m r e = le
-rising-ordered a (o ∷ os) le m r e = (m .0, rising-ordered (acting o) os (omega (arith, e .0)) (all-less (acting o) os (r .0)) (r .1) (e .1))
+rising-ordered : (end a : ℕ) (os : List Numbered) → a ≤ end → All (λ (l : Numbered). a ≤ acting l) os → Rises os → All (λ (o : Numbered). acting o < end) os → Ordered end a os
+rising-ordered end a [] le m r e = le
+rising-ordered end a (o ∷ os) le m r e = (m .0, rising-ordered end (acting o) os (omega (arith, e .0)) (all-less (acting o) os (r .0)) (r .1) (e .1))
   where
     all-less : (b : ℕ) (ls : List Numbered) → All (λ (l : Numbered). b < acting l) ls → All (λ (l : Numbered). b ≤ acting l) ls
     all-less b [] h = h
@@ -79,124 +54,147 @@ all-from : (os : List Numbered) → All (λ (l : Numbered). 0 ≤ acting l) os
 all-from [] = tt
 all-from (o ∷ os) = (omega arith, all-from os)
 
--- ---- of the first so many of forty instructions
-module _ (is : List Instruction) (count : ℕ) (forty : length is ≡ 40) where
-  abbrev v : Validation
-  v = validationOf is count 86400
+-- ---- of what was taken, in a day of n half-hours
 
-  abbrev entered : List Instruction
-  entered = take count is
+-- figures of 32 bits
+pub record Words (t : Taken) : Type 0 where
+  pub capacity : t .unit .capacity < 4294967296
+  pub maximum : t .unit .maximum < 4294967296
+  pub level : t .start .level < 4294967296
+  pub target : t .start .target < 4294967296
+  pub ordered : t .start .ordered < 4294967296
+
+module _ (t : Taken) (n : ℕ) (places : length (t .instructions) ≡ instructionPlaces) where
+  abbrev end : ℕ
+  end = halfHour * n
+
+  abbrev v : Validation
+  v = validationOf (t .instructions) (t .count) end
+
+  abbrev u : UnitData
+  u = t .unit
 
   abbrev acts : List Numbered
-  acts = validated 86400 (numbered 1 entered) .acts
+  acts = validated end (numbered 1 (entered t)) .acts
 
-  pub as-many : length entered ≡ min count 40
-  as-many = length-take count is ∙ ap (min count) forty
+  pub as-many : length (entered t) ≡ min (t .count) instructionPlaces
+  unfolding entered
+  as-many = length-take (t .count) (t .instructions) ∙ ap (min (t .count)) places
 
-  few-acts : length acts ≤ 40
-  few-acts = omega (arith, acts-few 86400 (numbered 1 entered), numbered-length 1 entered, as-many)
+  few-acts : length acts ≤ instructionPlaces
+  few-acts = omega (arith, acts-few end (numbered 1 (entered t)), numbered-length 1 (entered t), as-many)
 
-  pub acting-few : v .acting ≤ 40
-  unfolding validationOf outcomeOf
+  pub acting-few : v .acting ≤ instructionPlaces
+  unfolding validationOf outcomeOf entered
   acting-few = few-acts
 
-  pub acts-are : take (v .acting) (v .acts) ≡ acts
-  unfolding validationOf outcomeOf
-  acts-are = filled-listed noNumbered 40 acts few-acts
+  acts-are : take (v .acting) (v .acts) ≡ acts
+  unfolding validationOf outcomeOf entered
+  acts-are = filled-listed noNumbered instructionPlaces acts few-acts
 
-  -- figures of 32 bits
-  module _ (u : UnitData) (o : Opening) where
-    abbrev first : UnderWay
-    first = opened u o
+  abbrev first : UnderWay
+  first = startCourse u (t .start)
 
-    abbrev f : Followed
-    f = follow byRule u first acts
+  abbrev f : Followed
+  f = follow byRule u first acts
 
-    abbrev courses : List Course
-    courses = map courseOf (f .courses)
+  abbrev courses : List Course
+  courses = map courseOf (f .courses)
 
-    begins : first .course .begin ≡ 0
-    unfolding opened underWay courseFrom
-    begins = refl
+  begins : first .course .begin ≡ 0
+  unfolding startCourse underWay courseFrom
+  begins = refl
 
-    -- those that act stand in order
-    pub in-order : Ordered (first .course .begin) (take (v .acting) (v .acts))
-    in-order =
-        let r = acting-rise 86400 (numbered 1 entered) in
-        subst (λ (a : ℕ). Ordered a (take (v .acting) (v .acts))) (sym begins) (subst (Ordered 0) (sym acts-are) (rising-ordered 0 acts (omega arith) (all-from acts) (r .0) (r .1)))
+  -- those that act stand in order
+  in-order : Ordered end (first .course .begin) (take (v .acting) (v .acts))
+  in-order =
+      let r = acting-rise end (numbered 1 (entered t)) in
+      subst (λ (a : ℕ). Ordered end a (take (v .acting) (v .acts))) (sym begins) (subst (Ordered end 0) (sym acts-are) (rising-ordered end 0 acts (omega arith) (all-from acts) (r .0) (r .1)))
 
-    pub starts-low : u .capacity < 4294967296 → u .maximum < 4294967296 → o .level < 4294967296 → o .target < 4294967296 → All LowStart (coursesFrom u first (take (v .acting) (v .acts)))
-    unfolding grains coursesFrom
-    starts-low capacity maximum level target =
-        rw acts-are
-        (all-map (Below 4294967296) LowStart (λ c b. omega (arith, b .start)) courses
-        (courses-below u 4294967296 (omega arith) (omega arith) first acts (opened-below u 4294967296 (omega arith) (omega arith) o (omega arith) (omega arith))))
+  starts-low : Words t → All LowStart (coursesFrom u first (take (v .acting) (v .acts)))
+  unfolding grains coursesFrom
+  starts-low w =
+      rw acts-are
+      (all-map (Below 4294967296) LowStart (λ c b. omega (arith, b .start)) courses
+      (courses-below u 4294967296 (omega (arith, w .capacity)) (omega (arith, w .maximum)) first acts
+      (start-below u 4294967296 (omega (arith, w .capacity)) (omega (arith, w .maximum)) (t .start) (omega (arith, w .level)) (omega (arith, w .target)) (omega (arith, w .ordered)))))
 
-    abbrev settled : Fates
-    settled = record { count = min count 40; fates = v .fates }
+  pub acts-fit : n ≤ mostHalfHours → Words t → Followable u first (v .acts) (v .acting) n
+  acts-fit long w = record { few = acting-few; long = long; ordered = in-order; starts = starts-low w }
 
-    fates-are : overAll (v .fates) (min count 40) (marksFrom (v .acts) (filled 40 0 (map fateIn (f .marks))) 0 (v .acting)) ≡ arraysOf (found paper 48 u o entered) .fates
-    unfolding validationOf outcomeOf arraysOf found foundBy
-    fates-are =
-        ap (overAll (v .fates) (min count 40)) (own-marks u (opened u o) acts few-acts)
-        ∙ ap (λ (k : ℕ). overAll (v .fates) k (f .marks)) (sym as-many)
-        ∙ fates-found u (opened u o) acts few-acts 86400 entered (omega (arith, as-many))
+  abbrev settled : Fates
+  settled = record { count = min (t .count) instructionPlaces; fates = v .fates }
 
-    sums-are : listFrom (twinTo (spansOf u 86400 courses)) 0 49 ≡ found paper 48 u o entered .sums
-    unfolding found foundBy
-    sums-are =
-        let ss : List Span = spansOf u 86400 courses in
-        sym (list-same (recordedTo ss) (twinTo ss) 0 49 (λ j p. area-to 48 ss (day-tiles byRule 86400 u o (numbered 1 entered)) j (omega arith)))
+  fates-are : overAll (v .fates) (min (t .count) instructionPlaces) (marksFrom (v .acts) (filled instructionPlaces 0 (map fateIn (f .marks))) 0 (v .acting)) ≡ arraysOf (found paper n t) .fates
+  unfolding validationOf outcomeOf arraysOf found foundBy entered
+  fates-are =
+      ap (overAll (v .fates) (min (t .count) instructionPlaces)) (own-marks u first acts few-acts)
+      ∙ ap (λ (k : ℕ). overAll (v .fates) k (f .marks)) (sym as-many)
+      ∙ fates-found u first acts few-acts end (entered t) (omega (arith, as-many))
 
-    -- what following comes to, with its fates laid over
-    pub find-is : (r : Following) → FollowedBy u first (take (v .acting) (v .acts)) r →
-        (record {
-          fates = laidAll settled (marksFrom (v .acts) (r .walk .fates) 0 (v .acting)) .fates;
-          started = r .walk .started;
-          courses = r .walk .courses;
-          sums = r .sums;
-          closing = r .closing;
-        }) ≡ findingOf u o is count
-    unfolding findingOf arraysOf laidAll walkAll walkOf coursesFrom found foundBy
-    find-is r by =
-        let walk : r .walk ≡ walkAll u first acts = by .walk ∙ ap (walkAll u first) acts-are in
-        λ i. record {
-          fates = (ap (λ (x : Walk). overAll (v .fates) (min count 40) (marksFrom (v .acts) (x .fates) 0 (v .acting))) walk ∙ fates-are) i;
-          started = (ap (λ (x : Walk). x .started) walk ∙ sym (length-map (f .courses) courseOf)) i;
-          courses = (ap (λ (x : Walk). x .courses) walk) i;
-          sums = (by .sums ∙ ap (λ (os : List Numbered). listFrom (twinTo (spansOf u 86400 (coursesFrom u first os))) 0 49) acts-are ∙ sums-are) i;
-          closing = (by .closing ∙ ap (λ (os : List Numbered). closingBy (lastIn u first os) (stateAt byRule u (lastIn u first os) 86400)) acts-are ∙ sym (closing-found u 86400 first acts first)) i;
-        }
+  sums-are : listFrom (twinTo (spansOf u end courses)) 0 (suc n) ≡ found paper n t .sums
+  unfolding found foundBy
+  sums-are =
+      let ss : List Span = spansOf u end courses in
+      sym (list-same (recordedTo ss) (twinTo ss) 0 (suc n) (λ j p. area-to n ss (day-tiles byRule end u (t .start) (numbered 1 (entered t))) j (omega arith)))
 
--- ---- the sums that are found
+  -- what following comes to, with its fates laid over
+  pub find-is : (r : Following) → FollowedBy u first (take (v .acting) (v .acts)) n r →
+      (record {
+        fates = overlaidAll settled (marksFrom (v .acts) (r .walk .fates) 0 (v .acting)) .fates;
+        started = r .walk .started;
+        courses = r .walk .courses;
+        sums = r .sums;
+        last = r .walk .now;
+        end = r .end;
+      }) ≡ arraysOf (found paper n t)
+  unfolding arraysOf overlaidAll walkAll walkOf coursesFrom found foundBy
+  find-is r by =
+      let walk : r .walk ≡ walkAll u first acts = by .walk ∙ ap (walkAll u first) acts-are in
+      λ i. record {
+        fates = (ap (λ (x : Walk). overAll (v .fates) (min (t .count) instructionPlaces) (marksFrom (v .acts) (x .fates) 0 (v .acting))) walk ∙ fates-are) i;
+        started = (ap (λ (x : Walk). x .started) walk ∙ sym (length-map (f .courses) courseOf)) i;
+        courses = (ap (λ (x : Walk). x .courses) walk) i;
+        sums = (
+            by .sums
+            ∙ ap (λ (os : List Numbered). filled boundaryPlaces 0 (listFrom (twinTo (spansOf u end (coursesFrom u first os))) 0 (suc n))) acts-are
+            ∙ ap (filled boundaryPlaces 0) sums-are
+            ) i;
+        last = (ap (λ (x : Walk). x .now) walk) i;
+        end = (by .end ∙ ap (λ (os : List Numbered). stateAt byRule u (lastIn u first os) end) acts-are) i;
+      }
 
-module _ (u : UnitData) (o : Opening) (is : List Instruction) (count : ℕ) where
+-- ---- the sums that are found, in a day of n half-hours
+
+module _ (t : Taken) (n : ℕ) (long : n ≤ mostHalfHours) where
   abbrev sums : List ℕ
-  sums = findingOf u o is count .sums
+  sums = arraysOf (found paper n t) .sums
 
   abbrev recorded : List Span
-  recorded = spans halfHours u o (take count is)
+  recorded = spans n t
 
   -- "Each noted sum is proved to be twice the recorded area from 0 to there" (document 02, N4)
-  pub noted-sums : (b : ℕ) → b ≤ halfHours → getD sums b 0 ≡ recordedTo recorded b
-  unfolding findingOf arraysOf
+  pub noted-sums : (b : ℕ) → b ≤ n → getD sums b 0 ≡ recordedTo recorded b
+  unfolding arraysOf
   noted-sums b h =
-      ap (λ (xs : List ℕ). getD xs b 0) (found-sums halfHours u o (take count is)) ∙ list-at (recordedTo recorded) 0 (suc halfHours) b (omega arith)
-      ∙ ap (recordedTo recorded) {x = 0 + b} {y = b} (omega arith)
+      let xs : List ℕ = listFrom (recordedTo recorded) 0 (suc n) in
+      ap (λ (l : List ℕ). getD (filled boundaryPlaces 0 l) b 0) (found-sums n t)
+      ∙ filled-at 0 boundaryPlaces xs b 0 (omega (arith, list-length (recordedTo recorded) 0 (suc n))) (omega arith)
+      ∙ list-at (recordedTo recorded) 0 (suc n) b (omega arith) ∙ ap (recordedTo recorded) {x = 0 + b} {y = b} (omega arith)
 
   -- "and a half-hour's the difference of two"
-  pub noted-between : (i : ℕ) → i < halfHours → getD sums (suc i) 0 - getD sums i 0 ≡ recordedIn recorded i
+  pub noted-between : (i : ℕ) → i < n → getD sums (suc i) 0 - getD sums i 0 ≡ recordedIn recorded i
   noted-between i h = rw (noted-sums (suc i) (omega arith), noted-sums i (omega arith)) (sums-step recorded i)
 
   -- a quantity is rounded from that
-  pub noted-quantity : (i : ℕ) → i < halfHours → quantityAt sums i ≡ rounded (recordedIn recorded i)
+  pub noted-quantity : (i : ℕ) → i < n → quantityAt sums i ≡ rounded (recordedIn recorded i)
   unfolding quantityAt
   noted-quantity i h = ap rounded (noted-between i h)
 
-  -- refusal 27
-  pub too-high-is : someAbove (u .maximum) sums 0 48 ≡ quantityTooHigh u (found paper halfHours u o (take count is))
-  unfolding someAbove quantityTooHigh
+  -- refusal 27: by the sums, and by the quantities
+  pub too-high-is : someAbove (t .unit .maximum) sums 0 n ≡ some (λ q. ltb (t .unit .maximum) q) (found paper n t .quantities)
+  unfolding someAbove
   too-high-is =
-      ap (some (λ q. ltb (u .maximum) q))
-      (list-same (quantityAt sums) (λ i. rounded (recordedIn recorded i)) 0 48 (λ i h. noted-quantity i (omega arith))
-      ∙ sym (found-quantities 48 u o (take count is)))
+      ap (some (λ q. ltb (t .unit .maximum) q))
+      (list-same (quantityAt sums) (λ i. rounded (recordedIn recorded i)) 0 n (λ i h. noted-quantity i (omega arith))
+      ∙ sym (found-quantities n t))

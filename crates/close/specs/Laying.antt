@@ -23,11 +23,11 @@ unfoldable pub overAll : List ℕ → ℕ → List Mark → List ℕ
 overAll fates count [] = fates
 overAll fates count (m ∷ ms) = overFate (overAll fates count ms) count (m .number) (m .fate)
 
-unfoldable pub laid : Fates → ℕ → ℕ → Fates
-laid s number fate = record { count = s .count; fates = overFate (s .fates) (s .count) number fate }
+unfoldable pub overlaid : Fates → ℕ → ℕ → Fates
+overlaid s number fate = record { count = s .count; fates = overFate (s .fates) (s .count) number fate }
 
-unfoldable pub laidAll : Fates → List Mark → Fates
-laidAll s ms = record { count = s .count; fates = overAll (s .fates) (s .count) ms }
+unfoldable pub overlaidAll : Fates → List Mark → Fates
+overlaidAll s ms = record { count = s .count; fates = overAll (s .fates) (s .count) ms }
 
 -- k marks from the place i on: those that act, with their fates
 unfoldable pub marksFrom : List Numbered → List ℕ → ℕ → ℕ → List Mark

@@ -1,24 +1,23 @@
-// What close finds: the fates, the courses, twice the area up to each half-hour boundary, the closing state.
+// What close finds: the fates, the courses, twice the area up to each half-hour boundary, the last course and the state at the day's end.
 ghost use mathlib.Core.Path.{_≡_};
-ghost use Prim.Native.Nat.{_-_, min, _<_, _≤_};
-ghost use Rattle.close.specs.Finding.{findingOf};
-ghost use Rattle.close.specs.Laying.{laid, laidAll, marksFrom};
-
-// The day's seconds.
-const DAY: u32 = 86400;
+ghost use Prim.Native.Nat.{_≤_};
+ghost use Rattle.level.specs.Numbers.{instructionPlaces, mostHalfHours};
+ghost use Rattle.profile.specs.Profile.{found, paper};
+ghost use Rattle.profile.specs.Finding.{arraysOf};
+ghost use Rattle.close.specs.Laying.{overlaid, overlaidAll, marksFrom};
 
 // ---- the fates
 
 // The fates of the first `count` instructions, by number.
 pub struct Fates {
     pub count: usize,
-    pub fates: [u8; 40],
+    pub fates: [u8; level::INSTRUCTIONS],
 }
 
 // One fate laid over: a number that none of the first `count` has, and a fate of 1, change nothing.
 fn lay_fate(s: Fates, number: u32, fate: u8) -> Fates
-    requires { ⌜ s .count ≤ 40 ⌝ }
-    ensures { λ r. ⌜ r ≡ laid s number fate ⌝ }
+    requires { ⌜ s .count ≤ instructionPlaces ⌝ }
+    ensures { λ r. ⌜ r ≡ overlaid s number fate ⌝ }
 {
     if number == 0 {
         return s;
@@ -36,9 +35,14 @@ fn lay_fate(s: Fates, number: u32, fate: u8) -> Fates
 }
 
 // The fates of the first n that act laid over, the first of them last.
-fn lay_fates(s: Fates, acts: [validation::Numbered; 40], own: [u8; 40], n: usize) -> Fates
-    requires { ⌜ (s .count ≤ 40) × (n ≤ 40) ⌝ }
-    ensures { λ r. ⌜ r ≡ laidAll s (marksFrom acts own 0 n) ⌝ }
+fn lay_fates(
+    s: Fates,
+    acts: [validation::Numbered; level::INSTRUCTIONS],
+    own: [u8; level::INSTRUCTIONS],
+    n: usize,
+) -> Fates
+    requires { ⌜ (s .count ≤ instructionPlaces) × (n ≤ instructionPlaces) ⌝ }
+    ensures { λ r. ⌜ r ≡ overlaidAll s (marksFrom acts own 0 n) ⌝ }
 {
     let mut out = s;
     let mut i = n;
@@ -53,55 +57,35 @@ fn lay_fates(s: Fates, acts: [validation::Numbered; 40], own: [u8; 40], n: usize
 
 // ---- what close finds
 
-// The fates by number, the courses (`started` of them), twice the recorded area from 06:00 to each half-hour boundary
-// (grain-seconds), and the closing state.
-pub struct Finding {
-    pub fates: [u8; 40],
-    pub started: usize,
-    pub courses: [course::Course; 41],
-    pub sums: [u64; 49],
-    pub closing: profile::Closing,
-}
-
-// A count above forty reads like forty.
-fn at_most_forty(count: usize) -> usize
-    ensures { λ r. ⌜ r ≡ min count 40 ⌝ }
+// From what was taken, in a day of so many half-hours. A count above the places that there are reads like them all.
+pub fn find(t: profile::Taken, halves: u32) -> profile::Finding
+    requires { ⌜ halves ≤ mostHalfHours ⌝ }
+    ensures { λ r. ⌜ r ≡ arraysOf (found paper halves t) ⌝ }
 {
-    if count < 40 {
-        return count;
-    }
-    40
-}
-
-// What close finds from the unit, the opening and the first `count` instructions.
-pub fn find(
-    u: records::UnitData,
-    o: records::Opening,
-    instructions: [records::Instruction; 40],
-    count: usize,
-) -> Finding
-    ensures { λ r. ⌜ r ≡ findingOf u o instructions count ⌝ }
-{
-    let v = keeping::validate(instructions, count, DAY);
+    let u = t.unit;
+    let instructions = t.instructions;
+    let v = keeping::validate(instructions, t.count, level::HALF_HOUR * halves);
     let acts = v.acts;
-    let first = effects::open_course(u, o);
-    let f = following::follow_day(u, first, acts, v.acting);
+    let first = effects::start_course(u, t.start);
+    let f = following::follow_day(u, first, acts, v.acting, halves);
     let settled = v.fates;
-    let own = f.walk.fates;
     let given = Fates {
-        count: at_most_forty(count),
+        count: level::smaller_count(t.count, level::INSTRUCTIONS),
         fates: settled,
     };
-    let laid = lay_fates(given, acts, own, v.acting);
-    let fates = laid.fates;
+    let own = f.walk.fates;
+    let over = lay_fates(given, acts, own, v.acting);
+    let fates = over.fates;
     let courses = f.walk.courses;
     let sums = f.sums;
-    let closing = f.closing;
-    Finding {
+    let last = f.walk.now;
+    let end = f.end;
+    profile::Finding {
         fates,
         started: f.walk.started,
         courses,
         sums,
-        closing,
+        last,
+        end,
     }
 }

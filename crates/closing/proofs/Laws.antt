@@ -8,8 +8,8 @@ use Rattle.records.specs.declared.Answer.{Answer}
 use Rattle.records.specs.declared.Answer.the-variants.{Accepted, Refused}
 use Rattle.records.specs.Answers.{accepted, numberOf}
 use Rattle.day.specs.declared.Day.{Day}
-use Rattle.day.proofs.Passed.{never}
-use Rattle.closing.specs.Result.{inOne, afterRun, lentRun}
+use Rattle.day.proofs.Answers.{never}
+use Rattle.closing.specs.Result.{inOne, runResult, lentRun}
 
 -- of a listing
 pub one-taken : (a : Answer) (n : ℕ) → accepted a ≡ true → n ≡ inOne a n
@@ -21,6 +21,6 @@ one-refused Accepted n e = never (sym e)
 one-refused (Refused r) n e = refl
 
 -- a run that ends at a refusal
-pub refused-run : (a : Answer) (d : Day) (o : List ℕ) → accepted a ≡ false → (numberOf a * 4294967296 ≡ afterRun a d o) × (o ≡ lentRun a d o)
+pub refused-run : (a : Answer) (d : Day) (o : List ℕ) → accepted a ≡ false → (numberOf a * 4294967296 ≡ runResult a d o) × (o ≡ lentRun a d o)
 refused-run Accepted d o e = never (sym e)
 refused-run (Refused r) d o e = (refl, refl)

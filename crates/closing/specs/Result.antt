@@ -19,16 +19,16 @@ abbrev pub listResult : Day → List ℕ → ℕ
 listResult d o = inOne (listOf d o .answer) (listOf d o .count)
 
 -- of a run: at a refusal its number, and the lent slice as it was
-abbrev pub afterRun : Answer → Day → List ℕ → ℕ
-afterRun Accepted d o = listResult d o
-afterRun (Refused r) d o = refusalNumber r * 4294967296
+abbrev pub runResult : Answer → Day → List ℕ → ℕ
+runResult Accepted d o = listResult d o
+runResult (Refused r) d o = refusalNumber r * 4294967296
 
 abbrev pub lentRun : Answer → Day → List ℕ → List ℕ
 lentRun Accepted d o = lentAfter d o
 lentRun (Refused r) d o = o
 
 abbrev pub ranResult : Ran → List ℕ → ℕ
-ranResult r o = afterRun (r .answer) (r .day) o
+ranResult r o = runResult (r .answer) (r .day) o
 
 abbrev pub ranLent : Ran → List ℕ → List ℕ
 ranLent r o = lentRun (r .answer) (r .day) o

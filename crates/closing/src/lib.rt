@@ -4,8 +4,8 @@ ghost use Prim.Native.Nat.{_*_, _<_, _≤_};
 ghost use lib.ListN.{length};
 ghost use Rattle.records.specs.declared.Answer.the-variants.{Accepted};
 ghost use Rattle.records.specs.Answers.{numberOf};
-ghost use Rattle.listing.specs.Listing.{printedDay};
-ghost use Rattle.running.specs.Ended.{endedBy};
+ghost use Rattle.listing.specs.Listing.{suffices, printedDay};
+ghost use Rattle.running.specs.Ended.{openDay, endedBy};
 ghost use Rattle.closing.specs.Result.{inOne, ranResult, ranLent};
 use records::Answer;
 use records::Refusal;
@@ -30,30 +30,24 @@ fn listed_result(l: listing::Listed) -> u64
     answer_result(a)
 }
 
-// So many bytes suffice for the listing of any day that records make.
-const SUFFICES: usize = 46080;
-
-// The end of the records at one of this kind, none of a unit, an opening and an instruction: a close, with the listing of the
-// closed day, or no kind.
-pub fn close_run(day: day::Day, kind: u8, out: &mut [u8]) -> u64
-    requires { ⌜ (endedBy day kind .answer ≡ Accepted → length (printedDay (endedBy day kind .day)) ≤ 46080) ⌝ }
-    ensures { λ r. ⌜ (r ≡ ranResult (endedBy day kind) (now (out .entry))) × (now (out .exit) ≡ ranLent (endedBy day kind) (now (out .entry))) ⌝ }
+// The end of the records at one of this kind, none of a unit, an opening and an instruction: a close of what was taken, with the
+// listing of the closed day, or no kind.
+pub fn close_run(taken: profile::Taken, kind: u8, out: &mut [u8]) -> u64
+    requires { ⌜ (endedBy (openDay taken) kind .answer ≡ Accepted → length (printedDay (endedBy (openDay taken) kind .day)) ≤ suffices) ⌝ }
+    ensures { λ r. ⌜ (r ≡ ranResult (endedBy (openDay taken) kind) (now (out .entry))) × (now (out .exit) ≡ ranLent (endedBy (openDay taken) kind) (now (out .entry))) ⌝ }
 {
     if kind != 4 {
         return answer_result(Answer::Refused(Refusal::UnknownKind));
     }
-    let early = entering::close_front(day.hasOpening, day.closed);
+    let early = entering::close_front(taken.hasStart, false);
     if !records::is_accepted(early) {
         return answer_result(early);
     }
-    let unit = day.unit;
-    let opening = day.opening;
-    let instructions = day.instructions;
-    let CloseRead { answer, finding } = taking::find_close(unit, opening, instructions, day.count);
+    let CloseRead { answer, finding } = taking::find_close(taken);
     if !records::is_accepted(answer) {
         return answer_result(answer);
     }
-    let closed = taking::closed_with(day, finding);
-    let l = printing::list_closed(closed, out, SUFFICES <= out.len());
+    let closed = taking::closed_day(taken, finding);
+    let l = printing::list_closed(closed, out, listing::SUFFICES <= out.len());
     listed_result(l)
 }

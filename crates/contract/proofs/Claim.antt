@@ -1,76 +1,83 @@
 -- Demand 3, proved.
 -- Assumes nothing.
-use mathlib.Core.Path.{_≡_, refl, ap, sym, _∙_}
+use mathlib.Core.Path.{_≡_, ap, sym, _∙_}
 use mathlib.Core.List.{List, [], _∷_}
-use mathlib.Core.Bool.{Bool, true, false}
-use Prim.Native.Nat.{ℕ, zero, suc, _+_, _*_, _-_, _≤_, _<_}
+use mathlib.Core.Bool.{true}
+use Prim.Native.Nat.{ℕ, suc, _+_, _-_, _<_}
 use native.Mathlib.Omega.{arith}
 use lib.ListN.{length, getD}
-use Rattle.level.specs.Lists.{All, listFrom}
-use Rattle.records.specs.declared.UnitData.{UnitData}
-use Rattle.records.specs.declared.Opening.{Opening}
-use Rattle.records.specs.declared.Instruction.{Instruction}
-use Rattle.records.specs.Records.{numbers, unitOf}
-use Rattle.profile.specs.Profile.{Span, spansOf, dayPieces, recordedIn, rounded, Found, found, paper}
-use Rattle.profile.specs.Allowance.{Within}
+use Rattle.level.specs.Lists.{All}
+use Rattle.level.specs.Numbers.{boundaryPlaces}
+use Rattle.records.specs.Records.{numbers}
+use Rattle.records.specs.Fields.{unitAnswer}
+use Rattle.records.specs.declared.Answer.the-variants.{Accepted}
+use Rattle.profile.specs.declared.Taken.{Taken}
+use Rattle.profile.specs.declared.Finding.{Finding}
+use Rattle.profile.specs.Taken.{Low}
+use Rattle.profile.specs.Profile.{spansOf, dayPieces, recordedTo, recordedIn, rounded}
+use Rattle.profile.specs.Finding.{arraysOf, quantityAt}
 use Rattle.profile.proofs.Tiles.{Chain}
 use Rattle.profile.proofs.Rates.{Fit, fit-of}
 use Rattle.profile.proofs.Near.{Drives, spans-drive, quantities-near, moves, starts-recorded, all-map}
-use Rattle.profile.proofs.Found.{list-length, list-at, found-tiles, quantity-from-sums}
+use Rattle.profile.proofs.Found.{spans, list-length, list-at, found-tiles, found-sums, quantity-from-sums}
 use Rattle.day.specs.declared.Day.{Day}
-use Rattle.day.specs.Day.{halfHours, daySeconds, empty, entered, closedWith, fatesIn, coursesIn, quantityAt, quantitiesIn, foundIn}
+use Rattle.day.specs.Day.{halfHours, daySeconds, empty, fatesIn, coursesIn, quantitiesIn, closingIn, foundIn}
 use Rattle.listing.specs.Listing.{printedDay}
 use Rattle.listing.specs.Reader.{printedAt, firstOf, printedKw}
 use Rattle.listing.proofs.Read.{printed, printed-kw}
-use Rattle.contract.specs.Calls.{Call, dayAfter, recordsOf, listingsOf}
-use Rattle.contract.specs.LetIn.{bodyOfKind, unitIn, openingIn, instructionsIn, foundFrom, spansFrom}
+use Rattle.contract.specs.Calls.{dayAfter, recordsOf, listingsOf}
+use Rattle.contract.specs.LetIn.{hasKind, bodyOfKind, unitIn, takenIn, foundFrom, spansFrom}
 use Rattle.contract.specs.Demand3.{Near, Single, Demand3, Demand3Claim}
+use Rattle.level.proofs.Arrays.{filled-whole}
 use Rattle.contract.proofs.Made.{Made, made-empty}
 use Rattle.contract.proofs.Run.{made-after, wrote-are}
 
 -- ---- a closed day that the records rs made
 module _ (d : Day) (rs : List (List ℕ)) (m : Made d rs) (c : d .closed ≡ true) where
-  pub unit-is : d .unit ≡ unitIn rs
-  unfolding unitIn
-  unit-is = m .unit (m .opening-unit (m .opened c)) .0
+  pub unit-is : d .taken .unit ≡ unitIn rs
+  unfolding takenIn
+  unit-is = ap (λ (t : Taken). t .unit) (m .taken)
 
-  pub opening-is : d .opening ≡ openingIn rs
-  unfolding openingIn
-  opening-is = m .opening (m .opened c) .0
+  has-unit : hasKind 1 rs ≡ true
+  unfolding takenIn
+  has-unit = m .fits .low (m .started c) .0
 
-  -- what it holds is what the definitions find from the records let in
-  pub found-is : foundIn paper d ≡ foundFrom rs
-  unfolding foundIn foundFrom
-  found-is =
-      ap (λ (u : UnitData). found paper halfHours u (d .opening) (entered d)) unit-is
-      ∙ (ap (λ (o : Opening). found paper halfHours (unitIn rs) o (entered d)) opening-is ∙ ap (found paper halfHours (unitIn rs) (openingIn rs)) (m .instructions))
+  pub unit-fields : unitAnswer (numbers (bodyOfKind 1 rs) 62) ≡ Accepted
+  unit-fields = m .fits .unit has-unit
 
-  sums-are : d .sums ≡ foundFrom rs .sums
-  unfolding closedWith
-  sums-are = ap (λ (x : Day). x .sums) (m .stored c) ∙ ap (λ (f : Found). f .sums) found-is
+  pub start-keeps : Low (takenIn rs .unit) (takenIn rs .start)
+  unfolding takenIn
+  start-keeps = m .fits .low (m .started c) .1
+
+  -- the sums that it holds are those that the definitions give from the records let in
+  pub sums-stored : d .found .sums ≡ foundFrom rs .sums
+  unfolding arraysOf foundFrom foundIn
+  sums-stored =
+      ap (λ (f : Finding). f .sums) (m .stored c)
+      ∙ filled-whole 0 boundaryPlaces (foundFrom rs .sums) (ap length (found-sums halfHours (takenIn rs)) ∙ list-length (recordedTo (spans halfHours (takenIn rs))) 0 (suc halfHours))
 
   fit : Fit (unitIn rs)
   unfolding unitIn
-  fit = fit-of (numbers (bodyOfKind 1 rs) 62) (m .unit (m .opening-unit (m .opened c)) .1)
+  fit = fit-of (numbers (bodyOfKind 1 rs) 62) unit-fields
 
   chain : Chain 0 (spansFrom rs) daySeconds
-  unfolding spansFrom foundFrom
-  chain = found-tiles halfHours (unitIn rs) (openingIn rs) (instructionsIn rs)
+  unfolding spansFrom foundFrom foundIn takenIn
+  chain = found-tiles halfHours (takenIn rs)
 
   drives : Drives (spansFrom rs)
   unfolding spansFrom
   drives = spans-drive (unitIn rs) fit daySeconds (foundFrom rs .courses)
 
   quantity-is : (i : ℕ) → i < halfHours → getD (quantitiesIn d) i 0 ≡ rounded (recordedIn (spansFrom rs) i)
-  unfolding quantitiesIn quantityAt spansFrom foundFrom
+  unfolding quantitiesIn quantityAt spansFrom foundFrom foundIn takenIn
   quantity-is i h =
-      list-at (quantityAt (d .sums)) 0 halfHours i h
-      ∙ (ap (quantityAt (d .sums)) {x = 0 + i} {y = i} (omega arith)
-      ∙ (ap (λ (l : List ℕ). quantityAt l i) sums-are ∙ quantity-from-sums halfHours (unitIn rs) (openingIn rs) (instructionsIn rs) i h))
+      list-at (quantityAt (d .found .sums)) 0 halfHours i h
+      ∙ (ap (quantityAt (d .found .sums)) {x = 0 + i} {y = i} (omega arith)
+      ∙ (ap (λ (l : List ℕ). quantityAt l i) sums-stored ∙ quantity-from-sums halfHours (takenIn rs) i h))
 
   many : length (quantitiesIn d) ≡ halfHours
   unfolding quantitiesIn
-  many = list-length (quantityAt (d .sums)) 0 halfHours
+  many = list-length (quantityAt (d .found .sums)) 0 halfHours
 
   stored : Near (spansFrom rs) (λ i. getD (quantitiesIn d) i 0)
   stored = quantities-near halfHours (spansFrom rs) chain drives (λ i. getD (quantitiesIn d) i 0) quantity-is
@@ -80,14 +87,14 @@ module _ (d : Day) (rs : List (List ℕ)) (m : Made d rs) (c : d .closed ≡ tru
   printed-near w e =
       quantities-near halfHours (spansFrom rs) chain drives (λ i. printedKw w (suc i))
       (λ i h. ap (λ (v : List ℕ). printedKw v (suc i)) e
-      ∙ (printed-kw (fatesIn d) (dayPieces (spansOf (d .unit) daySeconds (coursesIn d))) (quantitiesIn d) (d .closing) i (omega (arith, many)) ∙ quantity-is i h))
+      ∙ (printed-kw (fatesIn d) (dayPieces (spansOf (d .taken .unit) daySeconds (coursesIn d))) (quantitiesIn d) (closingIn d) i (omega (arith, many)) ∙ quantity-is i h))
 
   one-each : (w : List ℕ) → w ≡ printedDay d → Single w
   unfolding printedDay printedKw
   one-each w e h lo hi =
       let f : printedAt w h ≡ getD (quantitiesIn d) (h - 1) 0 ∷ [] =
       ap (λ (v : List ℕ). printedAt v h) e
-      ∙ printed (fatesIn d) (dayPieces (spansOf (d .unit) daySeconds (coursesIn d))) (quantitiesIn d) (d .closing) h lo (omega (arith, many)) in
+      ∙ printed (fatesIn d) (dayPieces (spansOf (d .taken .unit) daySeconds (coursesIn d))) (quantitiesIn d) (closingIn d) h lo (omega (arith, many)) in
       f ∙ ap (λ (l : List ℕ). firstOf l ∷ []) (sym f)
 
   demand : (ws : List (List ℕ)) → All (λ w. w ≡ printedDay d) ws → Demand3 (spansFrom rs) (quantitiesIn d) ws

@@ -1,5 +1,6 @@
-pub mod Starred
+pub mod Low
 pub mod Made
 pub mod Run
 pub mod Claim
 pub mod Room
+pub mod Starred

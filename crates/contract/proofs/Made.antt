@@ -1,32 +1,34 @@
 -- In every day that calls make from the empty one, what is stored is what the definitions give from the records let in.
 -- Assumes nothing.
-use mathlib.Core.Path.{_≡_, refl, ap, sym, _∙_}
-use mathlib.Core.List.{List, [], _∷_, _++_, map, append-assoc, append-nil}
-use mathlib.Core.Bool.{Bool, true, false, true≢false}
-use Prim.Native.Nat.{ℕ, zero, suc, _+_, _*_, _-_, _≤_, _<_}
-use native.Mathlib.Numerals.{add-one}
+use mathlib.Core.Path.{_≡_, refl, ap, sym, _∙_, subst}
+use mathlib.Core.List.{List, [], _∷_, _++_, map, append-nil}
+use mathlib.Core.Bool.{Bool, true, false, _||_}
+use Prim.Native.Nat.{ℕ, zero, suc, _+_, _-_, _≤_, _<_}
 use native.Mathlib.Decide.{ℕ-discrete}
 use native.Mathlib.Omega.{arith}
 use lib.Dec.{eqb}
-use lib.ListN.{length, getD, take, drop, set, replicate, length-set}
-use lib.Seq.{take-suc-set, getD-take, take-take, take-nil}
-use borrow.Author.Tests.{eq-eqb, ne-eqb}
+use lib.ListN.{length, getD, take, drop, set, length-append}
+use lib.Seq.{getD-take, take-take, take-nil}
+use borrow.Author.Tests.{eq-eqb, ne-eqb, eqb-true}
 use Rattle.level.specs.Choice.{pick}
-use Rattle.level.specs.Lists.{those}
-use Rattle.records.specs.declared.Instruction.{Instruction}
-use Rattle.records.specs.declared.Answer.the-variants.{Accepted}
-use Rattle.records.specs.Answers.{accepted}
-use Rattle.records.specs.Records.{sizeOf, numbers, unitOf, openingOf, instructionOf}
-use Rattle.records.specs.Fields.{unitAnswer, openingAnswer}
-use Rattle.profile.specs.Profile.{Found, paper}
-use Rattle.day.specs.declared.Day.{Day}
-use Rattle.day.specs.declared.Stepped.{Stepped}
-use Rattle.day.specs.Day.{empty, entered, withUnit, withOpening, withInstruction, closedWith, foundIn}
-use Rattle.day.specs.Step.{kindOf, bodyOf, tooHigh, dayWith, answerOf, stepBy, stepOf}
+use Rattle.level.specs.Lists.{those, some, filled}
+use Rattle.level.specs.Numbers.{instructionPlaces}
 use Rattle.level.proofs.Lists.{by-bool}
-use Rattle.day.proofs.Passed.{never, is-accepted, Passed, passed}
-use Rattle.contract.specs.Calls.{Call, sends, asks, after, letIn}
-use Rattle.contract.specs.LetIn.{ofKind, bodyOfKind, unitIn, openingIn, instructionsIn}
+use Rattle.records.specs.declared.Answer.the-variants.{Accepted}
+use Rattle.records.specs.Records.{sizeOf, numbers, unitOf, columnOf, triggerOf, openingOf, instructionOf, noInstruction}
+use Rattle.records.specs.Fields.{unitAnswer}
+use Rattle.profile.specs.declared.Taken.{Taken}
+use Rattle.profile.specs.Taken.{Low, startOf, noTaken, takenWith}
+use Rattle.profile.specs.Profile.{paper}
+use Rattle.profile.specs.Finding.{arraysOf}
+use Rattle.day.specs.declared.Day.{Day}
+use Rattle.day.specs.Day.{foundIn, empty, dayWith}
+use Rattle.day.specs.Step.{kindOf, bodyOf}
+use Rattle.day.proofs.Answers.{never}
+use Rattle.day.proofs.ByKind.{Passed}
+use Rattle.contract.specs.LetIn.{ofKind, hasKind, bodyOfKind, unitIn, openingIn, instructionsIn, takenIn, foundFrom}
+use Rattle.contract.proofs.Low.{start-low}
+use Rattle.level.proofs.Arrays.{filled-push}
 
 -- ---- a record at the front of a slice
 
@@ -53,168 +55,222 @@ front-body s =
     ∙ (ap (take (sizeOf (kindOf s) - 1)) (drop-front (sizeOf (kindOf s)) s (some-size (kindOf s))) ∙ take-take (sizeOf (kindOf s) - 1) (sizeOf (kindOf s) - 1) (drop 1 s) (omega arith))
 
 -- ---- one more record let in
+abbrev pub with-one : List (List ℕ) → List ℕ → List (List ℕ)
+with-one rs s = rs ++ (front s ∷ [])
 
 those-append : (f : List ℕ → Bool) (xs ys : List (List ℕ)) → those f (xs ++ ys) ≡ those f xs ++ those f ys
 unfolding those
 those-append f [] ys = refl
 those-append f (x ∷ xs) ys = by-bool (f x) (λ e. simp e (ap (λ (l : List (List ℕ)). x ∷ l) (those-append f xs ys))) (λ e. simp e (those-append f xs ys))
 
+some-append : (f : List ℕ → Bool) (xs : List (List ℕ)) (y : List ℕ) → some f (xs ++ (y ∷ [])) ≡ (f y || some f xs)
+unfolding some
+some-append f [] y = refl
+some-append f (x ∷ xs) y = ap (λ (b : Bool). f x || b) (some-append f xs y) ∙ go (f x) (f y) (some f xs)
+  where
+    go : (a b c : Bool) → (a || (b || c)) ≡ (b || (a || c))
+    go true true c = refl
+    go true false c = refl
+    go false true c = refl
+    go false false c = refl
+
+none-those : (f : List ℕ → Bool) (xs : List (List ℕ)) → some f xs ≡ false → those f xs ≡ []
+unfolding some those
+none-those f [] e = refl
+none-those f (x ∷ xs) e = by-bool (f x) (λ t. never (sym e ∙ ap (λ (b : Bool). b || some f xs) t)) (λ t. simp t (none-those f xs (sym (ap (λ (b : Bool). b || some f xs) t) ∙ e)))
+
+-- of the kind k
 module _ (k : ℕ) (rs : List (List ℕ)) (s : List ℕ) where
-  kind-same : kindOf s ≡ k → ofKind k (rs ++ (front s ∷ [])) ≡ ofKind k rs ++ (front s ∷ [])
+  own : eqb (kindOf (front s)) k ≡ eqb (kindOf s) k
+  own = ap (λ (n : ℕ). eqb n k) (front-kind s)
+
+  -- there is one: it is of the kind, or there was one
+  pub has-with : hasKind k (with-one rs s) ≡ (eqb (kindOf s) k || hasKind k rs)
+  unfolding hasKind
+  has-with = some-append (λ r. eqb (kindOf r) k) rs (front s) ∙ ap (λ (b : Bool). b || hasKind k rs) own
+
+  -- all of them: one more at the end if it is of the kind
+  pub of-with : ofKind k (with-one rs s) ≡ ofKind k rs ++ pick (eqb (kindOf s) k) (front s ∷ []) []
   unfolding ofKind those
-  kind-same e = those-append (λ r. eqb (kindOf r) k) rs (front s ∷ []) ∙ ap (λ (b : Bool). ofKind k rs ++ pick b (front s ∷ []) []) (eq-eqb (kindOf (front s)) k (front-kind s ∙ e))
+  of-with = those-append (λ r. eqb (kindOf r) k) rs (front s ∷ []) ∙ ap (λ (b : Bool). ofKind k rs ++ pick b (front s ∷ []) []) own
 
-  kind-other : (kindOf s ≡ k → ⊥) → ofKind k (rs ++ (front s ∷ [])) ≡ ofKind k rs
-  unfolding ofKind those
-  kind-other e =
-      those-append (λ r. eqb (kindOf r) k) rs (front s ∷ [])
-      ∙ (ap (λ (b : Bool). ofKind k rs ++ pick b (front s ∷ []) []) (ne-eqb (kindOf (front s)) k (λ x. e (sym (front-kind s) ∙ x))) ∙ append-nil (ofKind k rs))
+  -- the first: it, if it is of the kind and the first; else what it was
+  pub body-with : (kindOf s ≡ k → hasKind k rs ≡ false) → bodyOfKind k (with-one rs s) ≡ pick (eqb (kindOf s) k) (bodyOf s) (bodyOfKind k rs)
+  unfolding bodyOfKind hasKind ofKind
+  body-with first = ap (λ (l : List (List ℕ)). bodyOf (getD l 0 [])) of-with ∙ elim (ℕ-discrete (kindOf s) k) [
+    | yes e ↦ rw (eq-eqb (kindOf s) k e) (ap (λ (l : List (List ℕ)). bodyOf (getD (l ++ (front s ∷ [])) 0 [])) (none-those (λ r. eqb (kindOf r) k) rs (first e)) ∙ front-body s)
+    | no n ↦ rw (ne-eqb (kindOf s) k n) (ap (λ (l : List (List ℕ)). bodyOf (getD l 0 [])) (append-nil (ofKind k rs)))
+  ]
 
-  body-first : kindOf s ≡ k → ofKind k rs ≡ [] → bodyOfKind k (rs ++ (front s ∷ [])) ≡ bodyOf s
-  unfolding bodyOfKind
-  body-first e n = ap (λ (l : List (List ℕ)). bodyOf (getD l 0 [])) (kind-same e ∙ ap (λ (l : List (List ℕ)). l ++ (front s ∷ [])) n) ∙ front-body s
+-- a fact P of the body of the kind k, where there is one: a record of that kind comes at most once
+abbrev pub Once : (List ℕ → Type 0) → ℕ → List (List ℕ) → Type 0
+Once P k rs = hasKind k rs ≡ true → P (bodyOfKind k rs)
 
-  body-other : (kindOf s ≡ k → ⊥) → bodyOfKind k (rs ++ (front s ∷ [])) ≡ bodyOfKind k rs
-  unfolding bodyOfKind
-  body-other e = ap (λ (l : List (List ℕ)). bodyOf (getD l 0 [])) (kind-other e)
+pub once-with : (P : List ℕ → Type 0) (k : ℕ) (rs : List (List ℕ)) (s : List ℕ) → (kindOf s ≡ k → hasKind k rs ≡ false) → (kindOf s ≡ k → P (bodyOf s)) → Once P k rs → Once P k (with-one rs s)
+once-with P k rs s first new old h = subst P (sym (body-with k rs s first)) (elim (ℕ-discrete (kindOf s) k) [
+  | yes e ↦ rw (eq-eqb (kindOf s) k e) (new e)
+  | no n ↦ rw (ne-eqb (kindOf s) k n) (old (sym (has-with k rs s ∙ ap (λ (b : Bool). b || hasKind k rs) (ne-eqb (kindOf s) k n)) ∙ h))
+])
 
-map-append : (f : List ℕ → Instruction) (xs ys : List (List ℕ)) → map f (xs ++ ys) ≡ map f xs ++ map f ys
-map-append f [] ys = refl
-map-append f (x ∷ xs) ys = ap (λ (l : List Instruction). f x ∷ l) (map-append f xs ys)
+-- what is read of all records of the kind k
+module _ {A : Type 0} (read : List ℕ → A) (k : ℕ) (rs : List (List ℕ)) (s : List ℕ) where
+  abbrev reads : List (List ℕ) → List A
+  reads l = map (λ r. read (bodyOf r)) l
 
-module _ (rs : List (List ℕ)) (s : List ℕ) where
-  instructions-more : kindOf s ≡ 3 → instructionsIn (rs ++ (front s ∷ [])) ≡ instructionsIn rs ++ (instructionOf (bodyOf s) ∷ [])
+  map-append : (xs ys : List (List ℕ)) → reads (xs ++ ys) ≡ reads xs ++ reads ys
+  map-append [] ys = refl
+  map-append (x ∷ xs) ys = ap (λ (l : List A). read (bodyOf x) ∷ l) (map-append xs ys)
+
+  pub many-with : reads (ofKind k (with-one rs s)) ≡ pick (eqb (kindOf s) k) (reads (ofKind k rs) ++ (read (bodyOf s) ∷ [])) (reads (ofKind k rs))
+  many-with = ap reads (of-with k rs s) ∙ (map-append (ofKind k rs) (pick (eqb (kindOf s) k) (front s ∷ []) []) ∙ go (eqb (kindOf s) k))
+    where
+      go : (b : Bool) → reads (ofKind k rs) ++ reads (pick b (front s ∷ []) []) ≡ pick b (reads (ofKind k rs) ++ (read (bodyOf s) ∷ [])) (reads (ofKind k rs))
+      go true = ap (λ (x : List ℕ). reads (ofKind k rs) ++ (read x ∷ [])) (front-body s)
+      go false = append-nil (reads (ofKind k rs))
+
+-- ---- what was taken, with one more record that may come
+pub record MayCome (rs : List (List ℕ)) (s : List ℕ) : Type 0 where
+  pub unit : kindOf s ≡ 1 → hasKind 1 rs ≡ false
+  pub opening : kindOf s ≡ 2 → hasKind 2 rs ≡ false
+  pub instruction : kindOf s ≡ 3 → length (instructionsIn rs) < instructionPlaces
+
+module _ (rs : List (List ℕ)) (s : List ℕ) (may : MayCome rs s) where
+  abbrev k : ℕ
+  k = kindOf s
+
+  abbrev b : List ℕ
+  b = bodyOf s
+
+  instructions-with : instructionsIn (with-one rs s) ≡ pick (eqb k 3) (instructionsIn rs ++ (instructionOf b ∷ [])) (instructionsIn rs)
   unfolding instructionsIn
-  instructions-more e =
-      ap (map (λ r. instructionOf (bodyOf r))) (kind-same 3 rs s e)
-      ∙ (map-append (λ r. instructionOf (bodyOf r)) (ofKind 3 rs) (front s ∷ []) ∙ ap (λ (b : List ℕ). instructionsIn rs ++ (instructionOf b ∷ [])) (front-body s))
+  instructions-with = many-with instructionOf 3 rs s
 
-  instructions-other : (kindOf s ≡ 3 → ⊥) → instructionsIn (rs ++ (front s ∷ [])) ≡ instructionsIn rs
-  unfolding instructionsIn
-  instructions-other e = ap (map (λ r. instructionOf (bodyOf r))) (kind-other 3 rs s e)
+  count-with : length (instructionsIn (with-one rs s)) ≡ pick (eqb k 3) (length (instructionsIn rs) + 1) (length (instructionsIn rs))
+  count-with = ap length instructions-with ∙ go (eqb k 3)
+    where
+      go : (c : Bool) → length (pick c (instructionsIn rs ++ (instructionOf b ∷ [])) (instructionsIn rs)) ≡ pick c (length (instructionsIn rs) + 1) (length (instructionsIn rs))
+      go true = length-append (instructionsIn rs) (instructionOf b ∷ [])
+      go false = refl
+
+  places-with : filled instructionPlaces noInstruction (instructionsIn (with-one rs s))
+      ≡ pick (eqb k 3) (set (filled instructionPlaces noInstruction (instructionsIn rs)) (length (instructionsIn rs)) (instructionOf b)) (filled instructionPlaces noInstruction (instructionsIn rs))
+  places-with = ap (filled instructionPlaces noInstruction) instructions-with ∙ elim (ℕ-discrete k 3) [
+    | yes e ↦ rw (eq-eqb k 3 e) (sym (filled-push noInstruction instructionPlaces (instructionsIn rs) (instructionOf b) (may .instruction e)))
+    | no n ↦ rw (ne-eqb k 3 n) refl
+  ]
+
+  pub taken-with : takenIn (with-one rs s) ≡ takenWith (takenIn rs) k b
+  unfolding takenIn takenWith unitIn openingIn
+  taken-with = λ i. record {
+    hasUnit = has-with 1 rs s i;
+    unit = (ap (λ (x : List ℕ). unitOf (numbers x 62)) (body-with 1 rs s (may .unit)) ∙ choose (λ (x : List ℕ). unitOf (numbers x 62)) (eqb k 1) b (bodyOfKind 1 rs)) i;
+    hasStart = has-with 2 rs s i;
+    start = (ap (λ (x : List ℕ). startOf (openingOf x)) (body-with 2 rs s (may .opening)) ∙ choose (λ (x : List ℕ). startOf (openingOf x)) (eqb k 2) b (bodyOfKind 2 rs)) i;
+    count = count-with i;
+    instructions = places-with i;
+  }
+    where
+      choose : {A : Type 0} (read : List ℕ → A) (c : Bool) (x y : List ℕ) → read (pick c x y) ≡ pick c (read x) (read y)
+      choose read true x y = refl
+      choose read false x y = refl
+
+-- ---- what the refusals see to
+abbrev UnitFits : List ℕ → Type 0
+UnitFits b = unitAnswer (numbers b 62) ≡ Accepted
+
+-- what the day starts from keeps to its unit, which came before
+abbrev LowStart : Taken → Type 0
+LowStart t = t .hasStart ≡ true → (t .hasUnit ≡ true) × Low (t .unit) (t .start)
+
+low-with : (t : Taken) (k : ℕ) (b : List ℕ) → (k ≡ 1 → t .hasUnit ≡ false) → (k ≡ 2 → (t .hasUnit ≡ true) × Low (t .unit) (startOf (openingOf b))) → LowStart t → LowStart (takenWith t k b)
+unfolding takenWith
+low-with t k b first new old = elim (ℕ-discrete k 1) [
+  | yes e ↦ rw e (λ h. never (sym (first e) ∙ old h .0))
+  | no n1 ↦ elim (ℕ-discrete k 2) [
+    | yes e ↦ rw e (λ h. new e)
+    | no n2 ↦ simp (ne-eqb k 1 n1, ne-eqb k 2 n2) old
+  ]
+]
+
+pub record Fits (rs : List (List ℕ)) : Type 0 where
+  pub unit : Once UnitFits 1 rs
+  pub low : LowStart (takenIn rs)
+  pub few : length (instructionsIn rs) ≤ instructionPlaces
 
 -- ---- the day d is what the records rs, let in, make of an empty one
 pub record Made (d : Day) (rs : List (List ℕ)) : Type 0 where
-  pub unit : d .hasUnit ≡ true → (d .unit ≡ unitOf (numbers (bodyOfKind 1 rs) 62)) × (unitAnswer (numbers (bodyOfKind 1 rs) 62) ≡ Accepted)
-  pub no-unit : d .hasUnit ≡ false → ofKind 1 rs ≡ []
-  pub opening : d .hasOpening ≡ true → (d .opening ≡ openingOf (bodyOfKind 2 rs)) × (openingAnswer (bodyOfKind 2 rs) ≡ Accepted) × (tooHigh (d .unit) (d .opening) ≡ false)
-  pub no-opening : d .hasOpening ≡ false → ofKind 2 rs ≡ []
-  pub opening-unit : d .hasOpening ≡ true → d .hasUnit ≡ true
-  pub instructions : entered d ≡ instructionsIn rs
-  pub places : length (d .instructions) ≡ 40
-  pub count : d .count ≤ 40
-  pub opened : d .closed ≡ true → d .hasOpening ≡ true
-  pub stored : d .closed ≡ true → d ≡ closedWith d (foundIn paper d)
+  pub taken : d .taken ≡ takenIn rs
+  pub fits : Fits rs
+  pub started : d .closed ≡ true → hasKind 2 rs ≡ true
+  pub stored : d .closed ≡ true → d .found ≡ arraysOf (foundFrom rs)
 
 pub made-empty : Made empty []
-unfolding empty entered instructionsIn ofKind those
+unfolding empty noTaken takenIn hasKind some unitIn openingIn instructionsIn bodyOfKind ofKind those filled bodyOf kindOf sizeOf numbers unitOf columnOf triggerOf openingOf startOf
 made-empty = record {
-  unit = λ e. never e;
-  no-unit = λ e. refl;
-  opening = λ e. never e;
-  no-opening = λ e. refl;
-  opening-unit = λ e. never e;
-  instructions = refl;
-  places = refl;
-  count = omega arith;
-  opened = λ e. never e;
+  taken = refl;
+  fits = record { unit = λ e. never e; low = λ e. never e; few = omega arith };
+  started = λ e. never e;
   stored = λ e. never e;
 }
 
-module _ (d : Day) (rs : List (List ℕ)) (s : List ℕ) (m : Made d rs) (not-closed : d .closed ≡ false) where
-  shut : {P : Type 0} → d .closed ≡ true → P
-  shut e = never (sym not-closed ∙ e)
+-- ---- a record let in
+module _ (d : Day) (rs : List (List ℕ)) (s : List ℕ) (m : Made d rs) (p : Passed (foundIn paper) d s) where
+  has-unit : d .taken .hasUnit ≡ hasKind 1 rs
+  unfolding takenIn
+  has-unit = ap (λ (t : Taken). t .hasUnit) (m .taken)
 
-  abbrev more : List (List ℕ)
-  more = rs ++ (front s ∷ [])
+  has-start : d .taken .hasStart ≡ hasKind 2 rs
+  unfolding takenIn
+  has-start = ap (λ (t : Taken). t .hasStart) (m .taken)
 
-  a-unit : kindOf s ≡ 1 → d .hasUnit ≡ false → unitAnswer (numbers (bodyOf s) 62) ≡ Accepted → Made (withUnit d (unitOf (numbers (bodyOf s) 62))) more
-  unfolding withUnit entered
-  a-unit k n a =
-      let b : bodyOfKind 1 more ≡ bodyOf s = body-first 1 rs s k (m .no-unit n) in
-      record {
-        unit = λ e. (ap (λ (x : List ℕ). unitOf (numbers x 62)) (sym b), ap (λ (x : List ℕ). unitAnswer (numbers x 62)) b ∙ a);
-        no-unit = λ e. absurd (true≢false e);
-        opening = λ e. never (sym n ∙ m .opening-unit e);
-        no-opening = λ e. kind-other 2 rs s (λ x. omega arith) ∙ m .no-opening e;
-        opening-unit = λ e. refl;
-        instructions = m .instructions ∙ sym (instructions-other rs s (λ x. omega arith));
-        places = m .places;
-        count = m .count;
-        opened = λ e. shut e;
-        stored = λ e. shut e;
-      }
+  has-count : d .taken .count ≡ length (instructionsIn rs)
+  unfolding takenIn
+  has-count = ap (λ (t : Taken). t .count) (m .taken)
 
-  an-opening : kindOf s ≡ 2 → d .hasOpening ≡ false → d .hasUnit ≡ true → openingAnswer (bodyOf s) ≡ Accepted → tooHigh (d .unit) (openingOf (bodyOf s)) ≡ false →
-      Made (withOpening d (openingOf (bodyOf s))) more
-  unfolding withOpening entered
-  an-opening k n h a low =
-      let b : bodyOfKind 2 more ≡ bodyOf s = body-first 2 rs s k (m .no-opening n) in
-      let u : bodyOfKind 1 more ≡ bodyOfKind 1 rs = body-other 1 rs s (λ x. omega arith) in
-      record {
-        unit = λ e. (m .unit e .0 ∙ ap (λ (x : List ℕ). unitOf (numbers x 62)) (sym u), ap (λ (x : List ℕ). unitAnswer (numbers x 62)) u ∙ m .unit e .1);
-        no-unit = λ e. kind-other 1 rs s (λ x. omega arith) ∙ m .no-unit e;
-        opening = λ e. (ap openingOf (sym b), ap openingAnswer b ∙ a, low);
-        no-opening = λ e. absurd (true≢false e);
-        opening-unit = λ e. h;
-        instructions = m .instructions ∙ sym (instructions-other rs s (λ x. omega arith));
-        places = m .places;
-        count = m .count;
-        opened = λ e. shut e;
-        stored = λ e. shut e;
-      }
+  may : MayCome rs s
+  may = record {
+    unit = λ e. sym has-unit ∙ p .unit e .first;
+    opening = λ e. sym has-start ∙ p .opening e .first;
+    instruction = λ e. omega (arith, has-count, p .instruction e .room);
+  }
 
-  an-instruction : kindOf s ≡ 3 → d .count < 40 → Made (withInstruction d (instructionOf (bodyOf s))) more
-  unfolding withInstruction entered
-  an-instruction k r =
-      let u : bodyOfKind 1 more ≡ bodyOfKind 1 rs = body-other 1 rs s (λ x. omega arith) in
-      let o : bodyOfKind 2 more ≡ bodyOfKind 2 rs = body-other 2 rs s (λ x. omega arith) in
-      record {
-        unit = λ e. (m .unit e .0 ∙ ap (λ (x : List ℕ). unitOf (numbers x 62)) (sym u), ap (λ (x : List ℕ). unitAnswer (numbers x 62)) u ∙ m .unit e .1);
-        no-unit = λ e. kind-other 1 rs s (λ x. omega arith) ∙ m .no-unit e;
-        opening = λ e. (m .opening e .0 ∙ ap openingOf (sym o), ap openingAnswer o ∙ m .opening e .1, m .opening e .2);
-        no-opening = λ e. kind-other 2 rs s (λ x. omega arith) ∙ m .no-opening e;
-        opening-unit = m .opening-unit;
-        instructions =
-            ap (λ (n : ℕ). take n (set (d .instructions) (d .count) (instructionOf (bodyOf s)))) (add-one (d .count))
-            ∙ (take-suc-set (d .instructions) (d .count) (instructionOf (bodyOf s)) (omega (arith, m .places))
-            ∙ (ap (λ (l : List Instruction). l ++ (instructionOf (bodyOf s) ∷ [])) (m .instructions) ∙ sym (instructions-more rs s k)));
-        places = length-set (d .instructions) (d .count) (instructionOf (bodyOf s)) ∙ m .places;
-        count = omega arith;
-        opened = λ e. shut e;
-        stored = λ e. shut e;
-      }
+  abbrev kind : ℕ
+  kind = kindOf s
 
-  a-close : (kindOf s ≡ 1 → ⊥) → (kindOf s ≡ 2 → ⊥) → (kindOf s ≡ 3 → ⊥) → d .hasOpening ≡ true → Made (closedWith d (foundIn paper d)) more
-  unfolding closedWith entered foundIn
-  a-close n1 n2 n3 h =
-      let u : bodyOfKind 1 more ≡ bodyOfKind 1 rs = body-other 1 rs s n1 in
-      let o : bodyOfKind 2 more ≡ bodyOfKind 2 rs = body-other 2 rs s n2 in
-      record {
-        unit = λ e. (m .unit e .0 ∙ ap (λ (x : List ℕ). unitOf (numbers x 62)) (sym u), ap (λ (x : List ℕ). unitAnswer (numbers x 62)) u ∙ m .unit e .1);
-        no-unit = λ e. kind-other 1 rs s n1 ∙ m .no-unit e;
-        opening = λ e. (m .opening e .0 ∙ ap openingOf (sym o), ap openingAnswer o ∙ m .opening e .1, m .opening e .2);
-        no-opening = λ e. kind-other 2 rs s n2 ∙ m .no-opening e;
-        opening-unit = m .opening-unit;
-        instructions = m .instructions ∙ sym (instructions-other rs s n3);
-        places = m .places;
-        count = m .count;
-        opened = λ e. h;
-        stored = λ e. refl;
-      }
+  fits-with : Fits (with-one rs s)
+  unfolding takenIn
+  fits-with = record {
+    unit = once-with UnitFits 1 rs s (may .unit) (λ e. p .unit e .fields) (m .fits .unit);
+    low = subst LowStart (sym (taken-with rs s may))
+        (low-with (takenIn rs) kind (bodyOf s) (may .unit)
+        (λ e. (sym has-unit ∙ p .opening e .unit, subst (λ (t : Taken). Low (t .unit) (startOf (openingOf (bodyOf s)))) (m .taken) (start-low (d .taken .unit) (bodyOf s) (p .opening e .fields) (p .opening e .low))))
+        (m .fits .low));
+    few = go;
+  }
+    where
+      go : length (instructionsIn (with-one rs s)) ≤ instructionPlaces
+      go = elim (ℕ-discrete kind 3) [
+        | yes e ↦ omega (arith, count-with rs s may ∙ ap (λ (c : Bool). pick c (length (instructionsIn rs) + 1) (length (instructionsIn rs))) (eq-eqb kind 3 e), may .instruction e)
+        | no n ↦ omega (arith, count-with rs s may ∙ ap (λ (c : Bool). pick c (length (instructionsIn rs) + 1) (length (instructionsIn rs))) (ne-eqb kind 3 n), m .fits .few)
+      ]
 
--- a record let in
-pub taken : (d : Day) (rs : List (List ℕ)) (s : List ℕ) → Made d rs → Passed (foundIn paper) d s → Made (dayWith (foundIn paper) d (kindOf s) (bodyOf s)) (rs ++ (front s ∷ []))
-unfolding dayWith
-taken d rs s m p = elim (ℕ-discrete (kindOf s) 1) [
-  | yes e ↦ simp (eq-eqb (kindOf s) 1 e) (a-unit d rs s m (p .not-closed) e (p .first-unit e) (p .unit-fields e))
-  | no n1 ↦ elim (ℕ-discrete (kindOf s) 2) [
-    | yes e ↦ simp (ne-eqb (kindOf s) 1 n1, eq-eqb (kindOf s) 2 e) (an-opening d rs s m (p .not-closed) e (p .first-opening e) (p .unit-before e) (p .opening-fields e) (p .opening-low e))
-    | no n2 ↦ elim (ℕ-discrete (kindOf s) 3) [
-      | yes e ↦ simp (ne-eqb (kindOf s) 1 n1, ne-eqb (kindOf s) 2 n2, eq-eqb (kindOf s) 3 e) (an-instruction d rs s m (p .not-closed) e (p .room e))
-      | no n3 ↦
-          let four : kindOf s ≡ 4 = omega (arith, p .least, p .most) in
-          simp (ne-eqb (kindOf s) 1 n1, ne-eqb (kindOf s) 2 n2, ne-eqb (kindOf s) 3 n3) (a-close d rs s m (p .not-closed) n1 n2 n3 (p .opening-before four))
-    ]
-  ]
-]
+  -- only a close closes, and it takes nothing in
+  closes : (eqb kind 4 || d .closed) ≡ true → kind ≡ 4
+  closes h = by-bool (eqb kind 4) (λ e. eqb-true kind 4 e) (λ e. never (sym (p .not-closed) ∙ (sym (ap (λ (b : Bool). b || d .closed) e) ∙ h)))
+
+  same-taken : kind ≡ 4 → takenIn (with-one rs s) ≡ d .taken
+  unfolding takenWith
+  same-taken e = taken-with rs s may ∙ (ap (λ (k : ℕ). takenWith (takenIn rs) k (bodyOf s)) e ∙ sym (m .taken))
+
+  pub made-with : Made (dayWith (foundIn paper) d kind (bodyOf s)) (with-one rs s)
+  unfolding dayWith foundFrom
+  made-with = record {
+    taken = ap (λ (t : Taken). takenWith t kind (bodyOf s)) (m .taken) ∙ sym (taken-with rs s may);
+    fits = fits-with;
+    started = λ h. has-with 2 rs s ∙ (ap (λ (b : Bool). eqb kind 2 || b) (sym has-start ∙ p .close (closes h) .started) ∙ go (eqb kind 2));
+    stored = λ h. ap (λ (k : ℕ). pick (eqb k 4) (arraysOf (foundIn paper (d .taken))) (d .found)) (closes h) ∙ ap (λ (t : Taken). arraysOf (foundIn paper t)) (sym (same-taken (closes h)));
+  }
+    where
+      go : (b : Bool) → (b || true) ≡ true
+      go true = refl
+      go false = refl

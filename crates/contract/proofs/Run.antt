@@ -5,24 +5,21 @@ use mathlib.Core.List.{List, [], _∷_, _++_, append-assoc, append-nil}
 use mathlib.Core.Bool.{Bool, true, false, not}
 use Prim.Native.Nat.{ℕ}
 use lib.Dec.{ltb}
-use lib.ListN.{length, take}
+use lib.ListN.{length}
 use lib.Seq.{take-append-seam}
-use Rattle.level.specs.Choice.{pick}
 use Rattle.level.specs.Lists.{All}
-use Rattle.records.specs.declared.Answer.{Answer}
-use Rattle.records.specs.declared.Answer.the-variants.{Accepted, Refused}
 use Rattle.records.specs.declared.Refusal.the-variants.{NotReady, SliceTooShort}
 use Rattle.records.specs.Answers.{accepted, refusing, firstRefusal}
 use Rattle.profile.specs.Profile.{paper}
 use Rattle.day.specs.declared.Day.{Day}
-use Rattle.day.specs.Day.{empty, foundIn}
-use Rattle.day.specs.Step.{kindOf, bodyOf, dayWith, answerOf, stepBy, stepOf}
+use Rattle.day.specs.Day.{foundIn, dayWith}
+use Rattle.day.specs.Step.{kindOf, bodyOf, answerOf, stepBy, stepOf}
 use Rattle.level.proofs.Lists.{by-bool}
-use Rattle.day.proofs.Passed.{never, is-accepted, Passed, passed}
-use Rattle.text.specs.Text.{laid}
+use Rattle.day.proofs.Answers.{never, is-accepted}
+use Rattle.day.proofs.ByKind.{Passed, passed}
 use Rattle.listing.specs.Listing.{printedDay, listAnswer, listOf, lentAfter}
 use Rattle.contract.specs.Calls.{Call, sends, asks, after, letIn, wrote}
-use Rattle.contract.proofs.Made.{Made, made-empty, front, taken}
+use Rattle.contract.proofs.Made.{Made, front, made-with}
 
 -- ---- one call
 module _ (d : Day) (s : List ℕ) (cs : List Call) where
@@ -84,7 +81,7 @@ made-after (sends s ∷ cs) d rs m =
     by-bool (accepted (answerOf d s))
     (λ e. let p : Passed (foundIn paper) d s = passed (foundIn paper) d s (is-accepted (answerOf d s) e) in
     let t : Day = dayWith (foundIn paper) d (kindOf s) (bodyOf s) in
-    rw (after-taken d s cs e, let-taken d s cs e) (rw (append-assoc rs (front s ∷ []) (letIn t cs)) at (made-after cs t (rs ++ (front s ∷ [])) (taken d rs s m p))))
+    rw (after-taken d s cs e, let-taken d s cs e) (rw (append-assoc rs (front s ∷ []) (letIn t cs)) at (made-after cs t (rs ++ (front s ∷ [])) (made-with d rs s m p))))
     (λ e. rw (after-refused d s cs e, let-refused d s cs e) (made-after cs d rs m))
 
 -- a closed day stays as it is

@@ -4,7 +4,7 @@ use mathlib.Core.Path.{_≡_, refl, ap, _∙_}
 use mathlib.Core.List.{List, [], _∷_}
 use Prim.Native.Nat.{ℕ}
 use Rattle.profile.specs.Profile.{Found, paper, twin}
-use Rattle.day.specs.declared.Day.{Day}
+use Rattle.profile.specs.declared.Taken.{Taken}
 use Rattle.day.proofs.Same.{find-same}
 use Rattle.level.specs.Level.{grains, fromKw}
 use Rattle.level.specs.Lists.{those, some, listFrom, sum, filled}
@@ -18,18 +18,20 @@ use Rattle.course.specs.Lists.{ratesOf, inGrains, placeOf, columnFor, replaced,
 use Rattle.course.specs.Pieces.{piece, piecesOf, piecesIn, twiceArea}
 use Rattle.validation.specs.Kept.{numbered, superseded, group, goesBefore, highest, present, carrying, merged, usedOf, nextTime, usedFrom, used, repeats, syncWithinHour, fromSync, beforeSync, failed, checkOne, check, acting, overtaken, lateFate, actors, lateMarks, turned, keptOf, validated, fateAmong, fatesOf}
 use Rattle.profile.specs.Allowance.{hasTime, allowed, allowance, exactIn, exactOf, exactArea}
-use Rattle.profile.specs.Effects.{idle, heatBy, mwofTarget, syncTarget, setting, stepped, courseFrom, underWay, opened, begun, goesOn, replaces, stateAt, follow}
-use Rattle.profile.specs.Profile.{beginOf, spansOf, inForce, levelStarting, levelEnding, rateStarting, recordedTwice, recordedTo, recordedIn, rounded, piecesTo, twinTo, twinIn, dayPieces, closingOf, foundBy, found}
+use Rattle.profile.specs.Effects.{heatBy, mwofTarget, syncTarget, outcomeBy, stepped, courseFrom, underWay, startCourse, begun, goesOn, replaces, stateAt, follow}
+use Rattle.profile.specs.Profile.{beginOf, spansOf, inForce, levelStarting, levelEnding, rateStarting, recordedTwice, recordedTo, recordedIn, rounded, piecesTo, twinTo, twinIn, dayPieces, lastOf, foundBy, found}
 use Rattle.profile.specs.State.{held, watchNext, watch, byRule, arrival, stateOn, bySegments}
-use Rattle.day.specs.Day.{empty, entered, withUnit, withOpening, withInstruction, closedWith, fatesIn, coursesIn, quantityAt, quantitiesIn, foundIn}
-use Rattle.day.specs.Step.{kindOf, bodyOf, noBytes, unknownKind, tooFew, secondOne, beforeUnit, tooMany, notReady, fieldAnswer, tooHigh, quantityTooHigh, answerBy, dayWith, stepBy, restOf}
+use Rattle.profile.specs.Taken.{startOf, noTaken, takenWith, entered}
+use Rattle.profile.specs.Finding.{noFinding, arraysOf, quantityAt}
+use Rattle.day.specs.Day.{foundIn, empty, dayWith, fatesIn, coursesIn, quantitiesIn}
+use Rattle.day.specs.Step.{kindOf, bodyOf, noBytes, unknownKind, tooFew, secondOne, beforeUnit, tooMany, notReady, fieldAnswer, tooHigh, quantityTooHigh, answerBy, stepBy, restOf}
 use Rattle.lines.specs.Lines.{fLine, sLine, qLine, eLine, xLine}
 use Rattle.text.specs.Text.{digits, decimal, field, fields, line}
 use Rattle.listing.specs.Listing.{fLines, sLines, runLines, qLines, listing, printedDay, listAnswer, listOf, lentAfter}
 use Rattle.listing.specs.Reader.{parted, linesOf, wordsOf, isByte, allDigits, isDecimal, valueFrom, value, enclosing, inLines, printedAt, printedKw}
 use Rattle.contract.specs.Calls.{letIn, wrote}
 use Rattle.contract.specs.Cases.{word, words, plainColumn, unitRecord, openingRecord, instructionRecord, usual, tripAt, failAt, figures, sent, closedBy, fatesBy, firstQuantity, piecesBy, answerAfter, starred}
-use Rattle.contract.specs.LetIn.{ofKind, bodyOfKind, unitIn, openingIn, instructionsIn, foundFrom, spansFrom}
+use Rattle.contract.specs.LetIn.{ofKind, hasKind, bodyOfKind, unitIn, openingIn, instructionsIn, takenIn, foundFrom, spansFrom}
 use Rattle.contract.specs.Program.{runBy, ranBy, printedRun, programBy}
 
 -- document 01's listing, byte by byte; quantities; fates; pieces (from, to, level, level); answers; fates
@@ -50,9 +52,9 @@ expected =
     ∷ []
 
 starred-by-segments : starred (foundIn twin) ≡ expected
-unfolding grains fromKw those some listFrom sum filled seconds recorded ticks exact rateProduct wholeWay area between recordedTick meaningOf inRange aLevel aMaximum aRate aHold aBoundary columnRanges rampRanges unitRanges fitFrom fallsBelow falls disagrees unitAnswer openingFits openingAnswer figuresFit instructionAnswer sizeOf numbers triggerOf columnOf unitOf openingOf issueOf instructionOf trajectoryOf heading toward gap distance inUse passed rateAt breaksInUse counting triggers nearest holding candidates nextStop holdAt arrived second after rateInForce stopsFrom segmentsOf momentAt levelAt rateOn stops segments plus ticksOf exactAt cut cuts exactTwice ratesOf inGrains placeOf columnFor replaced listsOf piece piecesOf piecesIn twiceArea numbered superseded group goesBefore highest present carrying merged usedOf nextTime usedFrom used repeats syncWithinHour fromSync beforeSync failed checkOne check acting overtaken lateFate actors lateMarks turned keptOf validated fateAmong fatesOf hasTime allowed allowance exactIn exactOf exactArea idle heatBy mwofTarget syncTarget setting stepped courseFrom underWay opened begun goesOn replaces stateAt follow beginOf spansOf inForce levelStarting levelEnding rateStarting recordedTwice recordedTo recordedIn rounded piecesTo twinTo twinIn dayPieces closingOf foundBy found held watchNext watch byRule arrival stateOn bySegments empty entered withUnit withOpening withInstruction closedWith fatesIn coursesIn quantityAt quantitiesIn foundIn kindOf bodyOf noBytes unknownKind tooFew secondOne beforeUnit tooMany notReady fieldAnswer tooHigh quantityTooHigh answerBy dayWith stepBy restOf digits decimal field fields line fLine sLine qLine eLine xLine fLines sLines runLines qLines listing printedDay listAnswer listOf lentAfter parted linesOf wordsOf isByte allDigits isDecimal valueFrom value enclosing inLines printedAt printedKw Rattle.contract.specs.Calls.after letIn wrote word words plainColumn unitRecord openingRecord instructionRecord usual tripAt failAt figures sent closedBy fatesBy firstQuantity piecesBy answerAfter starred ofKind bodyOfKind unitIn openingIn instructionsIn foundFrom spansFrom runBy ranBy printedRun programBy
+unfolding grains fromKw those some listFrom sum filled seconds recorded ticks exact rateProduct wholeWay area between recordedTick meaningOf inRange aLevel aMaximum aRate aHold aBoundary columnRanges rampRanges unitRanges fitFrom fallsBelow falls disagrees unitAnswer openingFits openingAnswer figuresFit instructionAnswer sizeOf numbers triggerOf columnOf unitOf openingOf issueOf instructionOf trajectoryOf heading toward gap distance inUse passed rateAt breaksInUse counting triggers nearest holding candidates nextStop holdAt arrived second after rateInForce stopsFrom segmentsOf momentAt levelAt rateOn stops segments plus ticksOf exactAt cut cuts exactTwice ratesOf inGrains placeOf columnFor replaced listsOf piece piecesOf piecesIn twiceArea numbered superseded group goesBefore highest present carrying merged usedOf nextTime usedFrom used repeats syncWithinHour fromSync beforeSync failed checkOne check acting overtaken lateFate actors lateMarks turned keptOf validated fateAmong fatesOf hasTime allowed allowance exactIn exactOf exactArea heatBy mwofTarget syncTarget outcomeBy stepped courseFrom underWay startCourse begun goesOn replaces stateAt follow beginOf spansOf inForce levelStarting levelEnding rateStarting recordedTwice recordedTo recordedIn rounded piecesTo twinTo twinIn dayPieces lastOf foundBy found held watchNext watch byRule arrival stateOn bySegments startOf noTaken takenWith entered noFinding arraysOf quantityAt foundIn empty dayWith fatesIn coursesIn quantitiesIn kindOf bodyOf noBytes unknownKind tooFew secondOne beforeUnit tooMany notReady fieldAnswer tooHigh quantityTooHigh answerBy stepBy restOf digits decimal field fields line fLine sLine qLine eLine xLine fLines sLines runLines qLines listing printedDay listAnswer listOf lentAfter parted linesOf wordsOf isByte allDigits isDecimal valueFrom value enclosing inLines printedAt printedKw Rattle.contract.specs.Calls.after letIn wrote word words plainColumn unitRecord openingRecord instructionRecord usual tripAt failAt figures sent closedBy fatesBy firstQuantity piecesBy answerAfter starred ofKind hasKind bodyOfKind unitIn openingIn instructionsIn takenIn foundFrom spansFrom runBy ranBy printedRun programBy
 starred-by-segments = refl
 
 -- by the paper's own definitions
 pub starred-cases : starred (foundIn paper) ≡ expected
-starred-cases = ap (λ (f : Day → Found). starred f) find-same ∙ starred-by-segments
+starred-cases = ap (λ (f : Taken → Found). starred f) find-same ∙ starred-by-segments

@@ -1,6 +1,6 @@
 -- The starred cases of "Try": the bytes sent, and what is asked of the day.
 -- Assumes nothing.
-use Prim.Native.Nat.{ℕ, zero, suc, _+_, _*_, _/_, _%_}
+use Prim.Native.Nat.{ℕ, _+_, _/_, _%_}
 use mathlib.Core.List.{List, [], _∷_, _++_}
 use lib.ListN.{getD, replicate}
 use Rattle.records.specs.declared.Effect.{Effect}
@@ -8,6 +8,7 @@ use Rattle.records.specs.declared.Effect.the-variants.{Trip, Mwof, Sync, Fail}
 use Rattle.records.specs.Answers.{numberOf}
 use Rattle.records.specs.Codes.{codeNumber}
 use Rattle.course.specs.declared.Piece.{Piece}
+use Rattle.profile.specs.declared.Taken.{Taken}
 use Rattle.profile.specs.Profile.{Found, spansOf, dayPieces}
 use Rattle.day.specs.declared.Day.{Day}
 use Rattle.day.specs.Day.{daySeconds, empty, fatesIn, coursesIn, quantitiesIn}
@@ -63,8 +64,8 @@ unfoldable pub figures : List Piece → List ℕ
 figures [] = []
 figures (p ∷ ps) = p .from ∷ p .to ∷ p .enter ∷ p .leave ∷ figures ps
 
--- ---- what is asked, find giving what close finds of a day
-module _ (find : Day → Found) where
+-- ---- what is asked, find giving what close finds from what was taken
+module _ (find : Taken → Found) where
   -- the day after some records, from a day on; the same with the close, from the empty day
   unfoldable pub sent : Day → List (List ℕ) → Day
   sent d [] = d
@@ -80,7 +81,7 @@ module _ (find : Day → Found) where
   firstQuantity rs = getD (quantitiesIn (closedBy rs)) 0 0 ∷ []
 
   unfoldable pub piecesBy : List (List ℕ) → List ℕ
-  piecesBy rs = let d : Day = closedBy rs in figures (dayPieces (spansOf (d .unit) daySeconds (coursesIn d)))
+  piecesBy rs = let d : Day = closedBy rs in figures (dayPieces (spansOf (d .taken .unit) daySeconds (coursesIn d)))
 
   -- the number of the answer that a record gets after others
   unfoldable pub answerAfter : List (List ℕ) → List ℕ → List ℕ

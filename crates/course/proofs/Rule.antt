@@ -57,7 +57,7 @@ module _ (h : Heading) (l : Lists) (t : ℕ) where
   unfolding second
   second-rest = simp (eq-eqb t t refl)
 
-  second-run : (v : ℕ) → Past h v t → rateAt h l v < gap v (nextStop h l t v) → second h l t (at v 0) ≡ at (toward h v (rateAt h l v)) 0
+  pub second-run : (v : ℕ) → Past h v t → rateAt h l v < gap v (nextStop h l t v) → second h l t (at v 0) ≡ at (toward h v (rateAt h l v)) 0
   unfolding second arrived
   second-run v p q =
       let n = next-past h l t v p in
@@ -68,7 +68,7 @@ module _ (h : Heading) (l : Lists) (t : ℕ) where
         ne-eqb (toward h v (rateAt h l v)) (nextStop h l t v) (past-not h _ _ (g .0)),
       )
 
-  second-stop : (v : ℕ) → Past h v t → gap v (nextStop h l t v) ≤ rateAt h l v →
+  pub second-stop : (v : ℕ) → Past h v t → gap v (nextStop h l t v) ≤ rateAt h l v →
       second h l t (at v 0) ≡ at (nextStop h l t v) (holdAt h l t (nextStop h l t v))
   unfolding second arrived
   second-stop v p q =

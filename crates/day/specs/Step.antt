@@ -1,25 +1,27 @@
 -- Taking a record: the refusals in the paper's order, and what an acceptance and a refusal return.
 -- Assumes nothing.
-use Prim.Native.Nat.{ℕ, zero, suc, _+_, _*_, _-_}
+use Prim.Native.Nat.{ℕ, _-_}
 use mathlib.Core.List.{List, [], _∷_}
-use mathlib.Core.Bool.{Bool, true, false, _&&_, _||_, not}
+use mathlib.Core.Bool.{Bool, false, _&&_, _||_, not}
 use lib.Dec.{leb, ltb, eqb}
 use lib.ListN.{length, getD, take, drop}
 use Rattle.level.specs.Choice.{pick}
 use Rattle.level.specs.Level.{grains}
 use Rattle.level.specs.Lists.{some}
+use Rattle.level.specs.Numbers.{instructionPlaces}
 use Rattle.records.specs.declared.UnitData.{UnitData}
 use Rattle.records.specs.declared.Opening.{Opening}
 use Rattle.records.specs.declared.Answer.{Answer}
-use Rattle.records.specs.declared.Answer.the-variants.{Accepted, Refused}
+use Rattle.records.specs.declared.Answer.the-variants.{Accepted}
 use Rattle.records.specs.declared.Refusal.the-variants.{UnknownKind, TooFewBytes, SecondOne, BeforeUnit, OpeningTooHigh, TooManyInstructions, AfterClose, NotReady, QuantityTooHigh}
 use Rattle.records.specs.Answers.{accepted, refusing, firstRefusal}
-use Rattle.records.specs.Records.{sizeOf, numbers, unitOf, openingOf, instructionOf}
+use Rattle.records.specs.Records.{sizeOf, numbers, openingOf}
 use Rattle.records.specs.Fields.{unitAnswer, openingAnswer, instructionAnswer}
+use Rattle.profile.specs.declared.Taken.{Taken}
 use Rattle.profile.specs.Profile.{Found, paper}
 use Rattle.day.specs.declared.Day.{Day}
 use Rattle.day.specs.declared.Stepped.{Stepped}
-use Rattle.day.specs.Day.{daySeconds, withUnit, withOpening, withInstruction, closedWith, foundIn}
+use Rattle.day.specs.Day.{daySeconds, foundIn, dayWith}
 
 -- "A record is one byte of kind, then a body whose length the kind fixes"
 unfoldable pub kindOf : List ℕ → ℕ
@@ -28,7 +30,7 @@ kindOf s = getD s 0 0
 unfoldable pub bodyOf : List ℕ → List ℕ
 bodyOf s = take (sizeOf (kindOf s) - 1) (drop 1 s)
 
--- ---- the conditions of the refusals, of a day d and bytes s
+-- ---- the conditions of the refusals, of what was taken and of bytes s of the kind k with the body b
 
 -- "2 too few bytes for the kind, or none"
 unfoldable pub noBytes : List ℕ → Bool
@@ -42,20 +44,20 @@ unfoldable pub tooFew : List ℕ → Bool
 tooFew s = ltb (length s) (sizeOf (kindOf s))
 
 -- "20 second unit or opening"
-unfoldable pub secondOne : Day → ℕ → Bool
-secondOne d k = (eqb k 1 && d .hasUnit) || (eqb k 2 && d .hasOpening)
+unfoldable pub secondOne : Taken → ℕ → Bool
+secondOne t k = pick (eqb k 1) (t .hasUnit) (pick (eqb k 2) (t .hasStart) false)
 
 -- "21 opening or instruction before a unit"
-unfoldable pub beforeUnit : Day → ℕ → Bool
-beforeUnit d k = (eqb k 2 || eqb k 3) && not (d .hasUnit)
+unfoldable pub beforeUnit : Taken → ℕ → Bool
+beforeUnit t k = (eqb k 2 || eqb k 3) && not (t .hasUnit)
 
 -- "23 forty-first instruction"
-unfoldable pub tooMany : Day → ℕ → Bool
-tooMany d k = eqb k 3 && leb 40 (d .count)
+unfoldable pub tooMany : Taken → ℕ → Bool
+tooMany t k = eqb k 3 && leb instructionPlaces (t .count)
 
 -- "25 close without an opening"
-unfoldable pub notReady : Day → ℕ → Bool
-notReady d k = eqb k 4 && not (d .hasOpening)
+unfoldable pub notReady : Taken → ℕ → Bool
+notReady t k = eqb k 4 && not (t .hasStart)
 
 -- 3 to 9: the fields, as the kind has them
 unfoldable pub fieldAnswer : ℕ → List ℕ → Answer
@@ -73,40 +75,37 @@ tooHigh u o = ltb (grains (u .maximum)) (o .level) || (ltb (u .maximum) (o .targ
 unfoldable pub quantityTooHigh : UnitData → Found → Bool
 quantityTooHigh u f = some (λ q. ltb (u .maximum) q) (f .quantities)
 
--- find gives what close finds of a day
-module _ (find : Day → Found) where
+-- an acceptance: the day after it, and the bytes used; else "A refusal returns its number, the same day, the whole input slice"
+abbrev pub accept : Day → ℕ → Stepped
+accept d n = record { answer = Accepted; day = d; used = n }
+
+abbrev pub settle : Answer → Day → Stepped → Stepped
+settle a d x = pick (accepted a) x (record { answer = a; day = d; used = 0 })
+
+-- find gives what close finds from what was taken
+module _ (find : Taken → Found) where
   -- "Order: 2 if empty, 1, 2, 24, 20, 21, 23, 25, fields as numbered, 22, 27"
   unfoldable pub answerBy : Day → List ℕ → Answer
   answerBy d s =
+      let t : Taken = d .taken in
       let k : ℕ = kindOf s in
+      let b : List ℕ = bodyOf s in
       firstRefusal
       (refusing (noBytes s) TooFewBytes
       ∷ refusing (unknownKind s) UnknownKind
       ∷ refusing (tooFew s) TooFewBytes
       ∷ refusing (d .closed) AfterClose
-      ∷ refusing (secondOne d k) SecondOne
-      ∷ refusing (beforeUnit d k) BeforeUnit
-      ∷ refusing (tooMany d k) TooManyInstructions
-      ∷ refusing (notReady d k) NotReady
-      ∷ fieldAnswer k (bodyOf s)
-      ∷ refusing (eqb k 2 && tooHigh (d .unit) (openingOf (bodyOf s))) OpeningTooHigh
-      ∷ refusing (eqb k 4 && quantityTooHigh (d .unit) (find d)) QuantityTooHigh
+      ∷ refusing (secondOne t k) SecondOne
+      ∷ refusing (beforeUnit t k) BeforeUnit
+      ∷ refusing (tooMany t k) TooManyInstructions
+      ∷ refusing (notReady t k) NotReady
+      ∷ fieldAnswer k b
+      ∷ refusing (eqb k 2 && tooHigh (t .unit) (openingOf b)) OpeningTooHigh
+      ∷ refusing (eqb k 4 && quantityTooHigh (t .unit) (find t)) QuantityTooHigh
       ∷ [])
 
-  -- the day with the record of the kind k and the body b
-  unfoldable pub dayWith : Day → ℕ → List ℕ → Day
-  dayWith d k b =
-      pick (eqb k 1) (withUnit d (unitOf (numbers b 62)))
-      (pick (eqb k 2) (withOpening d (openingOf b))
-      (pick (eqb k 3) (withInstruction d (instructionOf b))
-      (closedWith d (find d))))
-
-  -- "A refusal returns its number, the same day, the whole input slice"
   unfoldable pub stepBy : Day → List ℕ → Stepped
-  stepBy d s =
-      pick (accepted (answerBy d s))
-      (record { answer = Accepted; day = dayWith d (kindOf s) (bodyOf s); used = sizeOf (kindOf s) })
-      (record { answer = answerBy d s; day = d; used = 0 })
+  stepBy d s = settle (answerBy d s) d (accept (dayWith find d (kindOf s) (bodyOf s)) (sizeOf (kindOf s)))
 
 -- as the paper says it
 abbrev pub answerOf : Day → List ℕ → Answer

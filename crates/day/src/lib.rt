@@ -1,26 +1,16 @@
-// The day: what was let in, and what close found.
+// The day: what was let in, whether it is closed, what close found.
 ghost use mathlib.Core.Path.{_≡_};
 ghost use mathlib.Core.List.{[]};
-ghost use Prim.Native.Nat.{_<_};
 ghost use Rattle.records.specs.Records.{unitOf, openingOf};
-ghost use Rattle.day.specs.Day.{noCourse, empty, withUnit, withOpening, withInstruction};
+ghost use Rattle.profile.specs.Taken.{startOf, noTaken};
+ghost use Rattle.profile.specs.Finding.{noFinding};
+ghost use Rattle.day.specs.Day.{empty};
 
-// A day. Before close it holds the unit, the opening and the instructions let in, `count` of them. Close adds the fates
-// by number, the courses (`started` of them), twice the recorded area from 06:00 to each of the 49 half-hour boundaries
-// (grain-seconds), and the closing state.
+// A day: what was let in, whether it is closed, what close found.
 pub struct Day {
-    pub hasUnit: bool,
-    pub unit: records::UnitData,
-    pub hasOpening: bool,
-    pub opening: records::Opening,
-    pub count: usize,
-    pub instructions: [records::Instruction; 40],
+    pub taken: profile::Taken,
     pub closed: bool,
-    pub fates: [u8; 40],
-    pub started: usize,
-    pub courses: [course::Course; 41],
-    pub sums: [u64; 49],
-    pub closing: profile::Closing,
+    pub found: profile::Finding,
 }
 
 // What taking a record gives: the answer, the day after it, and how many bytes it used.
@@ -84,18 +74,59 @@ pub fn no_opening() -> records::Opening
     }
 }
 
-// What an unused place of the courses holds.
-pub fn no_course() -> course::Course
-    ensures { λ r. ⌜ r ≡ noCourse ⌝ }
+// What an opening starts: no rate replaced, not maximised.
+pub fn start_of(o: records::Opening) -> profile::Start
+    ensures { λ r. ⌜ r ≡ startOf o ⌝ }
 {
-    let start = level::Level { grains: 0 };
-    course::Course {
-        begin: 0,
-        start,
-        target: 0,
-        heat: 0,
+    profile::Start {
+        level: o.level,
+        target: o.target,
+        heat: o.heat,
         up: 0,
         down: 0,
+        maximised: false,
+        ordered: o.target,
+        off: o.off,
+    }
+}
+
+// Nothing let in.
+pub fn no_taken() -> profile::Taken
+    ensures { λ r. ⌜ r ≡ noTaken ⌝ }
+{
+    let unit = no_unit();
+    let opening = no_opening();
+    let start = start_of(opening);
+    let instruction = records::no_instruction();
+    profile::Taken {
+        hasUnit: false,
+        unit,
+        hasStart: false,
+        start,
+        count: 0,
+        instructions: [instruction; level::INSTRUCTIONS],
+    }
+}
+
+// Nothing found.
+fn no_finding() -> profile::Finding
+    ensures { λ r. ⌜ r ≡ noFinding ⌝ }
+{
+    let course = profile::no_course();
+    let last = profile::UnderWay {
+        course,
+        maximised: false,
+        ordered: 0,
+        off: 0,
+    };
+    let end = profile::State { level: 0, off: 0 };
+    profile::Finding {
+        fates: [0; level::INSTRUCTIONS],
+        started: 0,
+        courses: [course; level::COURSES],
+        sums: [0; level::BOUNDARIES],
+        last,
+        end,
     }
 }
 
@@ -103,61 +134,11 @@ pub fn no_course() -> course::Course
 pub fn empty_day() -> Day
     ensures { λ r. ⌜ r ≡ empty ⌝ }
 {
-    let unit = no_unit();
-    let opening = no_opening();
-    let instruction = records::no_instruction();
-    let course = no_course();
-    let level = course.start;
-    let closing = profile::Closing {
-        level,
-        target: 0,
-        heat: 0,
-        off: 0,
-    };
+    let taken = no_taken();
+    let found = no_finding();
     Day {
-        hasUnit: false,
-        unit,
-        hasOpening: false,
-        opening,
-        count: 0,
-        instructions: [instruction; 40],
+        taken,
         closed: false,
-        fates: [0; 40],
-        started: 0,
-        courses: [course; 41],
-        sums: [0; 49],
-        closing,
+        found,
     }
-}
-
-// With a unit.
-pub fn with_unit(day: Day, unit: records::UnitData) -> Day
-    ensures { λ r. ⌜ r ≡ withUnit day unit ⌝ }
-{
-    let mut next = day;
-    next.hasUnit = true;
-    next.unit = unit;
-    next
-}
-
-// With an opening.
-pub fn with_opening(day: Day, opening: records::Opening) -> Day
-    ensures { λ r. ⌜ r ≡ withOpening day opening ⌝ }
-{
-    let mut next = day;
-    next.hasOpening = true;
-    next.opening = opening;
-    next
-}
-
-// With one more instruction.
-pub fn with_instruction(day: Day, instruction: records::Instruction) -> Day
-    requires { ⌜ day .count < 40 ⌝ }
-    ensures { λ r. ⌜ r ≡ withInstruction day instruction ⌝ }
-{
-    let at = day.count;
-    let mut next = day;
-    next.instructions[at] = instruction;
-    next.count = at + 1;
-    next
 }

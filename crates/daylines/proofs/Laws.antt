@@ -14,6 +14,7 @@ use borrow.Author.Tests.{lt-ltb, le-ltb, eq-eqb, ne-eqb}
 use Rattle.level.specs.Choice.{pick}
 use Rattle.level.specs.Level.{grains}
 use Rattle.level.specs.Lists.{listFrom}
+use Rattle.level.specs.Numbers.{instructionPlaces, coursePlaces}
 use Rattle.level.proofs.Lists.{by-bool}
 use Rattle.records.specs.declared.Ramp.{Ramp}
 use Rattle.records.specs.declared.UnitData.{UnitData}
@@ -24,7 +25,7 @@ use Rattle.course.specs.Course.{trajectoryOf}
 use Rattle.course.specs.Pieces.{piecesIn}
 use Rattle.course.proofs.Near.{Short}
 use Rattle.profile.specs.Profile.{beginOf, spansOf, dayPieces, rounded}
-use Rattle.day.specs.Day.{halfHours, daySeconds, noCourse, quantityAt}
+use Rattle.profile.specs.Finding.{noCourse, quantityAt}
 use Rattle.rates.specs.declared.OwnLists.{OwnLists}
 use Rattle.trajectory.specs.declared.Place.{Place}
 use Rattle.trajectory.specs.declared.Reached.{Reached}
@@ -41,7 +42,7 @@ use Rattle.lines.specs.Lines.{fLine, sLine, qLine}
 use Rattle.text.specs.Text.{laid}
 use Rattle.text.proofs.Laws.{laid-part, laid-length}
 use Rattle.listing.specs.Listing.{fLines, sLines, runLines, qLines}
-use Rattle.daylines.specs.Rest.{pieceLine, linesLeft, courseLines, coursesLines, twiceAt, runsFrom, runEnd}
+use Rattle.daylines.specs.Rest.{pieceLine, linesLeft, courseLines, coursesLines, runsFrom, runEnd}
 
 -- what is left, by x and the rest
 pub left-shorter : (left x rest : List ℕ) → left ≡ x ++ rest → length left ≡ length x + length rest
@@ -167,62 +168,63 @@ s-append (p ∷ ps) qs =
     ap (λ (l : List ℕ). x ++ l) (s-append ps qs) ∙ sym (append-assoc x (sLines ps) (sLines qs))
 
 -- where the next course begins, else the day's end
-end-next : (cs : List Course) (n i : ℕ) → i < min n (length cs) → getD cs i noCourse .begin ≡ beginOf daySeconds (drop i (take n cs))
-unfolding beginOf
-end-next cs n i h =
-    let ds : List Course = take n cs in
-    sym (ap (beginOf daySeconds) (drop-cons ds i noCourse (omega (arith, length-take n cs))) ∙ ap (λ (c : Course). c .begin) (getD-take n cs i noCourse (omega arith)))
+module _ (cs : List Course) (n i end : ℕ) where
+  end-next : i < min n (length cs) → getD cs i noCourse .begin ≡ beginOf end (drop i (take n cs))
+  unfolding beginOf
+  end-next h =
+      let ds : List Course = take n cs in
+      sym (ap (beginOf end) (drop-cons ds i noCourse (omega (arith, length-take n cs))) ∙ ap (λ (c : Course). c .begin) (getD-take n cs i noCourse (omega arith)))
 
-end-last : (cs : List Course) (n i : ℕ) → min n (length cs) ≤ i → 86400 ≡ beginOf daySeconds (drop i (take n cs))
-unfolding beginOf
-end-last cs n i h = sym (ap (beginOf daySeconds) (drop-of-length-le (take n cs) {i = i} (omega (arith, length-take n cs))))
+  end-last : min n (length cs) ≤ i → end ≡ beginOf end (drop i (take n cs))
+  unfolding beginOf
+  end-last h = sym (ap (beginOf end) (drop-of-length-le (take n cs) {i = i} (omega (arith, length-take n cs))))
 
 -- where the course at the place i ends, of the first `started`
-end-is : (cs : List Course) (started n i : ℕ) → length cs ≡ 41 → n ≡ min started 41 → i < n →
-    pick (ltb (i + 1) n) (getD cs (min (i + 1) 40) noCourse .begin) daySeconds ≡ beginOf daySeconds (drop (i + 1) (take started cs))
-end-is cs started n i e f h = elim (decLe (suc (i + 1)) n) [
-  | yes k ↦ simp (lt-ltb (i + 1) n k) (ap (λ (j : ℕ). getD cs j noCourse .begin) {x = min (i + 1) 40} {y = i + 1} (omega arith) ∙ end-next cs started (i + 1) (omega arith))
-  | no k ↦ simp (le-ltb (i + 1) n (omega arith)) (end-last cs started (i + 1) (omega arith))
+end-is : (cs : List Course) (started n i end : ℕ) → length cs ≡ coursePlaces → n ≡ min started coursePlaces → i < n →
+    pick (ltb (i + 1) n) (getD cs (min (i + 1) instructionPlaces) noCourse .begin) end ≡ beginOf end (drop (i + 1) (take started cs))
+end-is cs started n i end e f h = elim (decLe (suc (i + 1)) n) [
+  | yes k ↦ simp (lt-ltb (i + 1) n k) (ap (λ (j : ℕ). getD cs j noCourse .begin) {x = min (i + 1) instructionPlaces} {y = i + 1} (omega arith) ∙ end-next cs started (i + 1) end (omega arith))
+  | no k ↦ simp (le-ltb (i + 1) n (omega arith)) (end-last cs started (i + 1) end (omega arith))
 ]
 
--- those of the courses from the place i on, of the first n
-abbrev pub courses-left : UnitData → List Course → ℕ → ℕ → List ℕ
-courses-left u cs n i = coursesLines u (drop i (take n cs))
+-- those of the courses from the place i on, of the first n, of a day that ends at the second `end`
+abbrev pub courses-left : UnitData → ℕ → List Course → ℕ → ℕ → List ℕ
+courses-left u end cs n i = coursesLines u end (drop i (take n cs))
 
-module _ (u : UnitData) (cs : List Course) (n i : ℕ) where
-  courses-more : (end : ℕ) → i < min n (length cs) → end ≡ beginOf daySeconds (drop (i + 1) (take n cs)) →
-      courses-left u cs n i ≡ courseLines u (getD cs i noCourse) end ++ courses-left u cs n (i + 1)
+module _ (u : UnitData) (end : ℕ) (cs : List Course) (n i : ℕ) where
+  courses-more : (to : ℕ) → i < min n (length cs) → to ≡ beginOf end (drop (i + 1) (take n cs)) →
+      courses-left u end cs n i ≡ courseLines u (getD cs i noCourse) to ++ courses-left u end cs n (i + 1)
   unfolding coursesLines spansOf dayPieces
-  courses-more end h e =
+  courses-more to h e =
       let ds : List Course = take n cs in
       let c : Course = getD cs i noCourse in
       let lt : i < n = omega arith in
       let first : drop i ds ≡ c ∷ drop (i + 1) ds =
       drop-cons ds i noCourse (omega (arith, length-take n cs)) ∙ (λ j. getD-take n cs i noCourse lt j ∷ drop (sym (add-one i) j) ds) in
-      rw e (ap (coursesLines u) first
-      ∙ s-append (piecesIn (trajectoryOf u c) (c .begin) (beginOf daySeconds (drop (i + 1) ds))) (dayPieces (spansOf u daySeconds (drop (i + 1) ds))))
+      rw e (ap (coursesLines u end) first
+      ∙ s-append (piecesIn (trajectoryOf u c) (c .begin) (beginOf end (drop (i + 1) ds))) (dayPieces (spansOf u end (drop (i + 1) ds))))
 
-  pub courses-none : min n (length cs) ≤ i → courses-left u cs n i ≡ []
+  pub courses-none : min n (length cs) ≤ i → courses-left u end cs n i ≡ []
   unfolding coursesLines spansOf dayPieces sLines
-  courses-none h = ap (coursesLines u) (drop-of-length-le (take n cs) {i = i} (omega (arith, length-take n cs)))
+  courses-none h = ap (coursesLines u end) (drop-of-length-le (take n cs) {i = i} (omega (arith, length-take n cs)))
 
 -- the lines of the course at the place i come next
-module _ (u : UnitData) (cs : List Course) (started n i : ℕ) (all : length cs ≡ 41) (few : n ≡ min started 41) (within : i < n) where
+module _ (u : UnitData) (end : ℕ) (cs : List Course) (started n i : ℕ) (all : length cs ≡ coursePlaces) (few : n ≡ min started coursePlaces) (within : i < n) where
   abbrev this : Course
   this = getD cs i noCourse
 
-  pub course-next : (l : OwnLists) (up : Bool) (at j end : ℕ) (ramp : Ramp) → Shared u l → up ≡ ltb (this .start .grains) (grains (this .target)) →
-      at ≡ placeOf (this .heat) → ramp ≡ pick up (u .up) (u .down) → j ≡ min (i + 1) 40 → end ≡ pick (ltb (i + 1) n) (getD cs j noCourse .begin) daySeconds →
+  pub course-next : (l : OwnLists) (up : Bool) (at j to : ℕ) (ramp : Ramp) → Shared u l → up ≡ ltb (this .start .grains) (grains (this .target)) →
+      at ≡ placeOf (this .heat) → ramp ≡ pick up (u .up) (u .down) → j ≡ min (i + 1) instructionPlaces → to ≡ pick (ltb (i + 1) n) (getD cs j noCourse .begin) end →
       Short (headed up) (grains (this .target)) (this .start .grains)
-      × (courses-left u cs started i ≡ linesLeft (setAnew u l at ramp) this up end (beginning this (this .begin)) ++ courses-left u cs started (i + 1))
+      × (courses-left u end cs started i ≡ linesLeft (setAnew u l at ramp) this up to (beginning this (this .begin)) ++ courses-left u end cs started (i + 1))
   unfolding beginning
-  course-next l up at j end ramp s rises e r k ends =
+  course-next l up at j to ramp s rises e r k ends =
       let own : setAnew u l at ramp ≡ ownLists u this up = own-anew u l this up at ramp s e r in
-      let to : end ≡ beginOf daySeconds (drop (i + 1) (take started cs)) = ends
-      ∙ ap (λ (m : ℕ). pick (ltb (i + 1) n) (getD cs m noCourse .begin) daySeconds) k ∙ end-is cs started n i all few within in
-      let lines = pieces-all (setAnew u l at ramp) this up end u own rises (beginning this (this .begin)) refl in (
+      let until : to ≡ beginOf end (drop (i + 1) (take started cs)) = ends
+      ∙ ap (λ (m : ℕ). pick (ltb (i + 1) n) (getD cs m noCourse .begin) end) k ∙ end-is cs started n i end all few within in
+      let lines = pieces-all (setAnew u l at ramp) this up to u own rises (beginning this (this .begin)) refl in (
         begins-short u this up rises (this .begin),
-        courses-more u cs started i end (omega arith) to ∙ ap (λ (ls : List ℕ). ls ++ courses-left u cs started (i + 1)) (sym lines),
+        courses-more u end cs started i to (omega arith) until ∙ ap (λ (ls : List ℕ). ls ++ courses-left u end cs started (i + 1)) (sym lines),
       )
 
 -- ---- Q lines
@@ -237,10 +239,6 @@ module _ (f : ℕ → ℕ) where
       by-bool (eqb (f i) k)
       (λ b. simp b (run-line first k (suc i) n ∙ ap (λ (m : ℕ). qLine first e k ++ runsFrom f e m) {x = suc i + n - e} {y = i + suc n - e} (omega arith)))
       (λ b. simp b (ap (λ (m : ℕ). qLine first i k ++ runsFrom f i m) {x = suc n} {y = i + suc n - i} (omega arith)))
-
-  -- those of the half-hours from the boundary i on
-  abbrev pub quantities-left : ℕ → List ℕ
-  quantities-left i = runsFrom f i (48 - i)
 
   runs-first : (i n e : ℕ) → 0 < n → e ≡ runEnd f (f i) (i + 1) (n - 1) → runsFrom f i n ≡ qLine (i + 1) e (f i) ++ runsFrom f e (i + n - e)
   unfolding runsFrom
@@ -257,21 +255,10 @@ module _ (f : ℕ → ℕ) where
       count : (d : ℕ) → suc i + n - d ≡ i + suc n - d
       count d = omega arith
 
-  pub quantities-more : (i k e : ℕ) → i < 48 → k ≡ f i → e ≡ runEnd f k (i + 1) (48 - (i + 1)) → quantities-left i ≡ qLine (i + 1) e k ++ quantities-left e
-  quantities-more i k e h q is =
-      rw q (runs-first i (48 - i) e (omega arith) (is ∙ (λ j. runEnd f (q j) (i + 1) (count j)))
-      ∙ ap (λ (m : ℕ). qLine (i + 1) e (f i) ++ runsFrom f e m) {x = i + (48 - i) - e} {y = 48 - e} (omega arith))
-    where
-      count : 48 - (i + 1) ≡ 48 - i - 1
-      count = omega arith
-
-  pub quantities-none : (i : ℕ) → 48 ≤ i → quantities-left i ≡ []
-  unfolding runsFrom
-  quantities-none i h = ap (runsFrom f i) {x = 48 - i} {y = 0} (omega arith)
-
-  pub quantities-all : quantities-left 0 ≡ qLines (listFrom f 0 halfHours)
+  runs-all : (n : ℕ) → runsFrom f 0 n ≡ qLines (listFrom f 0 n)
   unfolding runsFrom qLines listFrom
-  quantities-all = refl
+  runs-all zero = refl
+  runs-all (suc n) = refl
 
   -- where a run ends
   end-on : (k i n : ℕ) → 0 < n → f i ≡ k → runEnd f k i n ≡ runEnd f k (i + 1) (n - 1)
@@ -292,17 +279,38 @@ module _ (f : ℕ → ℕ) where
   end-none k i zero h = refl
   end-none k i (suc n) h = absurd (omega arith)
 
+-- of a day of so many half-hours
+module _ (f : ℕ → ℕ) (halves : ℕ) where
+  -- those of the half-hours from the boundary i on
+  abbrev pub quantities-left : ℕ → List ℕ
+  quantities-left i = runsFrom f i (halves - i)
+
+  pub quantities-more : (i k e : ℕ) → i < halves → k ≡ f i → e ≡ runEnd f k (i + 1) (halves - (i + 1)) → quantities-left i ≡ qLine (i + 1) e k ++ quantities-left e
+  quantities-more i k e h q is =
+      rw q (runs-first f i (halves - i) e (omega arith) (is ∙ (λ j. runEnd f (q j) (i + 1) (count j)))
+      ∙ ap (λ (m : ℕ). qLine (i + 1) e (f i) ++ runsFrom f e m) {x = i + (halves - i) - e} {y = halves - e} (omega arith))
+    where
+      count : halves - (i + 1) ≡ halves - i - 1
+      count = omega arith
+
+  pub quantities-none : (i : ℕ) → halves ≤ i → quantities-left i ≡ []
+  unfolding runsFrom
+  quantities-none i h = ap (runsFrom f i) {x = halves - i} {y = 0} (omega arith)
+
+  pub quantities-all : quantities-left 0 ≡ qLines (listFrom f 0 halves)
+  quantities-all = ap (runsFrom f 0) {x = halves - 0} {y = halves} (omega arith) ∙ runs-all f halves
+
 -- a quantity by twice the area of its half-hour
 module _ (sums : List ℕ) (i : ℕ) where
-  pub quantity-here : (twice kw : ℕ) → twice ≡ twiceAt sums i → kw ≡ rounded twice → kw ≡ quantityAt sums i
+  pub quantity-here : (twice kw : ℕ) → twice ≡ getD sums (i + 1) 0 - getD sums i 0 → kw ≡ rounded twice → kw ≡ quantityAt sums i
   quantity-here twice kw t e = e ∙ ap rounded t ∙ quantity-is sums i
 
   -- a run of kw goes on, or ends here
-  module _ (kw : ℕ) (within : i < 48) where
-    pub run-on : quantityAt sums i ≡ kw → runEnd (quantityAt sums) kw (i + 1) (48 - (i + 1)) ≡ runEnd (quantityAt sums) kw i (48 - i)
+  module _ (halves kw : ℕ) (within : i < halves) where
+    pub run-on : quantityAt sums i ≡ kw → runEnd (quantityAt sums) kw (i + 1) (halves - (i + 1)) ≡ runEnd (quantityAt sums) kw i (halves - i)
     run-on e =
-        ap (runEnd (quantityAt sums) kw (i + 1)) {x = 48 - (i + 1)} {y = 48 - i - 1} (omega arith)
-        ∙ sym (end-on (quantityAt sums) kw i (48 - i) (omega arith) e)
+        ap (runEnd (quantityAt sums) kw (i + 1)) {x = halves - (i + 1)} {y = halves - i - 1} (omega arith)
+        ∙ sym (end-on (quantityAt sums) kw i (halves - i) (omega arith) e)
 
-    pub run-ends : (quantityAt sums i ≡ kw → ⊥) → i ≡ runEnd (quantityAt sums) kw i (48 - i)
-    run-ends ne = sym (end-here (quantityAt sums) kw i (48 - i) (omega arith) ne)
+    pub run-ends : (quantityAt sums i ≡ kw → ⊥) → i ≡ runEnd (quantityAt sums) kw i (halves - i)
+    run-ends ne = sym (end-here (quantityAt sums) kw i (halves - i) (omega arith) ne)

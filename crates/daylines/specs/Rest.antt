@@ -1,10 +1,10 @@
 -- The lines of a day, kind by kind, and what is left of each kind to print.
 -- Assumes nothing.
-use Prim.Native.Nat.{ℕ, zero, suc, _+_, _-_}
+use Prim.Native.Nat.{ℕ, zero, suc}
 use mathlib.Core.Bool.{Bool}
 use mathlib.Core.List.{List, []}
 use lib.Dec.{eqb}
-use lib.ListN.{take, getD}
+use lib.ListN.{take}
 use Rattle.level.specs.Choice.{pick}
 use Rattle.level.specs.Level.{grains}
 use Rattle.level.specs.Lists.{listFrom}
@@ -14,7 +14,7 @@ use Rattle.course.specs.Course.{trajectoryOf}
 use Rattle.course.specs.Pieces.{piecesIn}
 use Rattle.profile.specs.declared.Closing.{Closing}
 use Rattle.profile.specs.Profile.{spansOf, dayPieces}
-use Rattle.day.specs.Day.{halfHours, daySeconds, quantityAt}
+use Rattle.profile.specs.Finding.{quantityAt}
 use Rattle.rates.specs.declared.OwnLists.{OwnLists}
 use Rattle.rates.specs.Ways.{headed, listsBy}
 use Rattle.trajectory.specs.declared.Place.{Place}
@@ -39,18 +39,15 @@ abbrev pub courseLines : UnitData → Course → ℕ → List ℕ
 courseLines u c n = sLines (piecesIn (trajectoryOf u c) (c .begin) n)
 
 -- the S lines of some courses, the last of which goes on to the day's end
-unfoldable pub coursesLines : UnitData → List Course → List ℕ
-coursesLines u cs = sLines (dayPieces (spansOf u daySeconds cs))
+unfoldable pub coursesLines : UnitData → ℕ → List Course → List ℕ
+coursesLines u end cs = sLines (dayPieces (spansOf u end cs))
 
--- the Q lines of a day of these sums
-abbrev pub quantityLines : List ℕ → List ℕ
-quantityLines sums = qLines (listFrom (quantityAt sums) 0 halfHours)
+-- the Q lines of a day of so many half-hours and these sums
+abbrev pub quantityLines : ℕ → List ℕ → List ℕ
+quantityLines halves sums = qLines (listFrom (quantityAt sums) 0 halves)
 
--- twice the area of the half-hour from the boundary i on
-abbrev pub twiceAt : List ℕ → ℕ → ℕ
-twiceAt sums i = getD sums (i + 1) 0 - getD sums i 0
-
--- the Q lines of the half-hours from the boundary i on, n of them, where f gives the quantity of each
+-- the Q lines of the half-hours from the boundary i on, n of them, where f gives the quantity of each; the working twin of `qLines`
+-- (listing/specs/Listing), by boundaries instead of a list of quantities
 unfoldable pub runsFrom : (ℕ → ℕ) → ℕ → ℕ → List ℕ
 runsFrom f i zero = []
 runsFrom f i (suc n) = runLines (suc i) (suc i) (f i) (listFrom f (suc i) n)

@@ -1,34 +1,25 @@
 // The lines of a day, kind by kind: their widths, and their writers into the free tail of the output.
 ghost use mathlib.Core.Path.{_≡_};
-ghost use Prim.Native.Nat.{_+_, _-_, min, _<_, _≤_};
-ghost use lib.ListN.{length, take};
+ghost use Prim.Native.Nat.{_+_, _*_, _-_, _<_, _≤_};
+ghost use lib.ListN.{length, take, getD};
 ghost use Rattle.level.specs.Choice.{pick};
 ghost use Rattle.level.specs.Level.{grains};
+ghost use Rattle.level.specs.Numbers.{mostHalfHours, instructionPlaces, coursePlaces};
 ghost use Rattle.course.proofs.Near.{Short};
-ghost use Rattle.profile.specs.Profile.{rounded};
-ghost use Rattle.day.specs.Day.{daySeconds, quantityAt};
+ghost use Rattle.profile.specs.Profile.{rounded, closingBy};
+ghost use Rattle.profile.specs.Finding.{quantityAt};
 ghost use Rattle.rates.specs.Ways.{headed};
 ghost use Rattle.trajectory.specs.Walk.{beginning};
 ghost use Rattle.text.specs.Text.{laid};
-ghost use Rattle.daylines.specs.Rest.{fateLines, pieceLine, linesLeft, coursesLines, quantityLines, twiceAt, runEnd, closingLine};
-
-// A count that reads like the places there are, where it is larger.
-fn at_most(n: usize, places: usize) -> usize
-    ensures { λ r. ⌜ r ≡ min n places ⌝ }
-{
-    if n < places {
-        return n;
-    }
-    places
-}
+ghost use Rattle.daylines.specs.Rest.{fateLines, pieceLine, linesLeft, coursesLines, quantityLines, runEnd, closingLine};
 
 // ---- F lines
 
 // The width of the lines of the first `count` fates.
-pub fn fates_width(fates: [u8; 40], count: usize) -> usize
-    ensures { λ r. ⌜ (r ≡ length (fateLines count fates)) × (r ≤ 1760) ⌝ }
+pub fn fates_width(fates: [u8; level::INSTRUCTIONS], count: usize) -> usize
+    ensures { λ r. ⌜ (r ≡ length (fateLines count fates)) × (r ≤ 44 * instructionPlaces) ⌝ }
 {
-    let n = at_most(count, 40);
+    let n = level::smaller_count(count, level::INSTRUCTIONS);
     let mut width: usize = 0;
     let mut i: usize = 0;
     while i < n {
@@ -41,11 +32,11 @@ pub fn fates_width(fates: [u8; 40], count: usize) -> usize
 }
 
 // The lines of the first `count` fates.
-pub fn put_fates(out: &mut [u8], fates: [u8; 40], count: usize) -> usize
+pub fn put_fates(out: &mut [u8], fates: [u8; level::INSTRUCTIONS], count: usize) -> usize
     requires { ⌜ length (fateLines count fates) ≤ length (now out) ⌝ }
     ensures { λ r. ⌜ (r ≡ length (fateLines count fates)) × (now (out .exit) ≡ laid (fateLines count fates) (now (out .entry))) ⌝ }
 {
-    let n = at_most(count, 40);
+    let n = level::smaller_count(count, level::INSTRUCTIONS);
     let mut at: usize = 0;
     let mut i: usize = 0;
     while i < n {
@@ -116,20 +107,26 @@ fn put_course(out: &mut [u8], l: rates::OwnLists, c: course::Course, up: bool, n
 }
 
 // Where a course ends: where the next one begins, if there is one, else at the day's end.
-fn end_of(more: bool, next: u32) -> u32
-    ensures { λ r. ⌜ r ≡ pick more next daySeconds ⌝ }
+fn end_of(more: bool, next: u32, end: u32) -> u32
+    ensures { λ r. ⌜ r ≡ pick more next end ⌝ }
 {
     if more {
         return next;
     }
-    86400
+    end
 }
 
-// The width of the lines of the first `started` courses. Of a course's own lists only column and ramp are set anew.
-pub fn courses_width(u: records::UnitData, cs: [course::Course; 41], started: usize) -> usize
-    ensures { λ r. ⌜ (r ≡ length (coursesLines u (take started cs))) × (r ≤ 15144054682170) ⌝ }
+// The width of the lines of the first `started` courses, of a day that ends at the second `end`. Of a course's own lists only
+// column and ramp are set anew.
+pub fn courses_width(
+    u: records::UnitData,
+    cs: [course::Course; level::COURSES],
+    started: usize,
+    end: u32,
+) -> usize
+    ensures { λ r. ⌜ (r ≡ length (coursesLines u end (take started cs))) × (r ≤ 369367187370 * coursePlaces) ⌝ }
 {
-    let n = at_most(started, 41);
+    let n = level::smaller_count(started, level::COURSES);
     let first = cs[0];
     let mut l = rates::own_lists(u, first, true);
     let mut width: usize = 0;
@@ -137,28 +134,29 @@ pub fn courses_width(u: records::UnitData, cs: [course::Course; 41], started: us
     while i < n {
         let c = cs[i];
         i += 1;
-        let j = at_most(i, 40);
-        let end = end_of(i < n, cs[j].begin);
+        let j = level::smaller_count(i, level::INSTRUCTIONS);
+        let to = end_of(i < n, cs[j].begin, end);
         let up = trajectory::is_rising(c);
         let heat = rates::place_of(c.heat);
         l.column = u.columns[heat];
         l.ramp = rates::ramp_of(up, u.up, u.down);
-        width += course_width(l, c, up, end);
+        width += course_width(l, c, up, to);
     }
     width
 }
 
-// The lines of the first `started` courses.
+// The lines of the first `started` courses, of a day that ends at the second `end`.
 pub fn put_courses(
     out: &mut [u8],
     u: records::UnitData,
-    cs: [course::Course; 41],
+    cs: [course::Course; level::COURSES],
     started: usize,
+    end: u32,
 ) -> usize
-    requires { ⌜ length (coursesLines u (take started cs)) ≤ length (now out) ⌝ }
-    ensures { λ r. ⌜ (r ≡ length (coursesLines u (take started cs))) × (now (out .exit) ≡ laid (coursesLines u (take started cs)) (now (out .entry))) ⌝ }
+    requires { ⌜ length (coursesLines u end (take started cs)) ≤ length (now out) ⌝ }
+    ensures { λ r. ⌜ (r ≡ length (coursesLines u end (take started cs))) × (now (out .exit) ≡ laid (coursesLines u end (take started cs)) (now (out .entry))) ⌝ }
 {
-    let n = at_most(started, 41);
+    let n = level::smaller_count(started, level::COURSES);
     let first = cs[0];
     let mut l = rates::own_lists(u, first, true);
     let mut at: usize = 0;
@@ -166,13 +164,13 @@ pub fn put_courses(
     while i < n {
         let c = cs[i];
         i += 1;
-        let j = at_most(i, 40);
-        let end = end_of(i < n, cs[j].begin);
+        let j = level::smaller_count(i, level::INSTRUCTIONS);
+        let to = end_of(i < n, cs[j].begin, end);
         let up = trajectory::is_rising(c);
         let heat = rates::place_of(c.heat);
         l.column = u.columns[heat];
         l.ramp = rates::ramp_of(up, u.up, u.down);
-        let w = put_course(&mut out[at..], l, c, up, end);
+        let w = put_course(&mut out[at..], l, c, up, to);
         at += w;
     }
     at
@@ -181,9 +179,9 @@ pub fn put_courses(
 // ---- Q lines
 
 // Twice the area of the half-hour from the boundary i on; 0 where the sums fall.
-fn twice_at(sums: &[u64; 49], i: usize) -> u64
-    requires { ⌜ i < 48 ⌝ }
-    ensures { λ r. ⌜ r ≡ twiceAt (now (sums .entry)) i ⌝ }
+fn twice_at(sums: &[u64; level::BOUNDARIES], i: usize) -> u64
+    requires { ⌜ i < mostHalfHours ⌝ }
+    ensures { λ r. ⌜ r ≡ getD (now (sums .entry)) (i + 1) 0 - getD (now (sums .entry)) i 0 ⌝ }
 {
     let before = sums[i];
     let after = sums[i + 1];
@@ -193,14 +191,14 @@ fn twice_at(sums: &[u64; 49], i: usize) -> u64
     after - before
 }
 
-// The boundary at which a run of the quantity kw ends, from the boundary `from` on; `twice` is an area that gives kw, and
-// the same area needs no rounding.
-fn run_end(sums: &[u64; 49], twice: u64, kw: u64, from: usize) -> usize
-    requires { ⌜ (from ≤ 48) × (kw ≡ rounded twice) ⌝ }
-    ensures { λ r. ⌜ (r ≡ runEnd (quantityAt (now (sums .entry))) kw from (48 - from)) × (from ≤ r) × (r ≤ 48) ⌝ }
+// The boundary at which a run of the quantity kw ends, from the boundary `from` on, the last being `end`; `twice` is an area that
+// gives kw, and the same area needs no rounding.
+fn run_end(sums: &[u64; level::BOUNDARIES], twice: u64, kw: u64, from: usize, end: usize) -> usize
+    requires { ⌜ (from ≤ end) × (end ≤ mostHalfHours) × (kw ≡ rounded twice) ⌝ }
+    ensures { λ r. ⌜ (r ≡ runEnd (quantityAt (now (sums .entry))) kw from (end - from)) × (from ≤ r) × (r ≤ end) ⌝ }
 {
     let mut i = from;
-    while i < 48 {
+    while i < end {
         let at = i;
         i += 1;
         let x = twice_at(sums, at);
@@ -214,35 +212,39 @@ fn run_end(sums: &[u64; 49], twice: u64, kw: u64, from: usize) -> usize
     i
 }
 
-// The width of the lines of the day's quantities.
-pub fn quantities_width(sums: &[u64; 49]) -> usize
-    ensures { λ r. ⌜ (r ≡ length (quantityLines (now (sums .entry)))) × (r ≤ 3120) ⌝ }
+// The width of the lines of the quantities, of a day of so many half-hours.
+pub fn quantities_width(sums: &[u64; level::BOUNDARIES], halves: u32) -> usize
+    requires { ⌜ halves ≤ mostHalfHours ⌝ }
+    ensures { λ r. ⌜ (r ≡ length (quantityLines halves (now (sums .entry)))) × (r ≤ 65 * mostHalfHours) ⌝ }
 {
+    let end = halves as usize;
     let mut width: usize = 0;
     let mut i: usize = 0;
-    while i < 48 {
+    while i < end {
         let twice = twice_at(sums, i);
         let kw = summing::quantity_of(twice);
         let first = i + 1;
-        let last = run_end(sums, twice, kw, first);
+        let last = run_end(sums, twice, kw, first, end);
         width += widths::q_width(first as u64, last as u64, kw);
         i = last;
     }
     width
 }
 
-// The lines of the day's quantities.
-pub fn put_quantities(out: &mut [u8], sums: &[u64; 49]) -> usize
-    requires { ⌜ length (quantityLines (now sums)) ≤ length (now out) ⌝ }
-    ensures { λ r. ⌜ (r ≡ length (quantityLines (now (sums .entry)))) × (now (out .exit) ≡ laid (quantityLines (now (sums .entry))) (now (out .entry))) ⌝ }
+// The lines of the quantities, of a day of so many half-hours.
+pub fn put_quantities(out: &mut [u8], sums: &[u64; level::BOUNDARIES], halves: u32) -> usize
+    requires { ⌜ halves ≤ mostHalfHours ⌝ }
+    requires { ⌜ length (quantityLines halves (now sums)) ≤ length (now out) ⌝ }
+    ensures { λ r. ⌜ (r ≡ length (quantityLines halves (now (sums .entry)))) × (now (out .exit) ≡ laid (quantityLines halves (now (sums .entry))) (now (out .entry))) ⌝ }
 {
+    let end = halves as usize;
     let mut at: usize = 0;
     let mut i: usize = 0;
-    while i < 48 {
+    while i < end {
         let twice = twice_at(sums, i);
         let kw = summing::quantity_of(twice);
         let first = i + 1;
-        let last = run_end(sums, twice, kw, first);
+        let last = run_end(sums, twice, kw, first, end);
         let w = lines::put_q(&mut out[at..], first as u64, last as u64, kw);
         at += w;
         i = last;
@@ -251,6 +253,19 @@ pub fn put_quantities(out: &mut [u8], sums: &[u64; 49]) -> usize
 }
 
 // ---- E line
+
+// The closing state, by the last course under way and the state at the day's end.
+pub fn closing_of(last: profile::UnderWay, end: profile::State) -> profile::Closing
+    ensures { λ r. ⌜ r ≡ closingBy last end ⌝ }
+{
+    let level = level::Level { grains: end.level };
+    profile::Closing {
+        level,
+        target: last.course.target,
+        heat: last.course.heat,
+        off: end.off,
+    }
+}
 
 // The width of the line of the closing state.
 pub fn closing_width(e: profile::Closing) -> usize

@@ -10,7 +10,7 @@ use native.Mathlib.Omega.{arith}
 use lib.Dec.{eqb}
 use borrow.Author.Tests.{eq-eqb, ne-eqb, lt-ltb}
 use Rattle.level.specs.Choice.{pick}
-use Rattle.course.specs.Course.{Trajectory, Heading, rising, falling, Moment, heading, second, after, momentAt, levelAt}
+use Rattle.course.specs.Course.{Trajectory, Heading, rising, falling, Moment, heading, after, momentAt, levelAt}
 use Rattle.course.specs.Pieces.{piece}
 use Rattle.course.proofs.Pieces.{Along, Line, Traces}
 use Rattle.trajectory.specs.declared.Place.{Place}
@@ -18,6 +18,7 @@ use Rattle.trajectory.specs.Walk.{momentOf}
 use Rattle.trajectory.proofs.Seconds.{after-add}
 use Rattle.trajectory.proofs.Goes.{Goes}
 use Rattle.profile.specs.State.{held, watchNext, watch, byRule}
+use Rattle.profile.proofs.States.{watch-moment, watch-off, off-more, off-none, off-new}
 use Rattle.effects.specs.Watching.{offBetween}
 
 -- the one piece of a straight part
@@ -46,16 +47,6 @@ neither true b n e = rw e refl
 neither false b n e = refl
 
 module _ (c : Trajectory) (off : ℕ) where
-  watch-moment : (k : ℕ) → watch c off k .moment ≡ momentAt c k
-  unfolding watch watchNext momentAt after
-  watch-moment zero = refl
-  watch-moment (suc k) = ap (second (heading c) (c .lists) (c .target)) (watch-moment k)
-
-  watch-off : (k : ℕ) → watch c off (suc k) .off ≡ pick (eqb (levelAt c k) 0 && eqb (levelAt c (suc k)) 0) (held (suc (watch c off k .off))) 0
-  unfolding watch watchNext levelAt momentAt after
-  watch-off k =
-      ap (λ (m : Moment). pick (eqb (m .level) 0 && eqb (second (heading c) (c .lists) (c .target) m .level) 0) (held (suc (watch c off k .off))) 0) (watch-moment k)
-
   pub off-low : (k : ℕ) → watch c off k .off ≤ 10000000
   unfolding watch watchNext held
   off-low zero = go (eqb (c .start) 0)
@@ -63,25 +54,19 @@ module _ (c : Trajectory) (off : ℕ) where
       go : (b : Bool) → pick b (min off 10000000) 0 ≤ 10000000
       go true = omega arith
       go false = omega arith
-  off-low (suc k) = rw (watch-off k) (go (eqb (levelAt c k) 0 && eqb (levelAt c (suc k)) 0) (watch c off k .off))
+  off-low (suc k) = rw (watch-off c off k) (go (eqb (levelAt c k) 0 && eqb (levelAt c (suc k)) 0) (watch c off k .off))
     where
       go : (b : Bool) (n : ℕ) → pick b (min (suc n) 10000000) 0 ≤ 10000000
       go true n = omega arith
       go false n = omega arith
 
-  off-more : (a d : ℕ) → ((i : ℕ) → i ≤ d → levelAt c (a + i) ≡ 0) → watch c off (a + d) .off ≡ held (watch c off a .off + d)
+  off-while : (a d : ℕ) → ((i : ℕ) → i ≤ d → levelAt c (a + i) ≡ 0) → watch c off (a + d) .off ≡ held (watch c off a .off + d)
   unfolding held
-  off-more a zero z = ap (λ (k : ℕ). watch c off k .off) {x = a + 0} {y = a} (omega arith) ∙ omega (arith, off-low a)
-  off-more a (suc d) z =
-      ap (λ (k : ℕ). watch c off k .off) {x = a + suc d} {y = suc (a + d)} (omega arith) ∙ watch-off (a + d)
-      ∙ simp (eq-eqb _ _ (z d (omega arith)), eq-eqb _ _ (ap (levelAt c) {x = suc (a + d)} {y = a + suc d} (omega arith) ∙ z (suc d) (omega arith)))
-      (omega (arith, off-more a d (λ i h. z i (omega arith))))
-
-  off-none : (k : ℕ) → levelAt c (suc k) ≢ 0 → watch c off (suc k) .off ≡ 0
-  off-none k f = watch-off k ∙ neither (eqb (levelAt c k) 0) (eqb (levelAt c (suc k)) 0) (held (suc (watch c off k .off))) (ne-eqb _ _ f)
-
-  off-new : (k : ℕ) → levelAt c k ≢ 0 → watch c off (suc k) .off ≡ 0
-  off-new k f = watch-off k ∙ simp (ne-eqb _ _ f)
+  off-while a zero z = ap (λ (k : ℕ). watch c off k .off) {x = a + 0} {y = a} (omega arith) ∙ omega (arith, off-low a)
+  off-while a (suc d) z =
+      ap (λ (k : ℕ). watch c off k .off) {x = a + suc d} {y = suc (a + d)} (omega arith)
+      ∙ off-more c off (a + d) (z d (omega arith)) (ap (levelAt c) {x = suc (a + d)} {y = a + suc d} (omega arith) ∙ z (suc d) (omega arith))
+      ∙ omega (arith, off-while a d (λ i h. z i (omega arith)))
 
   -- from p to q along a straight piece
   module _ (n : ℕ) (p q : Place) (e : momentOf p ≡ momentAt c (p .second)) (g : Goes (heading c) (c .lists) (c .target) n p q) where
@@ -125,17 +110,17 @@ module _ (c : Trajectory) (off : ℕ) where
           | yes zq ↦ elim (ℕ-discrete (p .level) 0) [
             | yes zp ↦
                 ap (λ (k : ℕ). watch c off k .off) to
-                ∙ off-more a d (λ i le. flat (heading c) d (straight .rate) i (p .level) (levelAt c (a + i)) (q .level) le zp zq (line-at i le) end)
+                ∙ off-while a d (λ i le. flat (heading c) d (straight .rate) i (p .level) (levelAt c (a + i)) (q .level) le zp zq (line-at i le) end)
                 ∙ sym (simp (eq-eqb _ _ zp, eq-eqb _ _ zq))
             | no np ↦
                 ap (λ (k : ℕ). watch c off k .off) last
-                ∙ off-new (a + b) (sinks (heading c) b (straight .rate) (p .level) (levelAt c (a + b)) (q .level) np zq (line-at b (omega (arith, g .later)))
+                ∙ off-new c off (a + b) (sinks (heading c) b (straight .rate) (p .level) (levelAt c (a + b)) (q .level) np zq (line-at b (omega (arith, g .later)))
                 (ap-along (heading c) (p .level) (straight .rate) (q .level) d (suc b) (omega (arith, g .later)) end))
                 ∙ sym (simp (ne-eqb _ _ np))
           ]
           | no nq ↦
               ap (λ (k : ℕ). watch c off k .off) last
-              ∙ off-none (a + b) (λ z. nq (here ∙ ap (levelAt c) last ∙ z))
+              ∙ off-none c off (a + b) (λ z. nq (here ∙ ap (levelAt c) last ∙ z))
               ∙ sym (neither (eqb (p .level) 0) (eqb (q .level) 0) (held (watch c off a .off + d)) (ne-eqb _ _ nq))
         ]
 
@@ -143,5 +128,5 @@ module _ (c : Trajectory) (off : ℕ) where
   pub state-there : (p : Place) (k : ℕ) → p .second ≡ k → momentOf p ≡ momentAt c (p .second) → (record { level = p .level; off = watch c off (p .second) .off }) ≡ byRule c off k
   unfolding byRule
   state-there p k at e =
-      (λ i. record { level = (ap (λ (m : Moment). m .level) (e ∙ sym (watch-moment (p .second)))) i; off = watch c off (p .second) .off })
+      (λ i. record { level = (ap (λ (m : Moment). m .level) (e ∙ sym (watch-moment c off (p .second)))) i; off = watch c off (p .second) .off })
       ∙ ap (λ (j : ℕ). record { level = watch c off j .moment .level; off = watch c off j .off }) at

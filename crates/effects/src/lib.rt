@@ -1,43 +1,99 @@
-// What an instruction does at its acting second: whether the course under way goes on, else the course that it starts; and
-// the seconds off along a course.
+// What an instruction comes to at its acting second, and the course that it begins; the seconds off along a course.
 ghost use mathlib.Core.Path.{_≡_};
-ghost use mathlib.Core.Bool.{true};
-ghost use Prim.Native.Nat.{_+_, _*_, _-_, _<_, _≤_};
+ghost use Prim.Native.Nat.{_+_, _<_, _≤_};
 ghost use lib.Dec.{eqb};
 ghost use Rattle.level.specs.Choice.{pick};
+ghost use Rattle.records.specs.declared.UnitData.{UnitData};
 ghost use Rattle.records.specs.declared.Effect.the-variants.{Trip, Mwof, Mxon, Sync, Mxof, Desy};
-ghost use Rattle.course.specs.declared.Course.{Course};
 ghost use Rattle.validation.specs.Kept.{acting};
-ghost use Rattle.validation.specs.declared.Numbered.{Numbered};
-ghost use Rattle.profile.specs.Effects.{idle, heatBy, setting, stepped, courseFrom, underWay, opened, begun};
+ghost use Rattle.profile.specs.Effects.{heatBy, unless, outcomeBy, outcome, stepped, courseFrom, underWay, startCourse, begun};
 ghost use Rattle.profile.specs.State.{held};
 ghost use Rattle.effects.specs.Watching.{offStarting, offBetween};
 
-// ---- what each instruction does at its acting second
+// ---- what each instruction comes to at its acting second
 
-// Fate 7, read with the level v just before: the course under way goes on.
-fn is_idle(effect: records::Effect, x: u32, v: u64, maximised: bool) -> bool
-    ensures { λ r. ⌜ r ≡ idle effect x v maximised ⌝ }
+// Fate 7 where the test holds, else fate 0 and what is set.
+fn unless(idle: bool, g: profile::Setting) -> profile::Outcome
+    ensures { λ r. ⌜ r ≡ unless idle g ⌝ }
 {
-    match effect {
-        records::Effect::Trip => v == 0,
-        records::Effect::Mwof => (v == 0) & (x == 0),
-        records::Effect::Mxon => (v == 0) | maximised,
-        records::Effect::Sync => 0 < v,
-        records::Effect::Mxof => !maximised,
-        records::Effect::Desy => v == 0,
-        records::Effect::Fail => true,
+    if idle {
+        return profile::Outcome::Ignored;
     }
+    profile::Outcome::Sets(g)
 }
 
-// The same of an instruction that acts.
-pub fn stays_idle(o: validation::Numbered, v: u64, maximised: bool) -> bool
-    ensures { λ r. ⌜ r ≡ idle (o .instruction .meaning .effect) (o .instruction .level) v maximised ⌝ }
+// TRIP: level 0 at that second, target 0.
+fn trip(now: profile::UnderWay, i: records::Instruction, s: profile::State) -> profile::Outcome
+    ensures { λ r. ⌜ ((u : UnitData) → r ≡ outcomeBy u now i s Trip) ⌝ }
 {
-    let i = o.instruction;
-    let m = i.meaning;
-    let effect = m.effect;
-    is_idle(effect, i.level, v, maximised)
+    let c = now.course;
+    let g = profile::Setting {
+        from: 0,
+        target: 0,
+        heat: c.heat,
+        up: i.up,
+        down: i.down,
+        maximised: false,
+        ordered: now.ordered,
+    };
+    unless(s.level == 0, g)
+}
+
+// The heat of a course that an MWOF starts: cold from 0, else as it was.
+fn mwof_heat(v: u64, before: u32) -> u32
+    ensures { λ r. ⌜ r ≡ pick (eqb v 0) 3 before ⌝ }
+{
+    if v == 0 {
+        return 3;
+    }
+    before
+}
+
+// MWOF(x): target the smaller of x and capacity; from 0 with the cold column.
+fn mwof(
+    u: records::UnitData,
+    now: profile::UnderWay,
+    i: records::Instruction,
+    s: profile::State,
+) -> profile::Outcome
+    ensures { λ r. ⌜ r ≡ outcomeBy u now i s Mwof ⌝ }
+{
+    let c = now.course;
+    let target = level::smaller(i.level, u.capacity);
+    let heat = mwof_heat(s.level, c.heat);
+    let g = profile::Setting {
+        from: s.level,
+        target,
+        heat,
+        up: i.up,
+        down: i.down,
+        maximised: false,
+        ordered: target,
+    };
+    unless((s.level == 0) & (i.level == 0), g)
+}
+
+// MXON: target the short-term maximum, ramp-up rate 5 for all five.
+fn mxon(
+    u: records::UnitData,
+    now: profile::UnderWay,
+    i: records::Instruction,
+    s: profile::State,
+) -> profile::Outcome
+    ensures { λ r. ⌜ r ≡ outcomeBy u now i s Mxon ⌝ }
+{
+    let c = now.course;
+    let ramp = u.up;
+    let g = profile::Setting {
+        from: s.level,
+        target: u.maximum,
+        heat: c.heat,
+        up: ramp.rates[4],
+        down: i.down,
+        maximised: true,
+        ordered: now.ordered,
+    };
+    unless((s.level == 0) | now.maximised, g)
 }
 
 // The heat of a start after so many seconds off.
@@ -56,117 +112,42 @@ fn heat_by(u: records::UnitData, off: u32) -> u32
     3
 }
 
-// The heat of a course that an MWOF starts: cold from 0, else as it was.
-fn mwof_heat(v: u64, before: u32) -> u32
-    ensures { λ r. ⌜ r ≡ pick (eqb v 0) 3 before ⌝ }
-{
-    if v == 0 {
-        return 3;
-    }
-    before
-}
-
-// TRIP: level 0 at that second, target 0.
-fn set_trip(
-    u: records::UnitData,
-    now: profile::UnderWay,
-    i: records::Instruction,
-    s: profile::State,
-) -> profile::Setting
-    ensures { λ r. ⌜ r ≡ setting u now i s Trip ⌝ }
-{
-    let c = now.course;
-    profile::Setting {
-        from: 0,
-        target: 0,
-        heat: c.heat,
-        up: i.up,
-        down: i.down,
-        maximised: false,
-        ordered: now.ordered,
-    }
-}
-
-// MWOF(x): target the smaller of x and capacity; from 0 with the cold column.
-fn set_mwof(
-    u: records::UnitData,
-    now: profile::UnderWay,
-    i: records::Instruction,
-    s: profile::State,
-) -> profile::Setting
-    ensures { λ r. ⌜ r ≡ setting u now i s Mwof ⌝ }
-{
-    let c = now.course;
-    let target = level::smaller(i.level, u.capacity);
-    let heat = mwof_heat(s.level, c.heat);
-    profile::Setting {
-        from: s.level,
-        target: target,
-        heat: heat,
-        up: i.up,
-        down: i.down,
-        maximised: false,
-        ordered: target,
-    }
-}
-
-// MXON: target the short-term maximum, ramp-up rate 5 for all five.
-fn set_mxon(
-    u: records::UnitData,
-    now: profile::UnderWay,
-    i: records::Instruction,
-    s: profile::State,
-) -> profile::Setting
-    ensures { λ r. ⌜ r ≡ setting u now i s Mxon ⌝ }
-{
-    let c = now.course;
-    let ramp = u.up;
-    profile::Setting {
-        from: s.level,
-        target: u.maximum,
-        heat: c.heat,
-        up: ramp.rates[4],
-        down: i.down,
-        maximised: true,
-        ordered: now.ordered,
-    }
-}
-
 // SYNC: target the larger of its x and MSG, at most capacity; column by seconds off.
-fn set_sync(
+fn sync(
     u: records::UnitData,
     now: profile::UnderWay,
     i: records::Instruction,
     s: profile::State,
-) -> profile::Setting
-    ensures { λ r. ⌜ r ≡ setting u now i s Sync ⌝ }
+) -> profile::Outcome
+    ensures { λ r. ⌜ r ≡ outcomeBy u now i s Sync ⌝ }
 {
     let raised = level::larger(i.level, u.msg);
     let target = level::smaller(raised, u.capacity);
     let heat = heat_by(u, s.off);
-    profile::Setting {
+    let g = profile::Setting {
         from: s.level,
-        target: target,
-        heat: heat,
+        target,
+        heat,
         up: i.up,
         down: i.down,
         maximised: false,
         ordered: target,
-    }
+    };
+    unless(0 < s.level, g)
 }
 
 // MXOF: target that of the last MWOF or SYNC with fate 0, or the opening's; ramp-down rate 1 for all five.
-fn set_mxof(
+fn mxof(
     u: records::UnitData,
     now: profile::UnderWay,
     i: records::Instruction,
     s: profile::State,
-) -> profile::Setting
-    ensures { λ r. ⌜ r ≡ setting u now i s Mxof ⌝ }
+) -> profile::Outcome
+    ensures { λ r. ⌜ r ≡ outcomeBy u now i s Mxof ⌝ }
 {
     let c = now.course;
     let ramp = u.down;
-    profile::Setting {
+    let g = profile::Setting {
         from: s.level,
         target: now.ordered,
         heat: c.heat,
@@ -174,20 +155,16 @@ fn set_mxof(
         down: ramp.rates[0],
         maximised: false,
         ordered: now.ordered,
-    }
+    };
+    unless(!now.maximised, g)
 }
 
 // DESY: target 0.
-fn set_desy(
-    u: records::UnitData,
-    now: profile::UnderWay,
-    i: records::Instruction,
-    s: profile::State,
-) -> profile::Setting
-    ensures { λ r. ⌜ r ≡ setting u now i s Desy ⌝ }
+fn desy(now: profile::UnderWay, i: records::Instruction, s: profile::State) -> profile::Outcome
+    ensures { λ r. ⌜ ((u : UnitData) → r ≡ outcomeBy u now i s Desy) ⌝ }
 {
     let c = now.course;
-    profile::Setting {
+    let g = profile::Setting {
         from: s.level,
         target: 0,
         heat: c.heat,
@@ -195,28 +172,30 @@ fn set_desy(
         down: i.down,
         maximised: false,
         ordered: now.ordered,
-    }
+    };
+    unless(s.level == 0, g)
 }
 
-// What an instruction sets, read with the state just before.
-fn setting_of(
+// What an instruction comes to, read with the state just before.
+pub fn outcome_of(
     u: records::UnitData,
     now: profile::UnderWay,
-    i: records::Instruction,
+    o: validation::Numbered,
     s: profile::State,
-) -> profile::Setting
-    ensures { λ r. ⌜ r ≡ setting u now i s (i .meaning .effect) ⌝ }
+) -> profile::Outcome
+    ensures { λ r. ⌜ r ≡ outcome u now (o .instruction) s ⌝ }
 {
+    let i = o.instruction;
     let m = i.meaning;
     let effect = m.effect;
     match effect {
-        records::Effect::Trip => set_trip(u, now, i, s),
-        records::Effect::Mwof => set_mwof(u, now, i, s),
-        records::Effect::Mxon => set_mxon(u, now, i, s),
-        records::Effect::Sync => set_sync(u, now, i, s),
-        records::Effect::Mxof => set_mxof(u, now, i, s),
-        records::Effect::Desy => set_desy(u, now, i, s),
-        records::Effect::Fail => set_desy(u, now, i, s),
+        records::Effect::Trip => trip(now, i, s),
+        records::Effect::Mwof => mwof(u, now, i, s),
+        records::Effect::Mxon => mxon(u, now, i, s),
+        records::Effect::Sync => sync(u, now, i, s),
+        records::Effect::Mxof => mxof(u, now, i, s),
+        records::Effect::Desy => desy(now, i, s),
+        records::Effect::Fail => profile::Outcome::Ignored,
     }
 }
 
@@ -270,20 +249,20 @@ fn under_way(u: records::UnitData, begin: u32, g: profile::Setting, off: u32) ->
     }
 }
 
-// The opening's course, from 06:00 on.
-pub fn open_course(u: records::UnitData, o: records::Opening) -> profile::UnderWay
-    ensures { λ r. ⌜ r ≡ opened u o ⌝ }
+// The course that the start of a day sets going at 06:00.
+pub fn start_course(u: records::UnitData, s: profile::Start) -> profile::UnderWay
+    ensures { λ r. ⌜ r ≡ startCourse u s ⌝ }
 {
     let g = profile::Setting {
-        from: o.level as u64,
-        target: o.target,
-        heat: o.heat,
-        up: 0,
-        down: 0,
-        maximised: false,
-        ordered: o.target,
+        from: s.level as u64,
+        target: s.target,
+        heat: s.heat,
+        up: s.up,
+        down: s.down,
+        maximised: s.maximised,
+        ordered: s.ordered,
     };
-    under_way(u, 0, g, o.off)
+    under_way(u, 0, g, s.off)
 }
 
 // The second at which an instruction acts, where it fits.
@@ -296,19 +275,17 @@ pub fn acting_second(o: validation::Numbered) -> u32
     i.effective + m.lag
 }
 
-// The course that an instruction of fate 0 starts at its acting second.
+// The course that an instruction of fate 0 begins at its acting second with what it sets.
 pub fn begin_course(
     u: records::UnitData,
-    now: profile::UnderWay,
     o: validation::Numbered,
+    g: profile::Setting,
     s: profile::State,
 ) -> profile::UnderWay
     requires { ⌜ acting o < 4294967296 ⌝ }
-    ensures { λ r. ⌜ r ≡ begun u now o s ⌝ }
+    ensures { λ r. ⌜ r ≡ begun u o g s ⌝ }
 {
     let at = acting_second(o);
-    let i = o.instruction;
-    let g = setting_of(u, now, i, s);
     under_way(u, at, g, s.off)
 }
 

@@ -1,184 +1,195 @@
 -- Taking a record by its front is the definition's step, kind by kind.
 -- Assumes nothing.
 use mathlib.Core.Path.{_≡_, refl, ap, sym, _∙_}
-use mathlib.Core.List.{List, [], _∷_}
-use mathlib.Core.Bool.{Bool, true, false, _&&_, _||_, not}
-use Prim.Native.Nat.{ℕ, _-_, _≤_, _<_}
-use native.Mathlib.Decide.{decLe}
+use mathlib.Core.List.{List, [], _∷_, _++_}
+use mathlib.Core.Bool.{Bool, true, false, _&&_, not}
+use Prim.Native.Nat.{ℕ, suc, _-_, _≤_, _<_}
 use native.Mathlib.Omega.{arith}
-use lib.Dec.{leb, ltb, eqb}
-use lib.ListN.{length, getD, take, drop}
-use borrow.Author.Tests.{not-true, not-false, le-ltb, le-leb, lt-leb, leb-false, eq-eqb, ne-eqb}
-use Rattle.level.specs.Choice.{pick}
+use lib.Dec.{leb, ltb}
+use lib.ListN.{length, getD}
+use borrow.Author.Tests.{le-ltb}
+use Rattle.level.specs.Lists.{All}
+use Rattle.level.specs.Numbers.{instructionPlaces}
 use Rattle.records.specs.declared.UnitData.{UnitData}
-use Rattle.records.specs.declared.Opening.{Opening}
-use Rattle.records.specs.declared.Instruction.{Instruction}
 use Rattle.records.specs.declared.Answer.{Answer}
 use Rattle.records.specs.declared.Answer.the-variants.{Accepted, Refused}
-use Rattle.records.specs.declared.Refusal.{Refusal}
-use Rattle.records.specs.declared.Refusal.the-variants.{UnknownKind, TooFewBytes, SecondOne, BeforeUnit, OpeningTooHigh, TooManyInstructions, AfterClose, NotReady, QuantityTooHigh}
-use Rattle.records.specs.Answers.{accepted, refusing, firstRefusal}
-use Rattle.records.specs.Records.{sizeOf, numbers, unitOf, openingOf, instructionOf}
-use Rattle.records.specs.Fields.{unitAnswer, openingAnswer, instructionAnswer}
+use Rattle.records.specs.declared.Refusal.the-variants.{TooFewBytes, SecondOne, BeforeUnit, OpeningTooHigh, TooManyInstructions, AfterClose, NotReady, QuantityTooHigh}
+use Rattle.records.specs.Answers.{accepted, refusing, before, firstRefusal}
+use Rattle.records.specs.Records.{unitSize, openingSize, instructionSize, closeSize, sizeOf, numbers, unitOf, openingOf, instructionOf}
+use Rattle.records.specs.Fields.{openingAnswer, instructionAnswer}
+use Rattle.units.specs.declared.UnitRead.{UnitRead}
 use Rattle.fields.specs.declared.OpeningRead.{OpeningRead}
 use Rattle.fields.specs.declared.InstructionRead.{InstructionRead}
-use Rattle.fields.specs.Decoded.{instructionRead}
+use Rattle.fields.specs.Decoded.{openingRead, instructionRead}
+use Rattle.units.specs.Decoded.{unitRead}
+use Rattle.profile.specs.declared.Taken.{Taken}
 use Rattle.profile.specs.Profile.{Found}
 use Rattle.day.specs.declared.Day.{Day}
 use Rattle.day.specs.declared.Stepped.{Stepped}
-use Rattle.day.specs.Day.{daySeconds, withUnit, withOpening, withInstruction, closedWith}
-use Rattle.day.specs.Step.{kindOf, bodyOf, noBytes, unknownKind, tooFew, secondOne, beforeUnit, tooMany, notReady, fieldAnswer, tooHigh, quantityTooHigh, answerBy, dayWith, stepBy}
-use Rattle.level.proofs.Lists.{by-bool}
-use Rattle.day.proofs.Passed.{never, is-accepted, passed}
-use Rattle.entering.specs.Fronts.{unitRefused, openingRefused, instructionRefused, unitFront, belowMaximum, openingFront, instructionFront, closeFront, accept, settle, unitTaken, openingTaken, instructionTaken, closeTaken}
+use Rattle.day.specs.Day.{daySeconds, dayWith}
+use Rattle.day.specs.Step.{tooHigh, quantityTooHigh, accept, settle, stepBy}
+use Rattle.day.specs.ByKind.{instructionRefusals, closeRefusals, kindRefusals}
+use Rattle.day.proofs.Answers.{never, is-accepted, all-accepted}
+use Rattle.day.proofs.ByKind.{instruction-passes, kind-step}
+use Rattle.entering.specs.Fronts.{early, body, unitAfter, openingAfter, instructionAfter, unitFront, belowMaximum, openingFront, instructionFront, closeFront, closeTaken}
 
-abbrev refuse : Refusal → Day → Stepped
-refuse r d = record { answer = Refused r; day = d; used = 0 }
+-- ---- the first refusal of some conditions, then that of others
+first-append : (xs ys : List Answer) → before (firstRefusal xs) (firstRefusal ys) ≡ firstRefusal (xs ++ ys)
+first-append [] ys = refl
+first-append (Accepted ∷ xs) ys = first-append xs ys
+first-append (Refused r ∷ xs) ys = refl
 
-module _ (find : Day → Found) (d : Day) (s : List ℕ) where
-  -- ---- before the kind counts
-  pub step-empty : length s ≡ 0 → refuse TooFewBytes d ≡ stepBy find d s
-  unfolding stepBy answerBy noBytes
-  step-empty h = simp (eq-eqb (length s) 0 h)
+last-is : (a : Answer) → a ≡ before a Accepted
+last-is Accepted = refl
+last-is (Refused r) = refl
 
-  module _ (some : 1 ≤ length s) where
-    has : noBytes s ≡ false
-    unfolding noBytes
-    has = ne-eqb (length s) 0 (λ e. omega arith)
+settle-both : (a b : Answer) (d : Day) (x : Stepped) → settle a d (settle b d x) ≡ settle (before a b) d x
+settle-both Accepted b d x = refl
+settle-both (Refused r) b d x = refl
 
-    strange : unknownKind s ≡ true → refuse UnknownKind d ≡ stepBy find d s
-    unfolding stepBy answerBy
-    strange u = simp (has, u)
+-- ---- what is read behind an answer: its own answer comes second, and it is read where neither refuses
+unit-answer : (a : Answer) (r : UnitRead) → unitAfter a r .answer ≡ before a (r .answer)
+unit-answer Accepted r = refl
+unit-answer (Refused x) r = refl
 
-    pub no-kind : (getD s 0 0 ≡ 1 → ⊥) → (getD s 0 0 ≡ 2 → ⊥) → (getD s 0 0 ≡ 3 → ⊥) → (getD s 0 0 ≡ 4 → ⊥) → refuse UnknownKind d ≡ stepBy find d s
-    unfolding kindOf unknownKind
-    no-kind a b c e = elim (decLe 1 (getD s 0 0)) [
-      | yes h ↦ strange (simp (le-leb 1 (getD s 0 0) h, lt-leb (getD s 0 0) 4 (omega arith)))
-      | no h ↦ strange (simp (lt-leb 1 (getD s 0 0) (omega arith)))
-    ]
+unit-read : (a : Answer) (r : UnitRead) → accepted (unitAfter a r .answer) ≡ true → unitAfter a r .unit ≡ r .unit
+unit-read Accepted r e = refl
+unit-read (Refused x) r e = never e
 
-    -- ---- of the kind k
-    module _ (k : ℕ) where
-      abbrev body : List ℕ
-      body = take (sizeOf k - 1) (drop 1 s)
+opening-answer : (a : Answer) (r : OpeningRead) → openingAfter a r .answer ≡ before a (r .answer)
+opening-answer Accepted r = refl
+opening-answer (Refused x) r = refl
 
-      abbrev answer : Answer
-      answer =
-          firstRefusal
-          (refusing (ltb (length s) (sizeOf k)) TooFewBytes
-          ∷ refusing (d .closed) AfterClose
-          ∷ refusing (secondOne d k) SecondOne
-          ∷ refusing (beforeUnit d k) BeforeUnit
-          ∷ refusing (tooMany d k) TooManyInstructions
-          ∷ refusing (notReady d k) NotReady
-          ∷ fieldAnswer k body
-          ∷ refusing (eqb k 2 && tooHigh (d .unit) (openingOf body)) OpeningTooHigh
-          ∷ refusing (eqb k 4 && quantityTooHigh (d .unit) (find d)) QuantityTooHigh
-          ∷ [])
+opening-read : (a : Answer) (r : OpeningRead) → accepted (openingAfter a r .answer) ≡ true → openingAfter a r .opening ≡ r .opening
+opening-read Accepted r e = refl
+opening-read (Refused x) r e = never e
 
-      known : getD s 0 0 ≡ k → 1 ≤ k → k ≤ 4 → unknownKind s ≡ false
-      unfolding unknownKind kindOf
-      known e least most = simp (le-leb 1 (getD s 0 0) (omega (arith, e)), le-leb (getD s 0 0) 4 (omega (arith, e)))
+instruction-answer : (a : Answer) (r : InstructionRead) → instructionAfter a r .answer ≡ before a (r .answer)
+instruction-answer Accepted r = refl
+instruction-answer (Refused x) r = refl
 
-      by-kind : getD s 0 0 ≡ k → 1 ≤ k → k ≤ 4 → stepBy find d s ≡ settle answer d (accept (dayWith find d k body) (sizeOf k))
-      unfolding stepBy answerBy tooFew bodyOf kindOf
-      by-kind e least most = rw (sym e) (simp (has, known e least most))
+instruction-read : (a : Answer) (r : InstructionRead) → accepted (instructionAfter a r .answer) ≡ true → instructionAfter a r .instruction ≡ r .instruction
+instruction-read Accepted r e = refl
+instruction-read (Refused x) r e = never e
 
-    pub unit-step : getD s 0 0 ≡ 1 → unitTaken d (unitFront (d .hasUnit) (d .closed) s) ≡ stepBy find d s
-    unfolding secondOne beforeUnit tooMany notReady fieldAnswer dayWith sizeOf unitFront
-    unit-step k = sym (by-kind 1 k (omega arith) (omega arith) ∙ go (ltb (length s) 249) (d .closed) (d .hasUnit) (unitAnswer (numbers (take 248 (drop 1 s)) 62)) (unitOf (numbers (take 248 (drop 1 s)) 62)))
-      where
-        go : (t c h : Bool) (a : Answer) (u : UnitData) →
-            settle (firstRefusal (refusing t TooFewBytes ∷ refusing c AfterClose ∷ refusing (h || false) SecondOne ∷ Accepted ∷ Accepted ∷ Accepted ∷ a ∷ Accepted ∷ Accepted ∷ [])) d (accept (withUnit d u) 249)
-            ≡ unitTaken d (pick t (unitRefused TooFewBytes) (pick c (unitRefused AfterClose) (pick h (unitRefused SecondOne) (record { answer = a; unit = u }))))
-        go true c h a u = refl
-        go false true h a u = refl
-        go false false true a u = refl
-        go false false false Accepted u = refl
-        go false false false (Refused r) u = refl
+-- a byte that is some kind is a first byte
+first-some : (s : List ℕ) (k : ℕ) → getD s 0 0 ≡ suc k → 1 ≤ length s
+first-some [] k e = absurd (omega (arith, e))
+first-some (x ∷ xs) k e = omega arith
 
-    pub opening-step : getD s 0 0 ≡ 2 → openingTaken d (openingFront (d .hasUnit) (d .hasOpening) (d .closed) (d .unit) s) ≡ stepBy find d s
-    unfolding secondOne beforeUnit tooMany notReady fieldAnswer dayWith sizeOf openingFront belowMaximum
+-- ---- a record at the front of s, of a day d
+module _ (find : Taken → Found) (d : Day) (s : List ℕ) where
+  abbrev t : Taken
+  t = d .taken
+
+  -- by the answer a: the day with the record of the kind k, or the day as it was
+  abbrev pub taken : ℕ → ℕ → Answer → Stepped
+  taken k size a = settle a d (accept (dayWith find d k (body size s)) size)
+
+  -- "2 too few bytes .. 24", then the conditions xs and ys of the kind
+  abbrev both : ℕ → List Answer → List Answer → Answer
+  both size xs ys = early size (d .closed) s (xs ++ ys)
+
+  in-two : (size : ℕ) (xs ys : List Answer) → before (early size (d .closed) s xs) (firstRefusal ys) ≡ both size xs ys
+  in-two size xs ys = first-append (refusing (ltb (length s) size) TooFewBytes ∷ refusing (d .closed) AfterClose ∷ xs) ys
+
+  module _ (r : UnitRead) (e : r ≡ unitFront (t .hasUnit) (d .closed) s) where
+    abbrev unit-state : List Answer
+    unit-state = refusing (t .hasUnit) SecondOne ∷ []
+
+    abbrev unit-body : UnitRead
+    unit-body = unitRead (body unitSize s)
+
+    abbrev unit-early : Answer
+    unit-early = early unitSize (d .closed) s unit-state
+
+    pub unit-step : getD s 0 0 ≡ 1 → taken 1 unitSize (r .answer) ≡ stepBy find d s
+    unfolding unitFront kindRefusals sizeOf
+    unit-step k =
+        ap (λ (x : UnitRead). taken 1 unitSize (x .answer)) e
+        ∙ (ap (taken 1 unitSize) (unit-answer unit-early unit-body ∙ (ap (before unit-early) (last-is (unit-body .answer)) ∙ in-two unitSize unit-state (unit-body .answer ∷ [])))
+        ∙ kind-step find d s (first-some s 0 k) 1 k (omega arith) (omega arith))
+
+    pub unit-says : accepted (r .answer) ≡ true → r .unit ≡ unitOf (numbers (body unitSize s) 62)
+    unfolding unitFront
+    unit-says y = ap (λ (x : UnitRead). x .unit) e ∙ unit-read unit-early unit-body (ap (λ (x : UnitRead). accepted (x .answer)) (sym e) ∙ y)
+
+  module _ (r : OpeningRead) (e : r ≡ openingFront (t .hasUnit) (t .hasStart) (d .closed) (t .unit) s) where
+    abbrev opening-state : List Answer
+    opening-state = refusing (t .hasStart) SecondOne ∷ refusing (not (t .hasUnit)) BeforeUnit ∷ []
+
+    abbrev opening-body : OpeningRead
+    opening-body = belowMaximum (t .unit) (openingRead (body openingSize s))
+
+    abbrev opening-early : Answer
+    opening-early = early openingSize (d .closed) s opening-state
+
+    pub opening-step : getD s 0 0 ≡ 2 → taken 2 openingSize (r .answer) ≡ stepBy find d s
+    unfolding openingFront belowMaximum kindRefusals sizeOf
     opening-step k =
-        let b : List ℕ = take 16 (drop 1 s) in
-        sym (by-kind 2 k (omega arith) (omega arith) ∙ go (ltb (length s) 17) (d .closed) (d .hasOpening) (d .hasUnit) (openingAnswer b) (tooHigh (d .unit) (openingOf b)) (openingOf b))
+        let a : Answer = openingAnswer (body openingSize s) in
+        let b : Answer = refusing (tooHigh (t .unit) (openingOf (body openingSize s))) OpeningTooHigh in
+        ap (λ (x : OpeningRead). taken 2 openingSize (x .answer)) e
+        ∙ (ap (taken 2 openingSize) (opening-answer opening-early opening-body ∙ (ap (λ (x : Answer). before opening-early (before a x)) (last-is b) ∙ in-two openingSize opening-state (a ∷ b ∷ [])))
+        ∙ kind-step find d s (first-some s 1 k) 2 k (omega arith) (omega arith))
+
+    pub opening-says : accepted (r .answer) ≡ true → r .opening ≡ openingOf (body openingSize s)
+    unfolding openingFront belowMaximum
+    opening-says y = ap (λ (x : OpeningRead). x .opening) e ∙ opening-read opening-early opening-body (ap (λ (x : OpeningRead). accepted (x .answer)) (sym e) ∙ y)
+
+  module _ (r : InstructionRead) (e : r ≡ instructionFront (t .hasUnit) (d .closed) (t .count) s) where
+    abbrev instruction-state : List Answer
+    instruction-state = refusing (not (t .hasUnit)) BeforeUnit ∷ refusing (leb instructionPlaces (t .count)) TooManyInstructions ∷ []
+
+    abbrev instruction-body : InstructionRead
+    instruction-body = instructionRead daySeconds (body instructionSize s)
+
+    abbrev instruction-early : Answer
+    instruction-early = early instructionSize (d .closed) s instruction-state
+
+    answer-is : r .answer ≡ both instructionSize instruction-state (instructionAnswer daySeconds (body instructionSize s) ∷ [])
+    unfolding instructionFront
+    answer-is =
+        ap (λ (x : InstructionRead). x .answer) e
+        ∙ (instruction-answer instruction-early instruction-body ∙ (ap (before instruction-early) (last-is (instruction-body .answer)) ∙ in-two instructionSize instruction-state (instruction-body .answer ∷ [])))
+
+    pub instruction-step : getD s 0 0 ≡ 3 → taken 3 instructionSize (r .answer) ≡ stepBy find d s
+    unfolding kindRefusals sizeOf
+    instruction-step k = ap (taken 3 instructionSize) answer-is ∙ kind-step find d s (first-some s 2 k) 3 k (omega arith) (omega arith)
+
+    pub instruction-says : accepted (r .answer) ≡ true → r .instruction ≡ instructionOf (body instructionSize s)
+    unfolding instructionFront
+    instruction-says y = ap (λ (x : InstructionRead). x .instruction) e ∙ instruction-read instruction-early instruction-body (ap (λ (x : InstructionRead). accepted (x .answer)) (sym e) ∙ y)
+
+    -- an instruction that is taken is one of the first forty
+    pub instruction-room : accepted (r .answer) ≡ true → t .count < instructionPlaces
+    instruction-room y =
+        let b : List ℕ = body instructionSize s in
+        let a = all-accepted (refusing (ltb (length s) instructionSize) TooFewBytes ∷ refusing (d .closed) AfterClose ∷ instructionRefusals t b) (sym answer-is ∙ is-accepted (r .answer) y) in
+        instruction-passes t b (again (instructionRefusals t b) (a .1 .1)) .room
       where
-        go : (t c h u : Bool) (a : Answer) (m : Bool) (o : Opening) →
-            settle (firstRefusal (refusing t TooFewBytes ∷ refusing c AfterClose ∷ refusing h SecondOne ∷ refusing (not u) BeforeUnit ∷ Accepted ∷ Accepted ∷ a ∷ refusing m OpeningTooHigh ∷ Accepted ∷ [])) d (accept (withOpening d o) 17)
-            ≡ openingTaken d
-            (pick t (openingRefused TooFewBytes) (pick c (openingRefused AfterClose) (pick h (openingRefused SecondOne) (pick (not u) (openingRefused BeforeUnit)
-            (record { answer = firstRefusal (a ∷ refusing m OpeningTooHigh ∷ []); opening = o })))))
-        go true c h u a m o = refl
-        go false true h u a m o = refl
-        go false false true u a m o = refl
-        go false false false false a m o = refl
-        go false false false true (Refused r) m o = refl
-        go false false false true Accepted true o = refl
-        go false false false true Accepted false o = refl
+        again : (xs : List Answer) → All (λ (x : Answer). x ≡ Accepted) xs → firstRefusal xs ≡ Accepted
+        again [] h = refl
+        again (x ∷ xs) h = ap (λ (y : Answer). before y (firstRefusal xs)) (h .0) ∙ again xs (h .1)
 
-    pub instruction-step : getD s 0 0 ≡ 3 → instructionTaken d (instructionFront (d .hasUnit) (d .closed) (d .count) s) ≡ stepBy find d s
-    unfolding secondOne beforeUnit tooMany notReady fieldAnswer dayWith sizeOf instructionFront
-    instruction-step k =
-        let b : List ℕ = take 21 (drop 1 s) in
-        sym (by-kind 3 k (omega arith) (omega arith) ∙ go (ltb (length s) 22) (d .closed) (d .hasUnit) (leb 40 (d .count)) (instructionAnswer daySeconds b) (instructionOf b))
-      where
-        go : (t c u m : Bool) (a : Answer) (i : Instruction) →
-            settle (firstRefusal (refusing t TooFewBytes ∷ refusing c AfterClose ∷ Accepted ∷ refusing (not u) BeforeUnit ∷ refusing m TooManyInstructions ∷ Accepted ∷ a ∷ Accepted ∷ Accepted ∷ [])) d (accept (withInstruction d i) 22)
-            ≡ instructionTaken d
-            (pick t (instructionRefused TooFewBytes) (pick c (instructionRefused AfterClose) (pick (not u) (instructionRefused BeforeUnit) (pick m (instructionRefused TooManyInstructions)
-            (record { answer = a; instruction = i })))))
-        go true c u m a i = refl
-        go false true u m a i = refl
-        go false false false m a i = refl
-        go false false true true a i = refl
-        go false false true false Accepted i = refl
-        go false false true false (Refused r) i = refl
+  pub close-step : 1 ≤ length s → getD s 0 0 ≡ 4 → closeTaken find d ≡ stepBy find d s
+  unfolding kindRefusals sizeOf dayWith
+  close-step some k =
+      ap (λ (b : Bool). settle (before (refusing b TooFewBytes) (firstRefusal (refusing (d .closed) AfterClose ∷ closeRefusals t (find t)))) d (accept (dayWith find d 4 (body closeSize s)) closeSize)) (sym (le-ltb (length s) closeSize some))
+      ∙ kind-step find d s some 4 k (omega arith) (omega arith)
 
-    pub close-step : getD s 0 0 ≡ 4 → closeTaken d find ≡ stepBy find d s
-    unfolding secondOne beforeUnit tooMany notReady fieldAnswer dayWith sizeOf closeFront
-    close-step k = sym (by-kind 4 k (omega arith) (omega arith) ∙ go (ltb (length s) 1) (le-ltb (length s) 1 some) (d .closed) (d .hasOpening) (quantityTooHigh (d .unit) (find d)))
-      where
-        go : (t : Bool) → t ≡ false → (c o q : Bool) →
-            settle (firstRefusal (refusing t TooFewBytes ∷ refusing c AfterClose ∷ Accepted ∷ Accepted ∷ Accepted ∷ refusing (not o) NotReady ∷ Accepted ∷ Accepted ∷ refusing q QuantityTooHigh ∷ [])) d (accept (closedWith d (find d)) 1)
-            ≡ settle (firstRefusal (refusing c AfterClose ∷ refusing (not o) NotReady ∷ [])) d (settle (refusing q QuantityTooHigh) d (accept (closedWith d (find d)) 1))
-        go true e c o q = never (sym e)
-        go false e true o q = refl
-        go false e false false q = refl
-        go false e false true true = refl
-        go false e false true false = refl
+-- ---- a close, by what comes before anything is found, and by what is found
+module _ (find : Taken → Found) (d : Day) (a : Answer) (e : a ≡ closeFront (d .taken .hasStart) (d .closed)) where
+  abbrev closed : Stepped
+  closed = settle (refusing (quantityTooHigh (d .taken .unit) (find (d .taken))) QuantityTooHigh) d (accept (dayWith find d 4 []) closeSize)
 
--- ---- a step uses no more than there is
-pub step-used : (find : Day → Found) (d : Day) (s : List ℕ) → stepBy find d s .used ≤ length s
-unfolding stepBy
-step-used find d s = by-bool (accepted (answerBy find d s)) (λ e. simp e (passed find d s (is-accepted (answerBy find d s) e) .long)) (λ e. simp e (omega arith))
-
--- ---- by the answer, and by what its test says
-pub is-refused : (a : Answer) (ok : Bool) → ok ≡ accepted a → not ok ≡ true → accepted a ≡ false
-is-refused a ok e t = sym e ∙ not-true ok t
-
-pub is-taken : (a : Answer) (ok : Bool) → ok ≡ accepted a → not ok ≡ false → accepted a ≡ true
-is-taken a ok e t = sym e ∙ not-false ok t
-
-pub settle-refused : (a : Answer) (d : Day) (x : Stepped) → accepted a ≡ false → record { answer = a; day = d; used = 0 } ≡ settle a d x
-settle-refused a d x e = rw e
-
-pub settle-taken : (a : Answer) (d : Day) (x : Stepped) → accepted a ≡ true → x ≡ settle a d x
-settle-taken a d x e = rw e
-
--- an instruction that is taken is one of the first forty
-pub instruction-room : (u c : Bool) (n : ℕ) (s : List ℕ) (r : InstructionRead) → r ≡ instructionFront u c n s → accepted (r .answer) ≡ true → n < 40
-unfolding instructionFront
-instruction-room u c n s r q e =
-    leb-false 40 n (go (ltb (length s) 22) c (not u) (leb 40 n) (instructionRead daySeconds (take 21 (drop 1 s))) (ap (λ (x : InstructionRead). accepted (x .answer)) (sym q) ∙ e))
-  where
-    go : (t c u m : Bool) (r : InstructionRead) →
-        accepted (pick t (instructionRefused TooFewBytes) (pick c (instructionRefused AfterClose) (pick u (instructionRefused BeforeUnit) (pick m (instructionRefused TooManyInstructions) r))) .answer) ≡ true →
-        m ≡ false
-    go true c u m r f = never f
-    go false true u m r f = never f
-    go false false true m r f = never f
-    go false false false true r f = never f
-    go false false false false r f = refl
+  pub close-in-two : settle a d closed ≡ closeTaken find d
+  unfolding closeFront
+  close-in-two =
+      let b : Answer = refusing (quantityTooHigh (d .taken .unit) (find (d .taken))) QuantityTooHigh in
+      settle-both a b d (accept (dayWith find d 4 []) closeSize)
+      ∙ ap (λ (x : Answer). settle x d (accept (dayWith find d 4 []) closeSize))
+      (ap (λ (x : Answer). before x b) e ∙ (ap (before (closeFront (d .taken .hasStart) (d .closed))) (last-is b) ∙ first-append (refusing (d .closed) AfterClose ∷ refusing (not (d .taken .hasStart)) NotReady ∷ []) (b ∷ [])))
 
 -- ---- refusal 22, of an opening whose fields are answered
 module _ (u : UnitData) (r : OpeningRead) (fits high : Bool) (f : fits ≡ accepted (r .answer)) (h : high ≡ tooHigh u (r .opening)) where
@@ -186,7 +197,7 @@ module _ (u : UnitData) (r : OpeningRead) (fits high : Bool) (f : fits ≡ accep
   unfolding belowMaximum
   opening-high e = λ i. record { answer = go (r .answer) (tooHigh u (r .opening)) (sym (λ j. f j && h j) ∙ e) i; opening = r .opening }
     where
-      go : (a : Answer) (b : Bool) → (accepted a && b) ≡ true → Refused OpeningTooHigh ≡ firstRefusal (a ∷ refusing b OpeningTooHigh ∷ [])
+      go : (a : Answer) (b : Bool) → (accepted a && b) ≡ true → Refused OpeningTooHigh ≡ before a (refusing b OpeningTooHigh)
       go Accepted true e = refl
       go Accepted false e = never e
       go (Refused x) b e = never e
@@ -195,7 +206,7 @@ module _ (u : UnitData) (r : OpeningRead) (fits high : Bool) (f : fits ≡ accep
   unfolding belowMaximum
   opening-low e = λ i. record { answer = go (r .answer) (tooHigh u (r .opening)) (sym (λ j. f j && h j) ∙ e) i; opening = r .opening }
     where
-      go : (a : Answer) (b : Bool) → (accepted a && b) ≡ false → a ≡ firstRefusal (a ∷ refusing b OpeningTooHigh ∷ [])
+      go : (a : Answer) (b : Bool) → (accepted a && b) ≡ false → a ≡ before a (refusing b OpeningTooHigh)
       go Accepted true e = never (sym e)
       go Accepted false e = refl
       go (Refused x) b e = refl

@@ -23,7 +23,7 @@ fn refuse_unit(r: Refusal) -> UnitRead
 pub fn unit_front(hasUnit: bool, closed: bool, input: &[u8]) -> UnitRead
     ensures { λ r. ⌜ r ≡ unitFront hasUnit closed (now (input .entry)) ⌝ }
 {
-    if input.len() < 249 {
+    if input.len() < records::UNIT_SIZE {
         return refuse_unit(Refusal::TooFewBytes);
     }
     if closed {
@@ -32,7 +32,7 @@ pub fn unit_front(hasUnit: bool, closed: bool, input: &[u8]) -> UnitRead
     if hasUnit {
         return refuse_unit(Refusal::SecondOne);
     }
-    units::read_unit(&input[1..249])
+    units::read_unit(&input[1..records::UNIT_SIZE])
 }
 
 // Refusal 22: level or target above the short-term maximum, or seconds off with a level above 0.
@@ -74,26 +74,26 @@ fn refuse_opening(r: Refusal) -> OpeningRead
 // An opening at the front of the input.
 pub fn opening_front(
     hasUnit: bool,
-    hasOpening: bool,
+    hasStart: bool,
     closed: bool,
     unit: records::UnitData,
     input: &[u8],
 ) -> OpeningRead
-    ensures { λ r. ⌜ r ≡ openingFront hasUnit hasOpening closed unit (now (input .entry)) ⌝ }
+    ensures { λ r. ⌜ r ≡ openingFront hasUnit hasStart closed unit (now (input .entry)) ⌝ }
 {
-    if input.len() < 17 {
+    if input.len() < records::OPENING_SIZE {
         return refuse_opening(Refusal::TooFewBytes);
     }
     if closed {
         return refuse_opening(Refusal::AfterClose);
     }
-    if hasOpening {
+    if hasStart {
         return refuse_opening(Refusal::SecondOne);
     }
     if !hasUnit {
         return refuse_opening(Refusal::BeforeUnit);
     }
-    let read = fields::read_opening(&input[1..17]);
+    let read = fields::read_opening(&input[1..records::OPENING_SIZE]);
     below_maximum(unit, read)
 }
 
@@ -113,7 +113,7 @@ fn refuse_instruction(r: Refusal) -> InstructionRead
 pub fn instruction_front(hasUnit: bool, closed: bool, count: usize, input: &[u8]) -> InstructionRead
     ensures { λ r. ⌜ r ≡ instructionFront hasUnit closed count (now (input .entry)) ⌝ }
 {
-    if input.len() < 22 {
+    if input.len() < records::INSTRUCTION_SIZE {
         return refuse_instruction(Refusal::TooFewBytes);
     }
     if closed {
@@ -122,20 +122,20 @@ pub fn instruction_front(hasUnit: bool, closed: bool, count: usize, input: &[u8]
     if !hasUnit {
         return refuse_instruction(Refusal::BeforeUnit);
     }
-    if 40 <= count {
+    if level::INSTRUCTIONS <= count {
         return refuse_instruction(Refusal::TooManyInstructions);
     }
-    fields::read_instruction(86400, &input[1..22])
+    fields::read_instruction(level::MOST_SECONDS, &input[1..records::INSTRUCTION_SIZE])
 }
 
 // A close, before anything is found.
-pub fn close_front(hasOpening: bool, closed: bool) -> Answer
-    ensures { λ r. ⌜ r ≡ closeFront hasOpening closed ⌝ }
+pub fn close_front(hasStart: bool, closed: bool) -> Answer
+    ensures { λ r. ⌜ r ≡ closeFront hasStart closed ⌝ }
 {
     if closed {
         return Answer::Refused(Refusal::AfterClose);
     }
-    if !hasOpening {
+    if !hasStart {
         return Answer::Refused(Refusal::NotReady);
     }
     Answer::Accepted

@@ -6,7 +6,8 @@ ghost use Rattle.records.specs.Answers.{refusing};
 ghost use Rattle.records.specs.Codes.{meaningIn, isUnknown};
 ghost use Rattle.records.specs.Fields.{openingFits};
 ghost use Rattle.records.specs.Records.{issueOf};
-ghost use Rattle.fields.specs.Decoded.{openingRead, instructionRead, figuresFor, answerFor};
+ghost use Rattle.records.specs.Fields.{figuresFit};
+ghost use Rattle.fields.specs.Decoded.{openingRead, instructionRead, instructionAnswerFor};
 use records::Answer;
 use records::Refusal;
 
@@ -18,8 +19,6 @@ const MOST_RATE: u32 = 200000;
 const MOST_OFF: u32 = 10000000;
 // An issue time lies at most so many seconds before or after 06:00: a week.
 const WEEK: u32 = 604800;
-// The code that carries a level and rates: MWOF.
-const MWOF: u8 = 2;
 
 // An opening's body: the answer to its fields, and the opening.
 pub struct OpeningRead {
@@ -99,19 +98,21 @@ fn is_unknown(coded: records::Coded) -> bool
     }
 }
 
-// Level and rates are what a code that carries them, or one that does not, allows.
-fn figures_fit(carries: bool, i: records::Instruction) -> bool
-    ensures { λ r. ⌜ r ≡ figuresFor carries i ⌝ }
+// Level and rates are what the code allows: MWOF carries them, the others 0.
+fn figures_fit(i: records::Instruction) -> bool
+    ensures { λ r. ⌜ r ≡ figuresFit i ⌝ }
 {
-    if carries {
+    let m = i.meaning;
+    let code = m.effect;
+    if records::same_code(code, records::Effect::Mwof) {
         return (i.level <= MOST_KW) & ((i.up <= MOST_RATE) & (i.down <= MOST_RATE));
     }
     (i.level == 0) & ((i.up == 0) & (i.down == 0))
 }
 
-// Refusals 6 to 9, of an instruction whose code is unknown, or carries a level and rates, in a day of so many seconds.
-fn instruction_answer(end: u32, unknown: bool, carries: bool, i: records::Instruction) -> Answer
-    ensures { λ r. ⌜ r ≡ answerFor end unknown carries i ⌝ }
+// Refusals 6 to 9, of an instruction whose code is unknown or known, in a day of so many seconds.
+fn instruction_answer(end: u32, unknown: bool, i: records::Instruction) -> Answer
+    ensures { λ r. ⌜ r ≡ instructionAnswerFor end unknown i ⌝ }
 {
     if unknown {
         return Answer::Refused(Refusal::CodeField);
@@ -122,7 +123,7 @@ fn instruction_answer(end: u32, unknown: bool, carries: bool, i: records::Instru
     if 2 * WEEK < i.issue {
         return Answer::Refused(Refusal::IssueTime);
     }
-    if figures_fit(carries, i) {
+    if figures_fit(i) {
         return Answer::Accepted;
     }
     Answer::Refused(Refusal::LevelOrRates)
@@ -149,7 +150,7 @@ pub fn read_instruction(end: u32, body: &[u8]) -> InstructionRead
         up,
         down,
     };
-    let answer = instruction_answer(end, unknown, code == MWOF, instruction);
+    let answer = instruction_answer(end, unknown, instruction);
     InstructionRead {
         answer,
         instruction,

@@ -2,12 +2,13 @@
 -- Assumes nothing.
 use Prim.Native.Nat.{ℕ, _+_, _*_, _-_, min, _≤_}
 use mathlib.Core.Path.{_≡_, refl, ap, sym, _∙_}
-use mathlib.Core.Bool.{Bool, true, false}
-use mathlib.Core.List.{List, [], _∷_}
+use mathlib.Core.Bool.{Bool}
+use mathlib.Core.List.{List, [], _∷_, map}
 use native.Mathlib.Omega.{arith}
 use lib.Dec.{ltb}
+use lib.ListN.{drop}
 use Rattle.level.specs.Level.{grains}
-use Rattle.level.proofs.Lists.{by-bool}
+use Rattle.level.specs.Numbers.{halfHour}
 use Rattle.segments.specs.Segments.{area}
 use Rattle.records.specs.declared.UnitData.{UnitData}
 use Rattle.course.specs.declared.Course.{Course}
@@ -17,11 +18,12 @@ use Rattle.course.proofs.Pieces.{pieces-area}
 use Rattle.validation.specs.declared.Numbered.{Numbered}
 use Rattle.validation.specs.Kept.{acting}
 use Rattle.profile.specs.declared.UnderWay.{UnderWay}
-use Rattle.profile.specs.declared.State.{State}
+use Rattle.profile.specs.declared.Setting.{Setting}
+use Rattle.profile.specs.declared.Outcome.the-variants.{Ignored, Sets}
 use Rattle.profile.specs.State.{byRule}
-use Rattle.profile.specs.Effects.{idle, begun, underWay, courseFrom, goesOn, replaces, stateAt, follow}
-use Rattle.profile.specs.Profile.{beginOf, spansOf, piecesTo}
-use Rattle.day.specs.Day.{daySeconds}
+use Rattle.profile.specs.Effects.{Followed, begun, underWay, courseFrom, goesOn, replaces, follow}
+use Rattle.profile.specs.Profile.{beginOf, spansOf, piecesTo, courseOf}
+use Rattle.profile.proofs.Following.{comesTo, newCourse, follow-on, follow-new, follow-ind}
 use Rattle.rates.specs.declared.OwnLists.{OwnLists}
 use Rattle.rates.specs.Ways.{headed, listsIn, ownLists, listsBy}
 use Rattle.trajectory.specs.Walk.{reachedAt, beginning, twiceTo}
@@ -35,80 +37,73 @@ use Rattle.following.specs.Following.{setOut, secondOf, Ordered, LowStar
 -- ---- the courses after
 
 module _ (u : UnitData) where
-  abbrev pub before : UnderWay → Numbered → State
-  before now o = stateAt byRule u now (acting o)
-
-  abbrev pub isIdle : UnderWay → Numbered → Bool
-  isIdle now o = idle (o .instruction .meaning .effect) (o .instruction .level) (before now o .level) (now .maximised)
-
-  abbrev pub next : UnderWay → Numbered → UnderWay
-  next now o = begun u now o (before now o)
-
-  module _ (now : UnderWay) (o : Numbered) (os : List Numbered) where
-    follow-idle : isIdle now o ≡ true → follow byRule u now (o ∷ os) ≡ goesOn o (follow byRule u now os)
-    unfolding follow
-    follow-idle e = ap (λ (b : Bool). elim b [ true ↦ goesOn o (follow byRule u now os) | false ↦ replaces now o (follow byRule u (next now o) os) ]) e
-
-    follow-new : isIdle now o ≡ false → follow byRule u now (o ∷ os) ≡ replaces now o (follow byRule u (next now o) os)
-    unfolding follow
-    follow-new e = ap (λ (b : Bool). elim b [ true ↦ goesOn o (follow byRule u now os) | false ↦ replaces now o (follow byRule u (next now o) os) ]) e
-
-  follow-none : (now : UnderWay) → follow byRule u now [] ≡ record { marks = []; courses = now ∷ [] }
-  unfolding follow
-  follow-none now = refl
-
-  -- the one under way comes first
-  pub from-head : (now : UnderWay) (os : List Numbered) → coursesFrom u now os ≡ now .course ∷ coursesAfter u now os
-  unfolding coursesFrom coursesAfter goesOn replaces
-  from-head now [] = rw (follow-none now) refl
-  from-head now (o ∷ os) = by-bool (isIdle now o)
-      (λ e. rw (follow-idle now o os e) (from-head now os))
-      (λ e. rw (follow-new now o os e) refl)
+  -- a course begins where the instruction that sets it acts
+  pub begins-there : (now : UnderWay) (o : Numbered) (g : Setting) → newCourse byRule u now o g .course .begin ≡ acting o
+  unfolding begun underWay courseFrom
+  begins-there now o g = refl
 
   pub after-none : (now : UnderWay) → coursesAfter u now [] ≡ []
   unfolding coursesFrom coursesAfter follow
   after-none now = refl
 
-  pub after-idle : (now : UnderWay) (o : Numbered) (os : List Numbered) → isIdle now o ≡ true → coursesAfter u now (o ∷ os) ≡ coursesAfter u now os
-  unfolding coursesFrom coursesAfter goesOn
-  after-idle now o os e = rw (follow-idle now o os e) refl
+  module _ (now : UnderWay) (o : Numbered) (os : List Numbered) where
+    pub after-on : comesTo byRule u now o ≡ Ignored → coursesAfter u now (o ∷ os) ≡ coursesAfter u now os
+    unfolding coursesFrom coursesAfter goesOn
+    after-on e = rw (follow-on byRule u now o os e) refl
 
-  pub after-new : (now : UnderWay) (o : Numbered) (os : List Numbered) → isIdle now o ≡ false → coursesAfter u now (o ∷ os) ≡ coursesFrom u (next now o) os
-  unfolding coursesFrom coursesAfter replaces
-  after-new now o os e = rw (follow-new now o os e) refl
+    pub after-new : (g : Setting) → comesTo byRule u now o ≡ Sets g → coursesAfter u now (o ∷ os) ≡ coursesFrom u (newCourse byRule u now o g) os
+    unfolding coursesFrom coursesAfter replaces
+    after-new g e = rw (follow-new byRule u now o os g e) refl
 
-  -- it begins where it acts
-  pub next-begins : (now : UnderWay) (o : Numbered) (s : State) → begun u now o s .course .begin ≡ acting o
-  unfolding begun underWay courseFrom
-  next-begins now o s = refl
+  module _ (end : ℕ) where
+    -- the course under way comes first, and ends no earlier than the first of those that act does so
+    record Headed (now : UnderWay) (os : List Numbered) (f : Followed) : Type 0 where
+      head : map courseOf (f .courses) ≡ now .course ∷ drop 1 (map courseOf (f .courses))
+      ends : (a : ℕ) → Ordered end a os → a ≤ beginOf end (drop 1 (map courseOf (f .courses)))
 
-  pub end-new : (now : UnderWay) (o : Numbered) (os : List Numbered) → isIdle now o ≡ false → endOf u now (o ∷ os) ≡ acting o
+    headed-by : (now : UnderWay) (os : List Numbered) → Headed now os (follow byRule u now os)
+    headed-by = follow-ind byRule u Headed
+        (λ now. unfold beginOf in record { head = refl; ends = λ a h. h })
+        (λ now o os f e t. unfold goesOn in record { head = t .head; ends = λ a h. omega (arith, h .0, t .ends (acting o) (h .1)) })
+        (λ now o os g f e t. unfold replaces in record {
+          head = refl;
+          ends = λ a h. rw (ap (beginOf end) (t .head)) (unfold beginOf in omega (arith, h .0, begins-there now o g));
+        })
+
+    pub end-none : (now : UnderWay) → endOf u end now [] ≡ end
+    unfolding beginOf
+    end-none now = ap (beginOf end) (after-none now)
+
+    pub end-after : (now : UnderWay) (os : List Numbered) (a : ℕ) → Ordered end a os → a ≤ endOf u end now os
+    unfolding coursesFrom coursesAfter
+    end-after now os a h = headed-by now os .ends a h
+
+  pub from-head : (now : UnderWay) (os : List Numbered) → coursesFrom u now os ≡ now .course ∷ coursesAfter u now os
+  unfolding coursesFrom coursesAfter
+  from-head now os = headed-by 0 now os .head
+
+  pub end-new : (end : ℕ) (now : UnderWay) (o : Numbered) (os : List Numbered) (g : Setting) → comesTo byRule u now o ≡ Sets g → endOf u end now (o ∷ os) ≡ acting o
   unfolding beginOf
-  end-new now o os e = ap (beginOf daySeconds) (after-new now o os e ∙ from-head (next now o) os) ∙ next-begins now o (before now o)
+  end-new end now o os g e = ap (beginOf end) (after-new now o os g e ∙ from-head (newCourse byRule u now o g) os) ∙ begins-there now o g
 
-  pub end-none : (now : UnderWay) → endOf u now [] ≡ 86400
-  unfolding beginOf
-  end-none now = ap (beginOf daySeconds) (after-none now)
+module _ (end : ℕ) where
+  pub ordered-less : (a b : ℕ) (os : List Numbered) → a ≤ b → Ordered end b os → Ordered end a os
+  ordered-less a b [] le h = omega arith
+  ordered-less a b (o ∷ os) le h = (omega (arith, h .0), h .1)
 
-  -- and no earlier than the first of those that act
-  pub end-after : (now : UnderWay) (os : List Numbered) (a : ℕ) → Ordered a os → a ≤ endOf u now os
-  end-after now [] a h = rw (end-none now) h
-  end-after now (o ∷ os) a h = by-bool (isIdle now o)
-      (λ e. rw (after-idle now o os e) (omega (arith, h .0, end-after now os (acting o) (h .1))))
-      (λ e. rw (end-new now o os e) (h .0))
+  pub ordered-end : (a : ℕ) (os : List Numbered) → Ordered end a os → a ≤ end
+  ordered-end a [] h = h
+  ordered-end a (o ∷ os) h = omega (arith, h .0, ordered-end (acting o) os (h .1))
 
-pub ordered-less : (a b : ℕ) (os : List Numbered) → a ≤ b → Ordered b os → Ordered a os
-ordered-less a b [] le h = omega arith
-ordered-less a b (o ∷ os) le h = (omega (arith, h .0), h .1)
+  -- the first of those left acts no earlier, and they act in order from there
+  pub record Next (a : ℕ) (os : List Numbered) : Type 0 where
+    pub later : a ≤ secondOf end os
+    pub soon : secondOf end os ≤ end
+    pub ordered : Ordered end (secondOf end os) os
 
-pub ordered-end : (a : ℕ) (os : List Numbered) → Ordered a os → a ≤ 86400
-ordered-end a [] h = h
-ordered-end a (o ∷ os) h = omega (arith, h .0, ordered-end (acting o) os (h .1))
-
--- the first of those left acts no earlier, and they act in order from there
-pub ordered-next : (a : ℕ) (os : List Numbered) → Ordered a os → (a ≤ secondOf os) × (secondOf os ≤ 86400) × Ordered (secondOf os) os
-ordered-next a [] h = (h, omega arith, omega arith)
-ordered-next a (o ∷ os) h = (h .0, ordered-end (acting o) os (h .1), (omega arith, h .1))
+  pub ordered-next : (a : ℕ) (os : List Numbered) → Ordered end a os → Next a os
+  ordered-next a [] h = record { later = h; soon = omega arith; ordered = omega arith }
+  ordered-next a (o ∷ os) h = record { later = h .0; soon = ordered-end (acting o) os (h .1); ordered = (omega arith, h .1) }
 
 -- ---- their areas
 
@@ -131,12 +126,12 @@ module _ (u : UnitData) (c : Course) where
       begins a = refl
 
 module _ (u : UnitData) (now : UnderWay) (l : OwnLists) (up : Bool) (total : ℕ) (rises : up ≡ ltb (now .course .start .grains) (grains (now .course .target))) (own : l ≡ ownLists u (now .course) up) where
-  pub set-out-sum : (os : List Numbered) (j : ℕ) → piecesTo (spansOf u daySeconds (coursesFrom u now os)) (1800 * j) ≡ sumAfter u now l (setOut now l up total) os j
+  pub set-out-sum : (end : ℕ) (os : List Numbered) (j : ℕ) → piecesTo (spansOf u end (coursesFrom u now os)) (halfHour * j) ≡ sumAfter u end now l (setOut now l up total) os j
   unfolding sumAfter setOut reachedAt spansOf piecesTo
-  set-out-sum os j =
-      let n : ℕ = min (endOf u now os) (1800 * j) in
-      ap (λ (cs : List Course). piecesTo (spansOf u daySeconds cs) (1800 * j)) (from-head u now os)
-      ∙ ap (λ (k : ℕ). k + piecesTo (spansOf u daySeconds (coursesAfter u now os)) (1800 * j)) (course-area u (now .course) n
+  set-out-sum end os j =
+      let n : ℕ = min (endOf u end now os) (halfHour * j) in
+      ap (λ (cs : List Course). piecesTo (spansOf u end cs) (halfHour * j)) (from-head u now os)
+      ∙ ap (λ (k : ℕ). k + piecesTo (spansOf u end (coursesAfter u now os)) (halfHour * j)) (course-area u (now .course) n
       ∙ ap (λ (b : Bool). twiceTo (headed b) (listsBy (ownLists u (now .course) b) (now .course)) (grains (now .course .target)) n (beginning (now .course) (now .course .begin))) (sym rises)
       ∙ ap (λ (x : OwnLists). twiceTo (headed up) (listsBy x (now .course)) (grains (now .course .target)) n (beginning (now .course) (now .course .begin))) (sym own))
 

@@ -1,3 +1,4 @@
 pub mod Walking
 pub mod After
 pub mod Steps
+pub mod Ending

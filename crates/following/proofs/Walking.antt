@@ -3,23 +3,24 @@
 use Prim.Native.Nat.{ℕ, _+_, _-_, _<_}
 use mathlib.Core.Path.{_≡_, refl, ap, sym, _∙_}
 use mathlib.Core.List.{List, [], _∷_, _++_, map, append-assoc, append-nil}
-use mathlib.Core.Bool.{Bool, true, false}
 use native.Mathlib.Omega.{arith}
 use lib.ListN.{length, set, length-append, length-map}
-use Rattle.level.specs.Choice.{pick}
 use Rattle.level.specs.Lists.{filled}
+use Rattle.level.specs.Numbers.{instructionPlaces, coursePlaces}
 use Rattle.records.specs.declared.UnitData.{UnitData}
 use Rattle.validation.specs.declared.Numbered.{Numbered}
-use Rattle.validation.specs.Kept.{Mark, mark, acting}
-use Rattle.choosing.proofs.Laws.{filled-push}
+use Rattle.validation.specs.Kept.{Mark, mark}
+use Rattle.level.proofs.Arrays.{filled-push}
 use Rattle.profile.specs.declared.UnderWay.{UnderWay}
-use Rattle.profile.specs.declared.State.{State}
+use Rattle.profile.specs.declared.Setting.{Setting}
+use Rattle.profile.specs.declared.Outcome.the-variants.{Ignored, Sets}
 use Rattle.profile.specs.State.{byRule}
-use Rattle.profile.specs.Effects.{Followed, idle, begun, goesOn, replaces, stateAt, follow}
-use Rattle.profile.specs.Profile.{courseOf}
-use Rattle.day.specs.Day.{noCourse}
+use Rattle.profile.specs.Effects.{Followed, goesOn, replaces, follow}
+use Rattle.profile.specs.Profile.{courseOf, lastOf}
+use Rattle.profile.specs.Finding.{noCourse}
+use Rattle.profile.proofs.Following.{comesTo, newCourse, follow-on, follow-new}
 use Rattle.following.specs.declared.Walk.{Walk}
-use Rattle.following.specs.Walk.{fateIn, lastOf, walkOf, wentOn, replacedBy, actedOn}
+use Rattle.following.specs.Walk.{fateIn, walkOf, wentOn, replacedBy}
 
 -- an array that begins with f of each, and one more
 map-push : {A B : Type 0} (f : A → B) (z : B) (n : ℕ) (xs : List A) (x : A) → length xs < n →
@@ -58,17 +59,17 @@ module _ (u : UnitData) where
   going-start now os = record { us = []; ms = []; courses = refl; marks = refl; holds = refl }
 
   module _ (w : Walk) (o : Numbered) (us : List UnderWay) (ms : List Mark) (e : w ≡ walkOf (w .now) (record { marks = ms; courses = us ++ (w .now ∷ []) })) where
-    fated : (fate : ℕ) → w .acted < 40 → set (w .fates) (w .acted) fate ≡ filled 40 0 (map fateIn (ms ++ (mark fate o ∷ [])))
+    fated : (fate : ℕ) → w .acted < instructionPlaces → set (w .fates) (w .acted) fate ≡ filled instructionPlaces 0 (map fateIn (ms ++ (mark fate o ∷ [])))
     unfolding walkOf
     fated fate h =
         ap (λ (x : Walk). set (x .fates) (x .acted) fate) e
-        ∙ map-push fateIn 0 40 ms (mark fate o) (omega (arith, ap (λ (x : Walk). x .acted) e))
+        ∙ map-push fateIn 0 instructionPlaces ms (mark fate o) (omega (arith, ap (λ (x : Walk). x .acted) e))
 
     more : (fate : ℕ) → w .acted + 1 ≡ length (ms ++ (mark fate o ∷ []))
     unfolding walkOf
     more fate = ap (λ (x : Walk). x .acted + 1) e ∙ one-more ms (mark fate o)
 
-    held-on : w .acted < 40 → wentOn w ≡ walkOf (w .now) (record { marks = ms ++ (mark 7 o ∷ []); courses = us ++ (w .now ∷ []) })
+    held-on : w .acted < instructionPlaces → wentOn w ≡ walkOf (w .now) (record { marks = ms ++ (mark 7 o ∷ []); courses = us ++ (w .now ∷ []) })
     unfolding walkOf wentOn
     held-on h = λ i. record {
       now = w .now;
@@ -78,44 +79,46 @@ module _ (u : UnitData) where
       acted = (more 7) i;
     }
 
-    changed : (next : UnderWay) → w .acted < 40 → w .started < 41 →
+    changed : (next : UnderWay) → w .acted < instructionPlaces → w .started < coursePlaces →
         replacedBy w next ≡ walkOf next (record { marks = ms ++ (mark 0 o ∷ []); courses = (us ++ (w .now ∷ [])) ++ (next ∷ []) })
     unfolding walkOf replacedBy
     changed next h k = λ i. record {
       now = next;
       courses = (
           ap (λ (x : Walk). set (x .courses) (x .started) (next .course)) e
-          ∙ map-push courseOf noCourse 41 (us ++ (w .now ∷ [])) next (omega (arith, ap (λ (x : Walk). x .started) e))
+          ∙ map-push courseOf noCourse coursePlaces (us ++ (w .now ∷ [])) next (omega (arith, ap (λ (x : Walk). x .started) e))
           ) i;
       started = (ap (λ (x : Walk). x .started + 1) e ∙ one-more (us ++ (w .now ∷ [])) next) i;
       fates = (fated 0 h) i;
       acted = (more 0) i;
     }
 
-  pub going-next : (w : Walk) (o : Numbered) (os : List Numbered) (whole : Followed) → w .acted < 40 → w .started < 41 → Going w (o ∷ os) whole → Going (actedOn u w o) os whole
-  unfolding actedOn follow goesOn replaces wentOn replacedBy
-  going-next w o os whole h k g =
-      let s : State = stateAt byRule u (w .now) (acting o) in
-      go (begun u (w .now) o s) (idle (o .instruction .meaning .effect) (o .instruction .level) (s .level) (w .now .maximised)) (g .courses) (g .marks)
-    where
-      go : (next : UnderWay) (b : Bool) →
-          (let f : Followed = elim b [ true ↦ goesOn o (follow byRule u (w .now) os) | false ↦ replaces (w .now) o (follow byRule u next os) ] in g .us ++ f .courses ≡ whole .courses) →
-          (let f : Followed = elim b [ true ↦ goesOn o (follow byRule u (w .now) os) | false ↦ replaces (w .now) o (follow byRule u next os) ] in g .ms ++ f .marks ≡ whole .marks) →
-          Going (pick b (wentOn w) (replacedBy w next)) os whole
-      go next true c m = record {
-        us = g .us;
-        ms = g .ms ++ (mark 7 o ∷ []);
-        courses = c;
-        marks = append-one (g .ms) (mark 7 o) (follow byRule u (w .now) os .marks) ∙ m;
-        holds = held-on w o (g .us) (g .ms) (g .holds) h;
-      }
-      go next false c m = record {
-        us = g .us ++ (w .now ∷ []);
-        ms = g .ms ++ (mark 0 o ∷ []);
-        courses = append-one (g .us) (w .now) (follow byRule u next os .courses) ∙ c;
-        marks = append-one (g .ms) (mark 0 o) (follow byRule u next os .marks) ∙ m;
-        holds = changed w o (g .us) (g .ms) (g .holds) next h k;
-      }
+  -- one more: ignored, or with effect
+  module _ (w : Walk) (o : Numbered) (os : List Numbered) (whole : Followed) (h : w .acted < instructionPlaces) (g : Going w (o ∷ os) whole) where
+    pub going-on : comesTo byRule u (w .now) o ≡ Ignored → Going (wentOn w) os whole
+    unfolding goesOn wentOn
+    going-on e =
+        let step = follow-on byRule u (w .now) o os e in
+        record {
+          us = g .us;
+          ms = g .ms ++ (mark 7 o ∷ []);
+          courses = ap (λ (f : Followed). g .us ++ f .courses) (sym step) ∙ g .courses;
+          marks = append-one (g .ms) (mark 7 o) (follow byRule u (w .now) os .marks) ∙ ap (λ (f : Followed). g .ms ++ f .marks) (sym step) ∙ g .marks;
+          holds = held-on w o (g .us) (g .ms) (g .holds) h;
+        }
+
+    pub going-new : (set : Setting) → w .started < coursePlaces → comesTo byRule u (w .now) o ≡ Sets set → Going (replacedBy w (newCourse byRule u (w .now) o set)) os whole
+    unfolding replaces replacedBy
+    going-new set k e =
+        let next : UnderWay = newCourse byRule u (w .now) o set in
+        let step = follow-new byRule u (w .now) o os set e in
+        record {
+          us = g .us ++ (w .now ∷ []);
+          ms = g .ms ++ (mark 0 o ∷ []);
+          courses = append-one (g .us) (w .now) (follow byRule u next os .courses) ∙ ap (λ (f : Followed). g .us ++ f .courses) (sym step) ∙ g .courses;
+          marks = append-one (g .ms) (mark 0 o) (follow byRule u next os .marks) ∙ ap (λ (f : Followed). g .ms ++ f .marks) (sym step) ∙ g .marks;
+          holds = changed w o (g .us) (g .ms) (g .holds) next h k;
+        }
 
   pub going-end : (now : UnderWay) (w : Walk) (whole : Followed) → Going w [] whole → w ≡ walkOf (lastOf now (whole .courses)) whole
   unfolding follow
@@ -123,13 +126,3 @@ module _ (u : UnitData) where
       let last : w .now ≡ lastOf now (whole .courses) = sym (last-one now (w .now) (g .us)) ∙ ap (lastOf now) (g .courses) in
       let marks : g .ms ≡ whole .marks = sym (append-nil (g .ms)) ∙ g .marks in
       g .holds ∙ (λ i. walkOf (last i) (record { marks = marks i; courses = (g .courses) i }))
-
-  module _ (w : Walk) (o : Numbered) (s : State) (r : Bool) (e : s ≡ stateAt byRule u (w .now) (acting o))
-      (f : r ≡ idle (o .instruction .meaning .effect) (o .instruction .level) (s .level) (w .now .maximised)) where
-    pub acts-idle : r ≡ true → wentOn w ≡ actedOn u w o
-    unfolding actedOn
-    acts-idle t = rw (sym e, sym f, t) refl
-
-    pub acts-new : r ≡ false → replacedBy w (begun u (w .now) o s) ≡ actedOn u w o
-    unfolding actedOn
-    acts-new t = rw (sym e, sym f, t) refl

@@ -1,36 +1,30 @@
 -- The walk over the instructions that act, as arrays: what `follow` says, one instruction after another.
 -- Assumes nothing.
 use Prim.Native.Nat.{ℕ, _+_}
-use mathlib.Core.List.{List, [], _∷_, map}
+use mathlib.Core.List.{List, map}
 use lib.ListN.{length, set}
-use Rattle.level.specs.Choice.{pick}
 use Rattle.level.specs.Lists.{filled}
+use Rattle.level.specs.Numbers.{instructionPlaces, coursePlaces}
 use Rattle.records.specs.declared.UnitData.{UnitData}
 use Rattle.validation.specs.declared.Numbered.{Numbered}
-use Rattle.validation.specs.Kept.{Mark, acting}
+use Rattle.validation.specs.Kept.{Mark}
 use Rattle.profile.specs.declared.UnderWay.{UnderWay}
-use Rattle.profile.specs.declared.State.{State}
 use Rattle.profile.specs.State.{byRule}
-use Rattle.profile.specs.Effects.{Followed, idle, begun, stateAt, follow}
-use Rattle.profile.specs.Profile.{courseOf}
-use Rattle.day.specs.Day.{noCourse}
+use Rattle.profile.specs.Effects.{Followed, follow}
+use Rattle.profile.specs.Profile.{courseOf, lastOf}
+use Rattle.profile.specs.Finding.{noCourse}
 use Rattle.following.specs.declared.Walk.{Walk}
 
 abbrev pub fateIn : Mark → ℕ
 fateIn m = m .fate
 
--- the last of some courses, the first being c
-unfoldable pub lastOf : UnderWay → List UnderWay → UnderWay
-lastOf c [] = c
-lastOf c (d ∷ ds) = lastOf d ds
-
 -- what the arrays hold of marks and courses, now being the last of these
 unfoldable pub walkOf : UnderWay → Followed → Walk
 walkOf now f = record {
   now = now;
-  courses = filled 41 noCourse (map courseOf (f .courses));
+  courses = filled coursePlaces noCourse (map courseOf (f .courses));
   started = length (f .courses);
-  fates = filled 40 0 (map fateIn (f .marks));
+  fates = filled instructionPlaces 0 (map fateIn (f .marks));
   acted = length (f .marks);
 }
 
@@ -51,8 +45,3 @@ replacedBy w next = record {
   fates = set (w .fates) (w .acted) 0;
   acted = w .acted + 1;
 }
-
-unfoldable pub actedOn : UnitData → Walk → Numbered → Walk
-actedOn u w o =
-    let s : State = stateAt byRule u (w .now) (acting o) in
-    pick (idle (o .instruction .meaning .effect) (o .instruction .level) (s .level) (w .now .maximised)) (wentOn w) (replacedBy w (begun u (w .now) o s))

@@ -1,19 +1,15 @@
 // The instructions that act, followed along the day from 06:00 to its end: the courses, the fates, twice the area up to each half-hour
-// boundary, and the closing state.
+// boundary, and the state at its end.
 ghost use mathlib.Core.Path.{_≡_};
 ghost use mathlib.Core.Bool.{true};
 ghost use mathlib.Core.List.{[], _∷_};
-ghost use Prim.Native.Nat.{_+_, _-_, min, _<_, _≤_};
+ghost use Prim.Native.Nat.{_<_, _≤_};
 ghost use lib.ListN.{take};
 ghost use Rattle.level.specs.Choice.{pick};
-ghost use Rattle.level.specs.Lists.{All};
+ghost use Rattle.level.specs.Numbers.{mostHalfHours};
 ghost use Rattle.validation.specs.Kept.{acting};
-ghost use Rattle.profile.specs.Effects.{begun};
 ghost use Rattle.following.specs.Walk.{walkOf};
-ghost use Rattle.following.specs.Following.{setOut, wentTo, Ordered, LowStart, coursesFrom, FollowedBy};
-
-// The day's seconds.
-const DAY: u32 = 86400;
+ghost use Rattle.following.specs.Following.{setOut, wentTo, placeIn, Followable, ended, FollowedBy};
 
 // ---- what is kept on the way
 
@@ -21,9 +17,9 @@ const DAY: u32 = 86400;
 // and the fates, in acting order, of those that have acted.
 pub struct Walk {
     pub now: profile::UnderWay,
-    pub courses: [course::Course; 41],
+    pub courses: [course::Course; level::COURSES],
     pub started: usize,
-    pub fates: [u8; 40],
+    pub fates: [u8; level::INSTRUCTIONS],
     pub acted: usize,
 }
 
@@ -31,11 +27,11 @@ pub struct Walk {
 fn begin_walk(now: profile::UnderWay) -> Walk
     ensures { λ r. ⌜ r ≡ walkOf now (record { marks = []; courses = now ∷ [] }) ⌝ }
 {
-    let none = day::no_course();
+    let none = profile::no_course();
     let first = now.course;
-    let mut courses = [none; 41];
+    let mut courses = [none; level::COURSES];
     courses[0] = first;
-    let fates = [0u8; 40];
+    let fates = [0u8; level::INSTRUCTIONS];
     Walk {
         now,
         courses,
@@ -85,115 +81,111 @@ fn went_to(up: bool, s: passing::Passed) -> OnCourse
 // ---- one instruction after another
 
 // The second to which a course is followed next: that at which an instruction acts, or the day's end.
-fn next_second(more: bool, o: validation::Numbered) -> u32
+fn next_second(more: bool, o: validation::Numbered, end: u32) -> u32
     requires { ⌜ (more ≡ true → acting o < 4294967296) ⌝ }
-    ensures { λ r. ⌜ r ≡ pick more (acting o) 86400 ⌝ }
+    ensures { λ r. ⌜ r ≡ pick more (acting o) end ⌝ }
 {
     if more {
         return effects::acting_second(o);
     }
-    DAY
+    end
 }
 
-// The course that an instruction of fate 0 begins, from the place q with so many seconds off.
-fn begin_next(
-    u: records::UnitData,
-    now: profile::UnderWay,
-    o: validation::Numbered,
-    q: trajectory::Place,
-    off: u32,
-) -> profile::UnderWay
-    requires { ⌜ acting o < 4294967296 ⌝ }
-    ensures { λ r. ⌜ r ≡ begun u now o (record { level = q .level; off = off }) ⌝ }
+// The state at the place q, with so many seconds off.
+fn state_at(q: trajectory::Place, off: u32) -> profile::State
+    ensures { λ r. ⌜ r ≡ record { level = q .level; off = off } ⌝ }
 {
-    let level = q.level;
-    let state = profile::State { level, off };
-    effects::begin_course(u, now, o, state)
-}
-
-// The closing state of a course that has come to the place q.
-fn close_at(c: course::Course, q: trajectory::Place, off: u32) -> profile::Closing
-    ensures { λ r. ⌜ r ≡ record { level = record { grains = q .level }; target = c .target; heat = c .heat; off = off } ⌝ }
-{
-    let level = level::Level { grains: q.level };
-    profile::Closing {
-        level,
-        target: c.target,
-        heat: c.heat,
+    profile::State {
+        level: q.level,
         off,
     }
 }
 
 // The place of an instruction; past the last one the last.
 fn place_in(at: usize) -> usize
-    ensures { λ r. ⌜ r ≡ min at 39 ⌝ }
+    ensures { λ r. ⌜ r ≡ placeIn at ⌝ }
 {
-    if at < 39 {
-        return at;
-    }
-    39
+    level::smaller_count(at, level::INSTRUCTIONS - 1)
 }
 
-// What following comes to: the walk, twice the recorded area from 06:00 to each half-hour boundary, and the closing state.
+// What following comes to: the walk, twice the recorded area from 06:00 to each half-hour boundary, and the state at the day's end.
 pub struct Followed {
     pub walk: Walk,
-    pub sums: [u64; 49],
-    pub closing: profile::Closing,
+    pub sums: [u64; level::BOUNDARIES],
+    pub end: profile::State,
 }
 
-// The first n of those that act, from the course `first` on, once along the day; each read with the state just before. Fate 7:
-// the course under way goes on. Fate 0: it ends there, and a new one begins. Of its lists a new course picks only its column and
-// its ramp.
+// At the end of a day of so many half-hours: the places past its last boundary hold 0.
+fn end_day(w: Walk, sums: [u64; level::BOUNDARIES], end: profile::State, halves: u32) -> Followed
+    requires { ⌜ halves ≤ mostHalfHours ⌝ }
+    ensures { λ r. ⌜ r ≡ ended w sums end halves ⌝ }
+{
+    let mut kept = sums;
+    let mut b = halves as usize + 1;
+    while b < level::BOUNDARIES {
+        kept[b] = 0;
+        b += 1;
+    }
+    Followed {
+        walk: w,
+        sums: kept,
+        end,
+    }
+}
+
+// The first n of those that act, from the course `first` on, once along a day of so many half-hours; each read with the state just
+// before. Fate 7: the course under way goes on. Fate 0: it ends there, and a new one begins. Of its lists a new course picks only
+// its column and its ramp.
 pub fn follow_day(
     u: records::UnitData,
     first: profile::UnderWay,
-    acts: [validation::Numbered; 40],
+    acts: [validation::Numbered; level::INSTRUCTIONS],
     n: usize,
+    halves: u32,
 ) -> Followed
-    requires { ⌜ (n ≤ 40) × Ordered (first .course .begin) (take n acts) × All LowStart (coursesFrom u first (take n acts)) ⌝ }
-    ensures { λ r. ⌜ FollowedBy u first (take n acts) r ⌝ }
+    requires { ⌜ Followable u first acts n halves ⌝ }
+    ensures { λ r. ⌜ FollowedBy u first (take n acts) halves r ⌝ }
 {
     let mut w = begin_walk(first);
     let rises = trajectory::is_rising(first.course);
     let mut l = rates::own_lists(u, first.course, rises);
     let mut g = set_out(first, l, rises, 0);
-    let mut sums = [0u64; 49];
+    let mut sums = [0u64; level::BOUNDARIES];
+    let end = level::HALF_HOUR * halves;
     loop {
         let at = w.acted;
         let o = acts[place_in(at)];
         let now = w.now;
-        let c = now.course;
-        let t = next_second(at < n, o);
-        let s = passing::pass_to(&mut sums, g.total, l, c, g.up, g.reached, g.off, t);
-        let reached = s.reached;
-        let p = reached.place;
+        let t = next_second(at < n, o, end);
+        let s = passing::pass_to(&mut sums, g.total, l, now.course, g.up, g.reached, g.off, t);
+        let p = s.reached.place;
         let q = s.ahead;
+        let state = state_at(q, s.later);
         if n <= at {
             let whole = passing::note_piece(&mut sums, s.total, g.up, p, q);
-            let closing = close_at(c, q, s.later);
-            return Followed {
-                walk: w,
-                sums,
-                closing,
-            };
+            return end_day(w, sums, state, halves);
         }
         w.acted = at + 1;
-        if effects::stays_idle(o, q.level, now.maximised) {
-            w.fates[at] = 7;
-            g = went_to(g.up, s);
-        } else {
-            let total = passing::note_piece(&mut sums, s.total, g.up, p, q);
-            let next = begin_next(u, now, o, q, s.later);
-            let d = next.course;
-            let top = w.started;
-            w.now = next;
-            w.courses[top] = d;
-            w.started = top + 1;
-            w.fates[at] = 0;
-            let up = trajectory::is_rising(d);
-            l.column = u.columns[rates::place_of(d.heat)];
-            l.ramp = rates::ramp_of(up, u.up, u.down);
-            g = set_out(next, l, up, total);
+        let out = effects::outcome_of(u, now, o, state);
+        match out {
+            profile::Outcome::Ignored => {
+                w.fates[at] = 7;
+                g = went_to(g.up, s);
+            }
+            profile::Outcome::Sets(set) => {
+                let total = passing::note_piece(&mut sums, s.total, g.up, p, q);
+                let next = effects::begin_course(u, o, set, state);
+                let d = next.course;
+                let top = w.started;
+                w.now = next;
+                w.courses[top] = d;
+                w.started = top + 1;
+                w.fates[at] = 0;
+                let up = trajectory::is_rising(d);
+                l.column = u.columns[rates::place_of(d.heat)];
+                l.ramp = rates::ramp_of(up, u.up, u.down);
+                g = set_out(next, l, up, total);
+            }
         }
     }
 }

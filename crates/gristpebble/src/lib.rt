@@ -6,50 +6,50 @@ use records::Answer;
 use records::Refusal;
 use units::UnitRead;
 
-// The records of `input` up to close are taken, each stored in place, and the listing of the day is written to the front of
+// The records of `input` up to close are taken, each put in its place, and the listing of the day is written to the front of
 // `out`. The result is the count of bytes written, or, at a refusal, its number times 2^32; then `out` is as it was. Where the
 // slice suffices for any day that records make, the listing is not measured first.
 #[no_mangle]
 pub extern "C" fn gristpebble_listing(input: &[u8], out: &mut [u8]) -> u64
     ensures { λ r. ⌜ (r ≡ listedResult (now (input .entry)) (now (out .entry))) × (now (out .exit) ≡ listedLent (now (input .entry)) (now (out .entry))) ⌝ }
 {
-    let mut d = day::empty_day();
+    let mut t = day::no_taken();
     let mut rest = input;
     while 0 < rest.len() {
         match rest[0] {
             1 => {
-                let UnitRead { answer, unit } = entering::unit_front(d.hasUnit, d.closed, rest);
+                let UnitRead { answer, unit } = entering::unit_front(t.hasUnit, false, rest);
                 if !records::is_accepted(answer) {
                     return closing::answer_result(answer);
                 }
-                d.hasUnit = true;
-                d.unit = unit;
-                rest = &rest[249..];
+                t.hasUnit = true;
+                t.unit = unit;
+                rest = &rest[records::UNIT_SIZE..];
             }
             2 => {
-                let unit = d.unit;
-                let read = entering::opening_front(d.hasUnit, d.hasOpening, d.closed, unit, rest);
+                let unit = t.unit;
+                let read = entering::opening_front(t.hasUnit, t.hasStart, false, unit, rest);
                 let answer = read.answer;
                 if !records::is_accepted(answer) {
                     return closing::answer_result(answer);
                 }
-                let opening = read.opening;
-                d.hasOpening = true;
-                d.opening = opening;
-                rest = &rest[17..];
+                let start = day::start_of(read.opening);
+                t.hasStart = true;
+                t.start = start;
+                rest = &rest[records::OPENING_SIZE..];
             }
             3 => {
-                let read = entering::instruction_front(d.hasUnit, d.closed, d.count, rest);
+                let read = entering::instruction_front(t.hasUnit, false, t.count, rest);
                 let answer = read.answer;
                 if !records::is_accepted(answer) {
                     return closing::answer_result(answer);
                 }
                 let instruction = read.instruction;
-                d.instructions[d.count] = instruction;
-                d.count += 1;
-                rest = &rest[22..];
+                t.instructions[t.count] = instruction;
+                t.count += 1;
+                rest = &rest[records::INSTRUCTION_SIZE..];
             }
-            kind => return closing::close_run(d, kind, out),
+            kind => return closing::close_run(t, kind, out),
         }
     }
     closing::answer_result(Answer::Refused(Refusal::TooFewBytes))

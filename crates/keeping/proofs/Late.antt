@@ -12,14 +12,16 @@ use lib.ListN.{length, take, drop, getD, set, length-append, List·getD-eq-defau
 use lib.Seq.{take-suc, take-suc-set, getD-take}
 use borrow.Author.Tests.{le-leb, lt-leb, eq-eqb, ne-eqb}
 use Rattle.level.specs.Choice.{pick}
+use Rattle.level.specs.Numbers.{instructionPlaces}
 use Rattle.level.specs.Lists.{some, filled}
 use Rattle.records.specs.declared.Instruction.{Instruction}
 use Rattle.validation.specs.declared.Numbered.{Numbered}
 use Rattle.validation.specs.Kept.{effectiveOf, numbered, acting, overtaken, lateFate, actors, lateMarks}
-use Rattle.choosing.specs.Working.{noNumbered, supersededAt, issueOf, Timed}
-use Rattle.keeping.specs.Late.{settleFate, settled, earliestActing, lateAt, fatesTo}
+use Rattle.choosing.specs.Working.{noNumbered, supersededAmong, issueTimeOf, Timed}
+use Rattle.checking.specs.Working.{never}
+use Rattle.keeping.specs.Late.{settleFate, settled, earliestActing, lateFateBy, fatesTo}
 use Rattle.level.proofs.Lists.{left-cons}
-use Rattle.choosing.proofs.Laws.{filled-push}
+use Rattle.level.proofs.Arrays.{filled-push}
 
 -- ---- the instructions as entered
 number-last : (k : ℕ) (is : List Instruction) (x : Instruction) → numbered k (is ++ (x ∷ [])) ≡ numbered k is ++ (record { number = k + length is; instruction = x } ∷ [])
@@ -50,7 +52,7 @@ module _ (is : List Instruction) (i : ℕ) (h : i < length is) where
       let x : Instruction = getD is i (noNumbered .instruction) in Timed (numbered 1 (take (i + 1) is)) (take (i + 1) (set times i (x .effective))) (take (i + 1) (set issues i (x .issue)))
   timed-more times issues p q t = record {
     effective = time-more effectiveOf times _ p refl (t .effective);
-    issued = time-more issueOf issues _ q refl (t .issued);
+    issued = time-more issueTimeOf issues _ q refl (t .issued);
   }
 
 -- ---- fates in an array
@@ -59,7 +61,7 @@ module _ (fates : List ℕ) (number fate : ℕ) where
   unfolding settleFate
   settle-zero e = simp (eq-eqb _ _ e)
 
-  pub settle-large : length fates ≡ 40 → 40 < number → fates ≡ settleFate fates number fate
+  pub settle-large : length fates ≡ instructionPlaces → instructionPlaces ≤ number - 1 → fates ≡ settleFate fates number fate
   unfolding settleFate
   settle-large l h =
       let n : number ≡ 0 → ⊥ = omega arith in
@@ -81,16 +83,16 @@ leb-min e a own = elim (decLe a own) [
 ]
 
 -- one of those after it acts no later exactly where the earliest of them does
-overtaken-is : (o : Numbered) (os : List Numbered) → acting o < 8589934592 → overtaken o os ≡ leb (earliestActing os) (acting o)
+overtaken-is : (o : Numbered) (os : List Numbered) → acting o < never → overtaken o os ≡ leb (earliestActing os) (acting o)
 unfolding overtaken some earliestActing
-overtaken-is o [] h = sym (lt-leb 8589934592 (acting o) h)
+overtaken-is o [] h = sym (lt-leb never (acting o) h)
 overtaken-is o (l ∷ os) h = ap (λ (b : Bool). leb (acting l) (acting o) || b) (overtaken-is o os h) ∙ leb-min (earliestActing os) (acting l) (acting o)
 
-pub late-is : (end own earliest : ℕ) (o : Numbered) (os : List Numbered) → own ≡ acting o → own < 8589934592 → earliest ≡ earliestActing os → lateAt end own earliest ≡ lateFate end o os
-unfolding lateAt lateFate
+pub late-is : (end own earliest : ℕ) (o : Numbered) (os : List Numbered) → own ≡ acting o → own < never → earliest ≡ earliestActing os → lateFateBy end own earliest ≡ lateFate end o os
+unfolding lateFateBy lateFate
 late-is end own earliest o os e h k = rw (k, e, overtaken-is o os (rw e at h))
 
-pub acting-none : {os : List Numbered} → os ≡ [] → earliestActing os ≡ 8589934592
+pub acting-none : {os : List Numbered} → os ≡ [] → earliestActing os ≡ never
 unfolding earliestActing
 acting-none e = rw e
 
@@ -126,20 +128,20 @@ module _ (times issues later : List ℕ) where
   fates-count zero = refl
   fates-count (suc i) = simp length-append (omega (arith, fates-count i))
 
-  fates-step : (i : ℕ) → fatesTo times issues later (i + 1) ≡ fatesTo times issues later i ++ (pick (supersededAt times issues (getD times i 0) (getD issues i 0)) 1 (getD later i 0) ∷ [])
+  fates-step : (i : ℕ) → fatesTo times issues later (i + 1) ≡ fatesTo times issues later i ++ (pick (supersededAmong times issues (getD times i 0) (getD issues i 0)) 1 (getD later i 0) ∷ [])
   unfolding fatesTo
   fates-step i = rw add-one
 
-pub fates-more : (ts js : List ℕ) (n i : ℕ) (later : List ℕ) → i < n → i < 40 →
-    set (filled 40 0 (fatesTo (take n ts) (take n js) later i)) i (pick (supersededAt (take n ts) (take n js) (getD ts i 0) (getD js i 0)) 1 (getD later i 0)) ≡ filled 40 0 (fatesTo (take n ts) (take n js) later (i + 1))
+pub fates-more : (ts js : List ℕ) (n i : ℕ) (later : List ℕ) → i < n → i < instructionPlaces →
+    set (filled instructionPlaces 0 (fatesTo (take n ts) (take n js) later i)) i (pick (supersededAmong (take n ts) (take n js) (getD ts i 0) (getD js i 0)) 1 (getD later i 0)) ≡ filled instructionPlaces 0 (fatesTo (take n ts) (take n js) later (i + 1))
 fates-more ts js n i later h k =
     let xs = fatesTo (take n ts) (take n js) later i in
-    let v : ℕ = pick (supersededAt (take n ts) (take n js) (getD ts i 0) (getD js i 0)) 1 (getD later i 0) in
+    let v : ℕ = pick (supersededAmong (take n ts) (take n js) (getD ts i 0) (getD js i 0)) 1 (getD later i 0) in
     let e : length xs ≡ i = fates-count (take n ts) (take n js) later i in
-    let p : set (filled 40 0 xs) i v ≡ filled 40 0 (xs ++ (v ∷ [])) = ap (λ (j : ℕ). set (filled 40 0 xs) j v) (sym e) ∙ filled-push 0 40 xs v (omega arith) in
+    let p : set (filled instructionPlaces 0 xs) i v ≡ filled instructionPlaces 0 (xs ++ (v ∷ [])) = ap (λ (j : ℕ). set (filled instructionPlaces 0 xs) j v) (sym e) ∙ filled-push 0 instructionPlaces xs v (omega arith) in
     let a : getD ts i 0 ≡ getD (take n ts) i 0 = sym (getD-take n ts i 0 h) in
     let b : getD js i 0 ≡ getD (take n js) i 0 = sym (getD-take n js i 0 h) in
-    p ∙ ap (filled 40 0) ((λ q. xs ++ (pick (supersededAt (take n ts) (take n js) (a q) (b q)) 1 (getD later i 0) ∷ [])) ∙ sym (fates-step (take n ts) (take n js) later i))
+    p ∙ ap (filled instructionPlaces 0) ((λ q. xs ++ (pick (supersededAmong (take n ts) (take n js) (a q) (b q)) 1 (getD later i 0) ∷ [])) ∙ sym (fates-step (take n ts) (take n js) later i))
 
 pub actors-none : {os : List Numbered} (end : ℕ) → os ≡ [] → actors end os ≡ []
 unfolding actors

@@ -1,27 +1,26 @@
 -- The arrays of fates read like the definition's marks; the steps together.
 -- Assumes nothing.
 use mathlib.Core.Path.{_≡_, refl, sym, ap, _∙_}
-use mathlib.Core.List.{List, [], _∷_, _++_, map, append-assoc, append-nil}
+use mathlib.Core.List.{List, [], _∷_, _++_, append-assoc, append-nil}
 use mathlib.Core.Bool.{Bool, true, false}
 use mathlib.Core.Logic.{_⊎_, inl, inr}
 use Prim.Native.Nat.{ℕ, zero, suc, _+_, _-_, _≤_, _<_, min}
 use native.Mathlib.Decide.{ℕ-discrete, decLe}
 use native.Mathlib.Omega.{arith}
-use lib.Dec.{leb, eqb}
+use lib.Dec.{eqb}
 use lib.ListN.{length, take, getD, replicate, length-set, getD-replicate, length-take}
 use lib.Seq.{take-suc, take-all, getD-set-same, getD-set-other}
 use borrow.Author.Tests.{eq-eqb, ne-eqb}
 use Rattle.level.specs.Choice.{pick}
-use Rattle.level.specs.Lists.{All, filled}
-use Rattle.records.specs.declared.Effect.the-variants.{Fail}
+use Rattle.level.specs.Numbers.{instructionPlaces}
+use Rattle.level.specs.Lists.{filled}
 use Rattle.records.specs.declared.Instruction.{Instruction}
-use Rattle.records.specs.Codes.{same}
 use Rattle.validation.specs.declared.Numbered.{Numbered}
-use Rattle.validation.specs.Kept.{effectiveOf, effectOf, numbered, Mark, mark, superseded, repeats, syncWithinHour, fromSync, beforeSync, Checked, failed, checkOne, check, usedFrom, used, acting, overtaken, lateFate, actors, lateMarks, turned, keptOf, validated, fateAmong, fatesOf}
-use Rattle.validation.proofs.Few.{numbered-length}
+use Rattle.validation.specs.Kept.{numbered, Mark, superseded, Checked, check, usedFrom, used, acting, actors, lateMarks, turned, keptOf, validated, fateAmong, fatesOf}
+use Rattle.validation.proofs.Few.{numbered-length, Fated, fated-append, checked-fated, late-fated}
 use Rattle.choosing.specs.declared.Sequence.{Sequence}
 use Rattle.keeping.specs.declared.Validation.{Validation}
-use Rattle.choosing.specs.Working.{noNumbered, holding, Timed, supersededAt}
+use Rattle.choosing.specs.Working.{noNumbered, sequenceOf, Timed, supersededAmong}
 use Rattle.keeping.specs.Outcome.{outcomeOf, validationOf}
 use Rattle.keeping.specs.Late.{settleFate, settled, fatesTo}
 use Rattle.checking.specs.Working.{Checking, setFate, marked, noneChecked, Tracks}
@@ -32,22 +31,22 @@ use Rattle.checking.proofs.Steps.{set-zero, set-some}
 
 -- the array has at each place the fate of the number one above
 pub record Reads (fates : List ℕ) (ms : List Mark) : Type 0 where
-  pub long : length fates ≡ 40
-  pub at : (i : ℕ) → i < 40 → getD fates i 0 ≡ fateAmong (i + 1) ms
+  pub long : length fates ≡ instructionPlaces
+  pub at : (i : ℕ) → i < instructionPlaces → getD fates i 0 ≡ fateAmong (i + 1) ms
 
-reads-none : Reads (replicate 40 2) []
+reads-none : Reads (replicate instructionPlaces 2) []
 unfolding fateAmong
-reads-none = record { long = refl; at = λ i h. getD-replicate 40 i 2 0 h }
+reads-none = record { long = refl; at = λ i h. getD-replicate instructionPlaces i 2 0 h }
 
 -- ---- one more mark in front sets one fate
 module _ (fates : List ℕ) (ms : List Mark) (r : Reads fates ms) (m : Mark) where
-  set-long : length (setFate fates (m .number) (m .fate)) ≡ 40
+  set-long : length (setFate fates (m .number) (m .fate)) ≡ instructionPlaces
   set-long = elim (ℕ-discrete (m .number) 0) [
     | yes z ↦ ap length (sym (set-zero fates (m .number) (m .fate) z)) ∙ r .long
     | no z ↦ ap length (sym (set-some fates (m .number) (m .fate) z)) ∙ (length-set fates (m .number - 1) (m .fate) ∙ r .long)
   ]
 
-  set-at : (i : ℕ) → i < 40 → getD (setFate fates (m .number) (m .fate)) i 0 ≡ pick (eqb (m .number) (i + 1)) (m .fate) (fateAmong (i + 1) ms)
+  set-at : (i : ℕ) → i < instructionPlaces → getD (setFate fates (m .number) (m .fate)) i 0 ≡ pick (eqb (m .number) (i + 1)) (m .fate) (fateAmong (i + 1) ms)
   set-at i h = elim (ℕ-discrete (m .number) (i + 1)) [
     | yes e ↦
         let z : m .number ≡ 0 → ⊥ = omega arith in
@@ -56,7 +55,7 @@ module _ (fates : List ℕ) (ms : List Mark) (r : Reads fates ms) (m : Mark) whe
     | no n ↦ rw (ne-eqb (m .number) (i + 1) n) (other i h n (ℕ-discrete (m .number) 0))
   ]
     where
-      other : (i : ℕ) → i < 40 → (m .number ≡ i + 1 → ⊥) → Dec (m .number ≡ 0) → getD (setFate fates (m .number) (m .fate)) i 0 ≡ fateAmong (i + 1) ms
+      other : (i : ℕ) → i < instructionPlaces → (m .number ≡ i + 1 → ⊥) → Dec (m .number ≡ 0) → getD (setFate fates (m .number) (m .fate)) i 0 ≡ fateAmong (i + 1) ms
       other i h n (yes z) = rw (← set-zero fates (m .number) (m .fate) z) (r .at i h)
       other i h n (no z) = rw (← set-some fates (m .number) (m .fate) z) (getD-set-other fates (m .number - 1) i (m .fate) 0 (λ q. n (omega arith)) ∙ r .at i h)
 
@@ -64,14 +63,17 @@ reads-set : (fates : List ℕ) (ms : List Mark) → Reads fates ms → (m : Mark
 unfolding fateAmong
 reads-set fates ms r m = record { long = set-long fates ms r m; at = set-at fates ms r m }
 
-pub reads-marked : (ms : List Mark) → Reads (marked (replicate 40 2) ms) ms
+pub reads-marked : (ms : List Mark) → Reads (marked (replicate instructionPlaces 2) ms) ms
 unfolding marked
 reads-marked [] = reads-none
-reads-marked (m ∷ ms) = reads-set (marked (replicate 40 2) ms) ms (reads-marked ms) m
+reads-marked (m ∷ ms) = reads-set (marked (replicate instructionPlaces 2) ms) ms (reads-marked ms) m
 
 -- ---- one more mark at the end counts where none before it settles the number
-abbrev pub NoTwo : List Mark → Type 0
-NoTwo ms = All (λ (m : Mark). m .fate ≡ 2 → ⊥) ms
+abbrev NotTwo : ℕ → Type 0
+NotTwo f = f ≡ 2 → ⊥
+
+abbrev NoTwo : List Mark → Type 0
+NoTwo ms = Fated NotTwo ms
 
 among-last : (k : ℕ) (ms : List Mark) (m : Mark) → NoTwo ms → fateAmong k (ms ++ (m ∷ [])) ≡ pick (eqb (fateAmong k ms) 2) (pick (eqb (m .number) k) (m .fate) 2) (fateAmong k ms)
 unfolding fateAmong
@@ -85,7 +87,7 @@ among-last k (x ∷ xs) m n = go (eqb (x .number) k) (among-last k xs m (n .1))
 
 module _ (fates : List ℕ) (ms : List Mark) (r : Reads fates ms) (none : NoTwo ms) (m : Mark) where
   -- where it is another number, or the number is settled
-  kept-fate : (i : ℕ) → i < 40 → (m .number ≡ i + 1 → ⊥) ⊎ (getD fates i 0 ≡ 2 → ⊥) → getD (settleFate fates (m .number) (m .fate)) i 0 ≡ getD fates i 0
+  kept-fate : (i : ℕ) → i < instructionPlaces → (m .number ≡ i + 1 → ⊥) ⊎ (getD fates i 0 ≡ 2 → ⊥) → getD (settleFate fates (m .number) (m .fate)) i 0 ≡ getD fates i 0
   kept-fate i h q = elim (ℕ-discrete (m .number) 0) [
     | yes z ↦ rw (← settle-zero fates (m .number) (m .fate) z)
     | no z ↦ settled-or z (ℕ-discrete (getD fates (m .number - 1) 0) 2) q
@@ -96,7 +98,7 @@ module _ (fates : List ℕ) (ms : List Mark) (r : Reads fates ms) (none : NoTwo 
       settled-or z (yes d) (inl n) = rw (← settle-some fates (m .number) (m .fate) z d) (getD-set-other fates (m .number - 1) i (m .fate) 0 (λ e. n (omega arith)))
       settled-or z (yes d) (inr n) = rw (← settle-some fates (m .number) (m .fate) z d) (getD-set-other fates (m .number - 1) i (m .fate) 0 (λ e. n (rw (← e) at d)))
 
-  settle-long : length (settleFate fates (m .number) (m .fate)) ≡ 40
+  settle-long : length (settleFate fates (m .number) (m .fate)) ≡ instructionPlaces
   settle-long = elim (ℕ-discrete (m .number) 0) [
     | yes z ↦ ap length (sym (settle-zero fates (m .number) (m .fate) z)) ∙ r .long
     | no z ↦ elim (ℕ-discrete (getD fates (m .number - 1) 0) 2) [
@@ -105,7 +107,7 @@ module _ (fates : List ℕ) (ms : List Mark) (r : Reads fates ms) (none : NoTwo 
     ]
   ]
 
-  settle-at : (i : ℕ) → i < 40 → getD (settleFate fates (m .number) (m .fate)) i 0 ≡ pick (eqb (getD fates i 0) 2) (pick (eqb (m .number) (i + 1)) (m .fate) 2) (getD fates i 0)
+  settle-at : (i : ℕ) → i < instructionPlaces → getD (settleFate fates (m .number) (m .fate)) i 0 ≡ pick (eqb (getD fates i 0) 2) (pick (eqb (m .number) (i + 1)) (m .fate) 2) (getD fates i 0)
   settle-at i h = elim (ℕ-discrete (getD fates i 0) 2) [
     | no d ↦ rw (ne-eqb (getD fates i 0) 2 d) (kept-fate i h (inr d))
     | yes d ↦ rw (eq-eqb (getD fates i 0) 2 d) (unsettled d (ℕ-discrete (m .number) (i + 1)))
@@ -125,51 +127,12 @@ module _ (fates : List ℕ) (ms : List Mark) (r : Reads fates ms) (none : NoTwo 
     at = λ i h. settle-at i h ∙ (ap (λ (k : ℕ). pick (eqb k 2) (pick (eqb (m .number) (i + 1)) (m .fate) 2) k) (r .at i h) ∙ sym (among-last (i + 1) ms m none));
   }
 
-no-two-append : (xs ys : List Mark) → NoTwo xs → NoTwo ys → NoTwo (xs ++ ys)
-no-two-append [] ys p q = q
-no-two-append (x ∷ xs) ys p q = (p .0, no-two-append xs ys (p .1) q)
-
 pub reads-settled : (fates : List ℕ) (ms ls : List Mark) → Reads fates ms → NoTwo ms → NoTwo ls → Reads (settled fates ls) (ms ++ ls)
 unfolding settled
 reads-settled fates ms [] r n k = rw append-nil r
 reads-settled fates ms (l ∷ ls) r n k =
     rw append-assoc at
-    (reads-settled (settleFate fates (l .number) (l .fate)) (ms ++ (l ∷ [])) ls (reads-settle fates ms r n l) (no-two-append ms (l ∷ []) n (k .0, tt)) (k .1))
-
--- ---- no mark of steps 3 and 4 has fate 2
-fours : (ks : List Numbered) → NoTwo (map (mark 4) ks)
-fours [] = tt
-fours (k ∷ ks) = (omega arith, fours ks)
-
-check-one-none : (s : Checked) (o : Numbered) → NoTwo (s .marks) → NoTwo (checkOne s o .marks)
-unfolding checkOne failed
-check-one-none s o d = go (same (effectOf o) Fail) (syncWithinHour (effectiveOf o) (s .kept)) (repeats o (s .kept))
-  where
-    go : (a b c : Bool) →
-        let x : Checked = record { kept = beforeSync (s .kept); marks = mark 5 o ∷ (map (mark 4) (fromSync (s .kept)) ++ s .marks) } in
-        let y : Checked = record { kept = s .kept; marks = mark 5 o ∷ s .marks } in
-        let z : Checked = record { kept = s .kept; marks = mark 3 o ∷ s .marks } in
-        let w : Checked = record { kept = o ∷ s .kept; marks = s .marks } in
-        NoTwo (pick a (pick b x y) (pick c z w) .marks)
-    go true true c = (omega arith, no-two-append (map (mark 4) (fromSync (s .kept))) (s .marks) (fours (fromSync (s .kept))) d)
-    go true false c = (omega arith, d)
-    go false b true = (omega arith, d)
-    go false b false = d
-
-check-none-two : (s : Checked) (os : List Numbered) → NoTwo (s .marks) → NoTwo (check s os .marks)
-unfolding check
-check-none-two s [] d = d
-check-none-two s (o ∷ os) d = check-none-two (checkOne s o) os (check-one-none s o d)
-
-late-none-two : (end : ℕ) (os : List Numbered) → NoTwo (lateMarks end os)
-unfolding lateMarks lateFate
-late-none-two end [] = tt
-late-none-two end (o ∷ os) = (go (overtaken o os) (leb end (acting o)), late-none-two end os)
-  where
-    go : (a b : Bool) → _≡_ {A = ℕ} (pick a 6 (pick b 8 0)) 2 → ⊥
-    go true b = omega arith
-    go false true = omega arith
-    go false false = omega arith
+    (reads-settled (settleFate fates (l .number) (l .fate)) (ms ++ (l ∷ [])) ls (reads-settle fates ms r n l) (fated-append NotTwo ms (l ∷ []) n (k .0, tt)) (k .1))
 
 -- ---- the fates by number
 pub number-at : (k : ℕ) (is : List Instruction) (i : ℕ) → i < length is → getD (numbered k is) i noNumbered .number ≡ k + i
@@ -183,7 +146,7 @@ unfolding fatesOf
 fates-last all ms [] x = refl
 fates-last all ms (y ∷ ys) x = ap (λ (l : List ℕ). pick (superseded all y) 1 (fateAmong (y .number) ms) ∷ l) (fates-last all ms ys x)
 
-module _ (is : List Instruction) (few : length is ≤ 40) (times issues : List ℕ) (timed : Timed (numbered 1 is) times issues) (later : List ℕ) (ms : List Mark) (r : Reads later ms) where
+module _ (is : List Instruction) (few : length is ≤ instructionPlaces) (times issues : List ℕ) (timed : Timed (numbered 1 is) times issues) (later : List ℕ) (ms : List Mark) (r : Reads later ms) where
   fates-upto : (i : ℕ) → i ≤ length is → fatesTo times issues later i ≡ fatesOf (numbered 1 is) ms (take i (numbered 1 is))
   unfolding fatesTo fatesOf
   fates-upto zero h = refl
@@ -192,7 +155,7 @@ module _ (is : List Instruction) (few : length is ≤ 40) (times issues : List �
       let o = getD os i noNumbered in
       let n : i + 1 ≡ o .number = omega (arith, number-at 1 is i h) in
       let e : getD later i 0 ≡ fateAmong (o .number) ms = r .at i (omega arith) ∙ ap (λ (k : ℕ). fateAmong k ms) n in
-      let u : supersededAt times issues (getD times i 0) (getD issues i 0) ≡ superseded os o = superseded-at timed i in
+      let u : supersededAmong times issues (getD times i 0) (getD issues i 0) ≡ superseded os o = superseded-at timed i in
       let ih : fatesTo times issues later i ≡ fatesOf os ms (take i os) = fates-upto i (omega arith) in
       (λ j. ih j ++ (pick (u j) 1 (e j) ∷ []))
       ∙ (sym (fates-last os ms (take i os) o) ∙ ap (fatesOf os ms) (sym (take-suc os i noNumbered (omega (arith, numbered-length 1 is)))))
@@ -217,17 +180,17 @@ module _ (end : ℕ) (os : List Numbered) (s : Checking) (t : Tracks s (check no
       let m : Checked = check noneChecked (used end os) in
       let ls = lateMarks end (turned (m .kept) []) in
       rw (in-order, t .settled)
-      (reads-settled (marked (replicate 40 2) (m .marks)) (m .marks) ls (reads-marked (m .marks)) (check-none-two noneChecked (used end os) tt) (late-none-two end (turned (m .kept) [])))
+      (reads-settled (marked (replicate instructionPlaces 2) (m .marks)) (m .marks) ls (reads-marked (m .marks)) (checked-fated NotTwo (omega arith) (omega arith) (omega arith) noneChecked (used end os) tt) (late-fated NotTwo (omega arith) (omega arith) (omega arith) end (turned (m .kept) [])))
 
 -- what the code puts together
 abbrev pub result : ℕ → List ℕ → List ℕ → Checking → ℕ → Validation
 result end times issues s n = record {
-  fates = filled 40 0 (fatesTo times issues (settled (s .fates) (lateMarks end (take (s .height) (s .kept)))) n);
-  acts = filled 40 noNumbered (actors end (take (s .height) (s .kept)));
+  fates = filled instructionPlaces 0 (fatesTo times issues (settled (s .fates) (lateMarks end (take (s .height) (s .kept)))) n);
+  acts = filled instructionPlaces noNumbered (actors end (take (s .height) (s .kept)));
   acting = length (actors end (take (s .height) (s .kept)));
 }
 
-outcome-is : (end : ℕ) (is : List Instruction) → length is ≤ 40 → (times issues : List ℕ) → Timed (numbered 1 is) times issues → (s : Checking) → Tracks s (check noneChecked (used end (numbered 1 is))) → s .height ≤ length (s .kept) →
+outcome-is : (end : ℕ) (is : List Instruction) → length is ≤ instructionPlaces → (times issues : List ℕ) → Timed (numbered 1 is) times issues → (s : Checking) → Tracks s (check noneChecked (used end (numbered 1 is))) → s .height ≤ length (s .kept) →
     result end times issues s (length is) ≡ outcomeOf (numbered 1 is) end
 unfolding outcomeOf
 outcome-is end is few times issues timed s t fits =
@@ -235,19 +198,19 @@ outcome-is end is few times issues timed s t fits =
     let later = settled (s .fates) (lateMarks end (take (s .height) (s .kept))) in
     let f : fatesTo times issues later (length is) ≡ fatesOf os (validated end os .marks) os = fates-all is few times issues timed later (validated end os .marks) (marks-are end os s t fits) in
     let a : actors end (take (s .height) (s .kept)) ≡ validated end os .acts = acts-are end os s t fits in
-    λ j. record { fates = filled 40 0 (f j); acts = filled 40 noNumbered (a j); acting = length (a j) }
+    λ j. record { fates = filled instructionPlaces 0 (f j); acts = filled instructionPlaces noNumbered (a j); acting = length (a j) }
 
 -- of the numbered ones os, the first n of the instructions
-module _ (is : List Instruction) (count end n : ℕ) (all : length is ≡ 40) (m : n ≡ min count 40) where
+module _ (is : List Instruction) (count end n : ℕ) (all : length is ≡ instructionPlaces) (m : n ≡ min count instructionPlaces) where
   entered : take n is ≡ take count is
-  entered = elim (decLe count 40) [
+  entered = elim (decLe count instructionPlaces) [
     | yes h ↦ let e : n ≡ count = omega arith in rw e
     | no h ↦
-        let e : n ≡ 40 = omega arith in
-        rw e (take-all 40 is (omega arith) ∙ sym (take-all count is (omega arith)))
+        let e : n ≡ instructionPlaces = omega arith in
+        rw e (take-all instructionPlaces is (omega arith) ∙ sym (take-all count is (omega arith)))
   ]
 
-  pub validation-is : (times issues : List ℕ) → Timed (numbered 1 (take n is)) times issues → (used-ones : Sequence) → used-ones ≡ holding (used end (numbered 1 (take n is))) → used-ones .count ≤ 40 →
+  pub validation-is : (times issues : List ℕ) → Timed (numbered 1 (take n is)) times issues → (used-ones : Sequence) → used-ones ≡ sequenceOf (used end (numbered 1 (take n is))) → used-ones .count ≤ instructionPlaces →
       (s : Checking) → Tracks s (check noneChecked (take (used-ones .count) (used-ones .items))) → s .height ≤ length (s .kept) →
       result end times issues s n ≡ validationOf is count end
   unfolding validationOf
@@ -257,6 +220,6 @@ module _ (is : List Instruction) (count end n : ℕ) (all : length is ≡ 40) (m
       ∙ (outcome-is end (take n is) (omega arith) times issues timed s (rw (held q c) at t) fits ∙ ap (λ (l : List Instruction). outcomeOf (numbered 1 l) end) entered)
 
 -- none entered
-pub none-entered : (is : List Instruction) (count end : ℕ) → count ≡ 0 → record { fates = replicate 40 0; acts = replicate 40 noNumbered; acting = 0 } ≡ validationOf is count end
+pub none-entered : (is : List Instruction) (count end : ℕ) → count ≡ 0 → record { fates = replicate instructionPlaces 0; acts = replicate instructionPlaces noNumbered; acting = 0 } ≡ validationOf is count end
 unfolding validationOf outcomeOf numbered validated keptOf used usedFrom check turned actors lateMarks fatesOf filled
 none-entered is count end e = rw e refl

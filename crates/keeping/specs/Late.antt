@@ -6,20 +6,22 @@ use mathlib.Core.List.{List, [], _∷_, _++_}
 use lib.Dec.{leb, eqb}
 use lib.ListN.{length, take, drop, set, getD}
 use Rattle.level.specs.Choice.{pick}
+use Rattle.level.specs.Numbers.{instructionPlaces}
 use Rattle.level.specs.Lists.{filled}
 use Rattle.validation.specs.declared.Numbered.{Numbered}
 use Rattle.validation.specs.Kept.{Mark, acting, lateFate}
-use Rattle.choosing.specs.Working.{noNumbered, supersededAt}
+use Rattle.choosing.specs.Working.{noNumbered, supersededAmong}
+use Rattle.checking.specs.Working.{never}
 use Rattle.keeping.specs.declared.Validation.{Validation}
 
 -- the earliest acting time of these; where there is none, one later than any
 unfoldable pub earliestActing : List Numbered → ℕ
-earliestActing [] = 8589934592
+earliestActing [] = never
 earliestActing (o ∷ os) = min (earliestActing os) (acting o)
 
--- the fate of one that acts at the time own, by the earliest acting time of those after it
-unfoldable pub lateAt : ℕ → ℕ → ℕ → ℕ
-lateAt end own earliest = pick (leb earliest own) 6 (pick (leb end own) 8 0)
+-- the fate of one that acts at the time own, by the earliest acting time of those after it: `lateFate` of the validation, over the times (`late-is`, proofs/Late, equates them)
+unfoldable pub lateFateBy : ℕ → ℕ → ℕ → ℕ
+lateFateBy end own earliest = pick (leb earliest own) 6 (pick (leb end own) 8 0)
 
 -- these are step 4's fates of the first n kept, by their places
 abbrev pub LateFates : ℕ → List Numbered → ℕ → List ℕ → Type 0
@@ -35,9 +37,9 @@ settled fates (m ∷ ms) = settled (settleFate fates (m .number) (m .fate)) ms
 
 -- those that act, with the fates of all
 abbrev pub actingWith : List ℕ → List Numbered → Validation
-actingWith fates acts = record { fates = fates; acts = filled 40 noNumbered acts; acting = length acts }
+actingWith fates acts = record { fates = fates; acts = filled instructionPlaces noNumbered acts; acting = length acts }
 
 -- the first i fates, by the times and by what the later steps say
 unfoldable pub fatesTo : List ℕ → List ℕ → List ℕ → ℕ → List ℕ
 fatesTo times issues later zero = []
-fatesTo times issues later (suc i) = fatesTo times issues later i ++ (pick (supersededAt times issues (getD times i 0) (getD issues i 0)) 1 (getD later i 0) ∷ [])
+fatesTo times issues later (suc i) = fatesTo times issues later i ++ (pick (supersededAmong times issues (getD times i 0) (getD issues i 0)) 1 (getD later i 0) ∷ [])

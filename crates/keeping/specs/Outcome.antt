@@ -3,6 +3,7 @@
 use Prim.Native.Nat.{ℕ}
 use mathlib.Core.List.{List}
 use lib.ListN.{length, take}
+use Rattle.level.specs.Numbers.{instructionPlaces}
 use Rattle.level.specs.Lists.{filled}
 use Rattle.records.specs.declared.Instruction.{Instruction}
 use Rattle.validation.specs.declared.Numbered.{Numbered}
@@ -13,8 +14,8 @@ use Rattle.keeping.specs.declared.Validation.{Validation}
 -- of the numbered ones: the fates by number, those that act in time order, and how many these are
 unfoldable pub outcomeOf : List Numbered → ℕ → Validation
 outcomeOf os end = record {
-  fates = filled 40 0 (fatesOf os (validated end os .marks) os);
-  acts = filled 40 noNumbered (validated end os .acts);
+  fates = filled instructionPlaces 0 (fatesOf os (validated end os .marks) os);
+  acts = filled instructionPlaces noNumbered (validated end os .acts);
   acting = length (validated end os .acts);
 }
 

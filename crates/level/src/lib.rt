@@ -9,10 +9,13 @@ ghost use Rattle.level.specs.Level.{fromKw};
 pub const HALF_HOUR: u32 = 1800;
 // The half-hours, and the seconds, of the longest day that there is; its boundaries are one more than its half-hours.
 pub const MOST_HALF_HOURS: u32 = 48;
+
 pub const MOST_SECONDS: u32 = HALF_HOUR * MOST_HALF_HOURS;
+
 pub const BOUNDARIES: usize = MOST_HALF_HOURS as usize + 1;
 // Places for instructions, and for courses: one for each instruction, and that of the start.
 pub const INSTRUCTIONS: usize = 40;
+
 pub const COURSES: usize = INSTRUCTIONS + 1;
 
 // ---- levels

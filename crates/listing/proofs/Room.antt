@@ -7,13 +7,14 @@ use lib.Dec.{eqb}
 use lib.ListN.{length, length-append}
 use Rattle.level.specs.Level.{grains}
 use Rattle.level.specs.Lists.{All}
+use Rattle.level.specs.Numbers.{mostSeconds, mostHalfHours, instructionPlaces}
 use Rattle.course.specs.declared.Piece.{Piece}
 use Rattle.profile.specs.declared.Closing.{Closing}
 use Rattle.profile.proofs.Room.{PieceBelow, ClosingBelow}
 use Rattle.lines.specs.Lines.{qLine, eLine}
 use Rattle.lines.proofs.Widths.{f-length, s-length, q-length, e-length}
 use Rattle.text.proofs.Laws.{decimal-width}
-use Rattle.listing.specs.Listing.{fLines, sLines, runLines, qLines, listing}
+use Rattle.listing.specs.Listing.{fLines, sLines, runLines, qLines, listing, suffices}
 use Rattle.level.proofs.Lists.{by-bool}
 
 f-width : (n : ℕ) (fates : List ℕ) → n + length fates ≤ 100 → All (λ (f : ℕ). f ≤ 8) fates → length (fLines n fates) ≤ 7 * length fates
@@ -28,7 +29,7 @@ f-width n (f ∷ fates) h b =
       decimal-width 0 f (omega (arith, b .0)),
     ))
 
-s-width : (ps : List Piece) → All (PieceBelow 86400 120000000) ps → length (sLines ps) ≤ 34 * length ps
+s-width : (ps : List Piece) → All (PieceBelow mostSeconds 120000000) ps → length (sLines ps) ≤ 34 * length ps
 unfolding sLines
 s-width [] b = omega arith
 s-width (p ∷ ps) b =
@@ -53,7 +54,7 @@ runs-width first last k (x ∷ qs) p r h b =
     (λ e. simp e (omega (arith, runs-width first (suc last) k qs (omega arith) (omega arith) h (b .1))))
     (λ e. simp (e, length-append) (omega (arith, q-width first last k (omega arith) (omega arith) h, runs-width (suc last) (suc last) x qs (omega arith) (omega arith) (b .0) (b .1))))
 
-qs-width : (qs : List ℕ) → length qs ≤ 48 → All (λ (q : ℕ). q ≤ 2000000) qs → length (qLines qs) ≤ 16 * length qs
+qs-width : (qs : List ℕ) → length qs ≤ mostHalfHours → All (λ (q : ℕ). q ≤ 2000000) qs → length (qLines qs) ≤ 16 * length qs
 unfolding qLines
 qs-width [] l b = omega arith
 qs-width (q ∷ qs) l b = runs-width 1 1 q qs (omega arith) (omega arith) (b .0) (b .1)
@@ -71,8 +72,8 @@ e-width m e h b =
     )
 
 pub enough : (fates : List ℕ) (ps : List Piece) (qs : List ℕ) (e : Closing) (m : ℕ) → m ≤ 2000000
-    → length fates ≤ 40 → length ps ≤ 1312 → length qs ≤ 48 → All (λ (f : ℕ). f ≤ 8) fates → All (PieceBelow 86400 120000000) ps → All (λ (q : ℕ). q ≤ 2000000) qs → ClosingBelow m e
-    → length (listing fates ps qs e) ≤ 46080
+    → length fates ≤ instructionPlaces → length ps ≤ 1312 → length qs ≤ mostHalfHours → All (λ (f : ℕ). f ≤ 8) fates → All (PieceBelow mostSeconds 120000000) ps → All (λ (q : ℕ). q ≤ 2000000) qs → ClosingBelow m e
+    → length (listing fates ps qs e) ≤ suffices
 unfolding listing
 enough fates ps qs e m h f p q bf bp bq be =
     simp length-append (omega (arith, f-width 1 fates (omega arith) bf, s-width ps bp, qs-width qs q bq, e-width m e h be))

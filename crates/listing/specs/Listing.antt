@@ -13,7 +13,7 @@ use Rattle.course.specs.declared.Piece.{Piece}
 use Rattle.profile.specs.declared.Closing.{Closing}
 use Rattle.profile.specs.Profile.{spansOf, dayPieces}
 use Rattle.day.specs.declared.Day.{Day}
-use Rattle.day.specs.Day.{daySeconds, fatesIn, coursesIn, quantitiesIn}
+use Rattle.day.specs.Day.{daySeconds, fatesIn, coursesIn, quantitiesIn, closingIn}
 use Rattle.lines.specs.Lines.{fLine, sLine, qLine, eLine}
 use Rattle.text.specs.Text.{laid}
 use Rattle.listing.specs.declared.Listed.{Listed}
@@ -44,7 +44,11 @@ listing fates pieces quantities e =
 
 -- the listing of a day
 unfoldable pub printedDay : Day → List ℕ
-printedDay d = listing (fatesIn d) (dayPieces (spansOf (d .unit) daySeconds (coursesIn d))) (quantitiesIn d) (d .closing)
+printedDay d = listing (fatesIn d) (dayPieces (spansOf (d .taken .unit) daySeconds (coursesIn d))) (quantitiesIn d) (closingIn d)
+
+-- "46,080 bytes always suffice"
+abbrev pub suffices : ℕ
+suffices = 46080
 
 -- ---- asking for it, with a lent slice o
 

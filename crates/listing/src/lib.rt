@@ -5,3 +5,6 @@ pub struct Listed {
     pub answer: records::Answer,
     pub count: usize,
 }
+
+// "46,080 bytes always suffice": for the listing of any day that records make.
+pub const SUFFICES: usize = 46080;

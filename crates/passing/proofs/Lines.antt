@@ -6,11 +6,12 @@ use mathlib.Core.List.{List}
 use native.Mathlib.Nat.{mul-le-mul-left, mul-le-mul-right, zero-mul, div-eq-of-eq-mul-right}
 use native.Mathlib.Omega.{arith}
 use lib.ListN.{length, set}
+use Rattle.level.specs.Numbers.{halfHour, mostHalfHours, mostSeconds, boundaryPlaces, levelBound}
 use Rattle.course.specs.Course.{Heading, rising, falling, toward, gap}
 use Rattle.course.proofs.Pieces.{Along}
 use Rattle.trajectory.specs.declared.Place.{Place}
 use Rattle.trajectory.specs.Walk.{Reaches}
-use Rattle.passing.specs.Passing.{Summed, summed, Adds, Fits, lineTwice, lineFrom, pieceFrom, StaysLow, Straight}
+use Rattle.passing.specs.Passing.{Summed, summed, Adds, Fits, lineTwice, lineFrom, pieceFrom, StaysLow, Straight, twiceBound}
 use Rattle.passing.proofs.Adding.{adds-none, adds-on, fits-on, total-fits, step-in, step-next}
 
 -- no time, no area
@@ -34,7 +35,7 @@ module _ (v r k m d : ℕ) (le : k + m ≤ d) where
   less : (k + m) * r ≤ d * r
   less = mul-le-mul-right r le
 
-  pub line-low : (h : Heading) → StaysLow h v (d * r) → toward h v (k * r) < 274877906944
+  pub line-low : (h : Heading) → StaysLow h v (d * r) → toward h v (k * r) < levelBound
   unfolding toward
   line-low rising s = omega (arith, less)
   line-low falling s = omega (arith, less)
@@ -44,7 +45,7 @@ module _ (v r k m d : ℕ) (le : k + m ≤ d) where
   line-reaches rising s = omega (arith, less)
   line-reaches falling s = omega (arith, less)
 
-  pub line-step : (h : Heading) → StaysLow h v (d * r) → m * r ≤ 274877906944
+  pub line-step : (h : Heading) → StaysLow h v (d * r) → m * r ≤ levelBound
   line-step rising s = omega (arith, less)
   line-step falling s = omega (arith, less)
 
@@ -63,17 +64,17 @@ module _ (v r k m d : ℕ) (le : k + m ≤ d) where
 
 -- up to `at` the line is added, and v is its level there; x is the boundary b, where the half-hour of `at` begins, unless `to` is reached
 pub record Along-line (h : Heading) (level rate from to : ℕ) (a : Summed) (xs : List ℕ) (b x at v t : ℕ) : Type 0 where
-  pub boundary : x ≡ 1800 * b
+  pub boundary : x ≡ halfHour * b
   pub begun : min x to ≤ at
-  pub within : at < x + 1800
+  pub within : at < x + halfHour
   pub after : from ≤ at
   pub before : at ≤ to
   pub adds : Adds (lineFrom h level rate from) a (summed at xs t)
   pub fits : Fits (summed at xs t)
   pub there : v ≡ toward h level ((at - from) * rate)
 
-module _ (h : Heading) (level rate from to : ℕ) (a : Summed) (day : to ≤ 86400) (low : StaysLow h level ((to - from) * rate)) where
-  pub line-begun : (xs : List ℕ) (t half : ℕ) → a ≡ summed from xs t → half ≡ from / 1800 → from ≤ to → Fits a → Along-line h level rate from to a xs half (half * 1800) from level t
+module _ (h : Heading) (level rate from to : ℕ) (a : Summed) (day : to ≤ mostSeconds) (low : StaysLow h level ((to - from) * rate)) where
+  pub line-begun : (xs : List ℕ) (t half : ℕ) → a ≡ summed from xs t → half ≡ from / halfHour → from ≤ to → Fits a → Along-line h level rate from to a xs half (half * halfHour) from level t
   line-begun xs t half e k le fits = record {
     boundary = omega arith;
     begun = omega arith;
@@ -86,7 +87,7 @@ module _ (h : Heading) (level rate from to : ℕ) (a : Summed) (day : to ≤ 864
   }
 
   -- a step to n, where the half-hour ends, or the line
-  module _ (xs : List ℕ) (b x at v t n : ℕ) (l : Along-line h level rate from to a xs b x at v t) (left : at < to) (next : n ≡ min (x + 1800) to) where
+  module _ (xs : List ℕ) (b x at v t n : ℕ) (l : Along-line h level rate from to a xs b x at v t) (left : at < to) (next : n ≡ min (x + halfHour) to) where
     abbrev k : ℕ
     k = at - from
 
@@ -96,13 +97,13 @@ module _ (h : Heading) (level rate from to : ℕ) (a : Summed) (day : to ≤ 864
     abbrev w : ℕ
     w = toward h v (m * rate)
 
-    pub in-half : (b ≤ 47) × (1800 * b ≤ at) × (at < n) × (n ≤ 1800 * b + 1800) × (n ≤ to)
+    pub in-half : (b < mostHalfHours) × (halfHour * b ≤ at) × (at < n) × (n ≤ halfHour * b + halfHour) × (n ≤ to)
     in-half = step-in b x at to n (l .boundary) day (l .begun) (l .within) left next
 
     on-line : k + m ≤ to - from
     on-line = omega (arith, in-half, l .after)
 
-    pub step-low : m * rate ≤ 274877906944
+    pub step-low : m * rate ≤ levelBound
     step-low = line-step level rate k m (to - from) on-line h low
 
     pub step-reaches : Reaches h v (m * rate)
@@ -111,10 +112,10 @@ module _ (h : Heading) (level rate from to : ℕ) (a : Summed) (day : to ≤ 864
     moves : w ≡ toward h level ((k + m) * rate)
     moves = ap (λ (y : ℕ). toward h y (m * rate)) (l .there) ∙ line-on level rate k m (to - from) on-line h low
 
-    pub levels-low : (v < 274877906944) × (w < 274877906944) × (m * (v + w) ≤ m * 549755813888)
+    pub levels-low : (v < levelBound) × (w < levelBound) × (m * (v + w) ≤ m * twiceBound)
     levels-low =
-        let lo : v < 274877906944 = omega (arith, line-low level rate k m (to - from) on-line h low, l .there) in
-        let hi : w < 274877906944 = omega (arith, line-low level rate (k + m) 0 (to - from) (omega (arith, on-line)) h low, moves) in
+        let lo : v < levelBound = omega (arith, line-low level rate k m (to - from) on-line h low, l .there) in
+        let hi : w < levelBound = omega (arith, line-low level rate (k + m) 0 (to - from) (omega (arith, on-line)) h low, moves) in
         (lo, hi, mul-le-mul-left m (omega (arith, lo, hi)))
 
     line-room : b + 1 < length xs
@@ -130,7 +131,7 @@ module _ (h : Heading) (level rate from to : ℕ) (a : Summed) (day : to ≤ 864
         ∙ line-more level rate k m (to - from) on-line h low
         ∙ ap (lineTwice h level rate) {x = k + m} {y = n - from} (omega (arith, in-half .2, l .after))
 
-    pub line-further : Along-line h level rate from to a (set xs (b + 1) (t + m * (v + w))) (b + 1) (x + 1800) n w (t + m * (v + w))
+    pub line-further : Along-line h level rate from to a (set xs (b + 1) (t + m * (v + w))) (b + 1) (x + halfHour) n w (t + m * (v + w))
     line-further =
         let s = step-next b x at to n (l .boundary) day (l .begun) (l .within) left next in
         record {
@@ -156,7 +157,7 @@ unfolding gap
 way-is rising v m w a = omega arith
 way-is falling v m w a = omega arith
 
-stays : (h : Heading) (v m w : ℕ) → Along h v m w → v < 274877906944 → w < 274877906944 → StaysLow h v m
+stays : (h : Heading) (v m w : ℕ) → Along h v m w → v < levelBound → w < levelBound → StaysLow h v m
 stays rising v m w a lv lw = omega arith
 stays falling v m w a lv lw = omega arith
 
@@ -173,25 +174,25 @@ module _ (h : Heading) (p q : Place) (lt : p .second < q .second) (s : Straight 
   along : Along h (p .level) (time * rate) (q .level)
   along = subst (λ (r : ℕ). Along h (p .level) (time * r) (q .level)) (sym straight-rate) (s .along)
 
-  pub straight-low : p .level < 274877906944 → q .level < 274877906944 → StaysLow h (p .level) (time * rate)
+  pub straight-low : p .level < levelBound → q .level < levelBound → StaysLow h (p .level) (time * rate)
   straight-low lp lq = stays h (p .level) (time * rate) (q .level) along lp lq
 
   -- within one half-hour
-  module _ (xs : List ℕ) (t : ℕ) (day : q .second ≤ 86400) (low : p .level < 274877906944) (low-too : q .level < 274877906944)
-      (one : q .second ≤ (p .second / 1800 + 1) * 1800) (fits : Fits (summed (p .second) xs t)) where
+  module _ (xs : List ℕ) (t : ℕ) (day : q .second ≤ mostSeconds) (low : p .level < levelBound) (low-too : q .level < levelBound)
+      (one : q .second ≤ (p .second / halfHour + 1) * halfHour) (fits : Fits (summed (p .second) xs t)) where
     abbrev half : ℕ
-    half = p .second / 1800
+    half = p .second / halfHour
 
     abbrev more : ℕ
     more = time * (p .level + q .level)
 
-    place : (1800 * half ≤ p .second) × (q .second ≤ 1800 * half + 1800) × (half + 1 < 49)
+    place : (halfHour * half ≤ p .second) × (q .second ≤ halfHour * half + halfHour) × (half + 1 < boundaryPlaces)
     place = omega arith
 
     room : half + 1 < length xs
     room = omega (arith, place .2, fits .0)
 
-    more-low : more ≤ time * 549755813888
+    more-low : more ≤ time * twiceBound
     more-low = mul-le-mul-left time (omega arith)
 
     pub piece-fits : t + more < 18446744073709551616

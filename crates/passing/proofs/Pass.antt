@@ -6,6 +6,7 @@ use mathlib.Core.Bool.{Bool}
 use mathlib.Core.List.{List}
 use native.Mathlib.Omega.{arith}
 use Rattle.level.specs.Level.{grains}
+use Rattle.level.specs.Numbers.{halfHour, levelBound}
 use Rattle.records.specs.declared.UnitData.{UnitData}
 use Rattle.course.specs.declared.Course.{Course}
 use Rattle.course.specs.Lists.{Lists}
@@ -44,7 +45,7 @@ pub record Sofar (l : OwnLists) (c : Course) (up : Bool) (from : Place) (before 
   pub later : from .second ≤ at .place .second
   pub within : at .place .second ≤ n
   pub short : Short (headed up) (grains (c .target)) (at .place .level)
-  pub low : at .place .level < 274877906944
+  pub low : at .place .level < levelBound
   pub stands : at .place ≡ standing (headed up) (listsBy l c) (grains (c .target)) (at .place .second) from
   pub watched : (u : UnitData) (b : ℕ) → l ≡ ownLists u c up → Watching u c b up from before → Watching u c b up (at .place) off
 
@@ -65,7 +66,7 @@ module _ (l : OwnLists) (c : Course) (up : Bool) (start : Reached) (before n : �
   Now ys at off total = Sofar l c up from before n a ys at off total
 
   -- nothing yet
-  pub sofar-none : (xs : List ℕ) (total : ℕ) → a ≡ summed (from .second) xs total → from .second ≤ n → from .level < 274877906944 → Short h t (from .level) → Known h ls t start → Fits a → Now xs start before total
+  pub sofar-none : (xs : List ℕ) (total : ℕ) → a ≡ summed (from .second) xs total → from .second ≤ n → from .level < levelBound → Short h t (from .level) → Known h ls t start → Fits a → Now xs start before total
   sofar-none xs total e le low sh known fits = record {
     adds = rw e (adds-none (λ (i : ℕ). twiceTo h ls t i from) (summed (from .second) xs total) (λ i k. twice-none h ls t from i k));
     fits = subst Fits e fits;
@@ -107,7 +108,7 @@ module _ (l : OwnLists) (c : Course) (up : Bool) (start : Reached) (before n : �
       pub sofar-goes : Goes h ls t n p q
       sofar-goes = rw e (onward-goes h ls t n p to-go (s .short))
 
-      pub sofar-low : q .level < 274877906944
+      pub sofar-low : q .level < levelBound
       unfolding grains
       sofar-low = omega (arith, sofar-goes .low, s .low)
 
@@ -140,7 +141,7 @@ module _ (l : OwnLists) (c : Course) (up : Bool) (start : Reached) (before n : �
             arith,
             piece-on h ls t n p q (summed (p .second) ys total) (summed (q .second) zs sum) (λ lt. sofar-goes) (omega (arith, sofar-goes .later)) refl added j k,
             s .adds j k,
-            twice-through h ls t from p (s .stands) (s .later) (q .second) (1800 * j) (omega (arith, sofar-goes .later)),
+            twice-through h ls t from p (s .stands) (s .later) (q .second) (halfHour * j) (omega (arith, sofar-goes .later)),
           );
           fits = fits;
           known = known;

@@ -8,6 +8,7 @@ use lib.Dec.{leb, ltb}
 use lib.ListN.{length, getD}
 use Rattle.level.specs.Choice.{pick}
 use Rattle.level.specs.Level.{grains}
+use Rattle.level.specs.Numbers.{halfHour, mostHalfHours, mostSeconds, boundaryPlaces, levelBound}
 use Rattle.records.specs.declared.UnitData.{UnitData}
 use Rattle.course.specs.declared.Course.{Course}
 use Rattle.course.specs.Lists.{Lists}
@@ -17,6 +18,7 @@ use Rattle.course.proofs.Pieces.{Along}
 use Rattle.profile.specs.State.{watch}
 use Rattle.rates.specs.declared.OwnLists.{OwnLists}
 use Rattle.trajectory.specs.declared.Place.{Place}
+use Rattle.trajectory.specs.declared.Reached.{Reached}
 use Rattle.rates.specs.Ways.{headed, ownLists, listsBy}
 use Rattle.trajectory.specs.Walk.{momentOf, Known, onward, standing, twiceTo}
 use Rattle.passing.specs.declared.Passed.{Passed}
@@ -34,15 +36,19 @@ summed s xs t = record { second = s; noted = xs; total = t }
 
 -- up to the boundary j: what is noted there, or the total where the boundary is not reached yet
 unfoldable pub upTo : Summed → ℕ → ℕ
-upTo a j = pick (leb (1800 * j) (a .second)) (getD (a .noted) j 0) (a .total)
+upTo a j = pick (leb (halfHour * j) (a .second)) (getD (a .noted) j 0) (a .total)
 
--- from a to b the sums up to each of the 49 boundaries have grown by f, which tells how much lies before a second
+-- from a to b the sums up to each boundary have grown by f, which tells how much lies before a second
 abbrev pub Adds : (ℕ → ℕ) → Summed → Summed → Type 0
-Adds f a b = (j : ℕ) → j ≤ 48 → upTo b j ≡ upTo a j + f (min (b .second) (1800 * j))
+Adds f a b = (j : ℕ) → j ≤ mostHalfHours → upTo b j ≡ upTo a j + f (min (b .second) (halfHour * j))
 
--- 49 places, and no more than the levels of 32 bits of kW make
+-- twice the area of one second lies below this
+abbrev pub twiceBound : ℕ
+twiceBound = 2 * levelBound
+
+-- a place for each boundary, and a total that so many seconds may come to
 abbrev pub Fits : Summed → Type 0
-Fits a = (length (a .noted) ≡ 49) × (a .total ≤ a .second * 549755813888)
+Fits a = (length (a .noted) ≡ boundaryPlaces) × (a .total ≤ a .second * twiceBound)
 
 -- ---- straight lines
 
@@ -56,8 +62,8 @@ lineFrom h v r from i = lineTwice h v r (i - from)
 
 -- all the way while it moves by m the level v is one of 32 bits of kW
 abbrev pub StaysLow : Heading → ℕ → ℕ → Type 0
-StaysLow rising v m = v + m < 274877906944
-StaysLow falling v m = (m ≤ v) × (v < 274877906944)
+StaysLow rising v m = v + m < levelBound
+StaysLow falling v m = (m ≤ v) × (v < levelBound)
 
 -- from p to q the level goes straight, by so much a second
 pub record Straight (h : Heading) (p q : Place) : Type 0 where
@@ -67,6 +73,33 @@ pub record Straight (h : Heading) (p q : Place) : Type 0 where
 -- the line from p to q
 abbrev pub pieceFrom : Heading → Place → Place → ℕ → ℕ
 pieceFrom h p q = lineFrom h (p .level) (gap (p .level) (q .level) / (q .second - p .second)) (p .second)
+
+-- ---- what going on asks for: a second of the day that is no earlier, levels below the bound, and sums that fit
+
+-- along a line
+pub record LineAhead (h : Heading) (level rate from to : ℕ) (a : Summed) : Type 0 where
+  pub later : from ≤ to
+  pub within : to ≤ mostSeconds
+  pub low : StaysLow h level ((to - from) * rate)
+  pub fits : Fits a
+
+-- along a straight piece
+pub record PieceAhead (h : Heading) (p q : Place) (a : Summed) : Type 0 where
+  pub straight : p .second < q .second → Straight h p q
+  pub later : p .second ≤ q .second
+  pub within : q .second ≤ mostSeconds
+  pub low : p .level < levelBound
+  pub low-too : q .level < levelBound
+  pub fits : Fits a
+
+-- along a course, from where it was reached towards the second n
+pub record CourseAhead (l : OwnLists) (c : Course) (up : Bool) (from : Reached) (n : ℕ) (a : Summed) : Type 0 where
+  pub later : from .place .second ≤ n
+  pub within : n ≤ mostSeconds
+  pub low : from .place .level < levelBound
+  pub short : Short (headed up) (grains (c .target)) (from .place .level)
+  pub known : Known (headed up) (listsBy l c) (grains (c .target)) from
+  pub fits : Fits a
 
 -- ---- courses
 
@@ -91,10 +124,10 @@ pub record Passing (l : OwnLists) (c : Course) (up : Bool) (from : Place) (befor
   pub later : from .second ≤ r .reached .place .second
   pub within : r .reached .place .second ≤ n
   pub short : Short (headed up) (grains (c .target)) (r .reached .place .level)
-  pub low : r .reached .place .level < 274877906944
+  pub low : r .reached .place .level < levelBound
   pub stands : r .reached .place ≡ standing (headed up) (listsBy l c) (grains (c .target)) (r .reached .place .second) from
   pub runs : r .reached .place .second < n → r .ahead ≡ onward (headed up) (listsBy l c) (grains (c .target)) n (r .reached .place)
   pub there : r .ahead .second ≡ n
-  pub ahead-low : r .ahead .level < 274877906944
+  pub ahead-low : r .ahead .level < levelBound
   pub watched : (u : UnitData) (b : ℕ) → l ≡ ownLists u c up → Watching u c b up from before →
       Watching u c b up (r .reached .place) (r .off) × Watching u c b up (r .ahead) (r .later)

@@ -1,21 +1,14 @@
 // Along a course up to a second: the running sum of twice its area, noted at each half-hour boundary that a piece passes, and the
 // seconds off.
-ghost use Prim.Native.Nat.{_+_, _*_, _-_, _<_, _≤_};
-ghost use Rattle.level.specs.Level.{grains};
-ghost use Rattle.course.proofs.Near.{Short};
-ghost use Rattle.rates.specs.Ways.{headed, listsBy};
-ghost use Rattle.trajectory.specs.Walk.{Known};
-ghost use Rattle.passing.specs.Passing.{summed, Adds, Fits, lineFrom, pieceFrom, StaysLow, Straight, Passing};
-
-// The seconds of a half-hour.
-const HALF_HOUR: u32 = 1800;
+ghost use Rattle.rates.specs.Ways.{headed};
+ghost use Rattle.passing.specs.Passing.{summed, Adds, Fits, lineFrom, pieceFrom, LineAhead, PieceAhead, CourseAhead, Passing};
 
 // ---- areas
 
 // A level that goes straight on by `rate` a second, from one second to another: half-hour by half-hour its area is added to the
 // total, and the total noted at the boundary ahead, where it stays once the boundary is passed.
 fn note_line(
-    sums: &mut [u64; 49],
+    sums: &mut [u64; level::BOUNDARIES],
     total: u64,
     up: bool,
     level: u64,
@@ -23,20 +16,19 @@ fn note_line(
     from: u32,
     to: u32,
 ) -> u64
-    requires { ⌜ (from ≤ to) × (to ≤ 86400) × StaysLow (headed up) level ((to - from) * rate) ⌝ }
-    requires { ⌜ Fits (summed from (now sums) total) ⌝ }
+    requires { ⌜ LineAhead (headed up) level rate from to (summed from (now sums) total) ⌝ }
     ensures { λ r. ⌜ Adds (lineFrom (headed up) level rate from) (summed from (now (sums .entry)) total) (summed to (now (sums .exit)) r)
         × Fits (summed to (now (sums .exit)) r) ⌝ }
 {
-    let half = from / HALF_HOUR;
+    let half = from / level::HALF_HOUR;
     let mut b = half as usize;
-    let mut x = half * HALF_HOUR;
+    let mut x = half * level::HALF_HOUR;
     let mut at = from;
     let mut v = level;
     let mut sum = total;
     while at < to {
         b += 1;
-        x += HALF_HOUR;
+        x += level::HALF_HOUR;
         let n = level::smaller(x, to);
         let time = (n - at) as u64;
         let w = trajectory::moved(up, v, time * rate);
@@ -50,24 +42,22 @@ fn note_line(
 
 // The straight piece of a course from p to q, added to the total. A piece within one half-hour is one product.
 pub fn note_piece(
-    sums: &mut [u64; 49],
+    sums: &mut [u64; level::BOUNDARIES],
     total: u64,
     up: bool,
     p: trajectory::Place,
     q: trajectory::Place,
 ) -> u64
-    requires { ⌜ (p .second < q .second → Straight (headed up) p q) × (p .second ≤ q .second) ⌝ }
-    requires { ⌜ (q .second ≤ 86400) × (p .level < 274877906944) × (q .level < 274877906944) ⌝ }
-    requires { ⌜ Fits (summed (p .second) (now sums) total) ⌝ }
+    requires { ⌜ PieceAhead (headed up) p q (summed (p .second) (now sums) total) ⌝ }
     ensures { λ r. ⌜ Adds (pieceFrom (headed up) p q) (summed (p .second) (now (sums .entry)) total) (summed (q .second) (now (sums .exit)) r)
         × Fits (summed (q .second) (now (sums .exit)) r) ⌝ }
 {
     if q.second <= p.second {
         return total;
     }
-    let half = p.second / HALF_HOUR + 1;
+    let half = p.second / level::HALF_HOUR + 1;
     let time = (q.second - p.second) as u64;
-    if half * HALF_HOUR < q.second {
+    if half * level::HALF_HOUR < q.second {
         let way = stops::gap_between(p.level, q.level);
         return note_line(sums, total, up, p.level, way / time, p.second, q.second);
     }
@@ -92,7 +82,7 @@ pub struct Passed {
 // From where a course was reached towards the second n: every piece that ends before n is added. The one that n cuts is not:
 // the course may go on.
 pub fn pass_to(
-    sums: &mut [u64; 49],
+    sums: &mut [u64; level::BOUNDARIES],
     before: u64,
     l: rates::OwnLists,
     c: course::Course,
@@ -101,9 +91,7 @@ pub fn pass_to(
     begun: u32,
     n: u32,
 ) -> Passed
-    requires { ⌜ (from .place .second ≤ n) × (n ≤ 86400) × (from .place .level < 274877906944) ⌝ }
-    requires { ⌜ Short (headed up) (grains (c .target)) (from .place .level) × Known (headed up) (listsBy l c) (grains (c .target)) from ⌝ }
-    requires { ⌜ Fits (summed (from .place .second) (now sums) before) ⌝ }
+    requires { ⌜ CourseAhead l c up from n (summed (from .place .second) (now sums) before) ⌝ }
     ensures { λ r. ⌜ Passing l c up (from .place) begun n (summed (from .place .second) (now (sums .entry)) before) (now (sums .exit)) r ⌝ }
 {
     let mut at = from;

@@ -12,19 +12,19 @@ use Rattle.day.specs.declared.Day.{Day}
 use Rattle.day.specs.Day.{fatesIn, coursesIn, quantitiesIn}
 use Rattle.text.specs.Text.{laid}
 use Rattle.listing.specs.Listing.{listing, printedDay, listAnswer, listOf, lentAfter}
-use Rattle.printing.specs.Parts.{linesF, linesS, linesQ, noListing, someListing}
+use Rattle.printing.specs.Parts.{linesF, linesS, linesQ, lineE, noListing, someListing}
 use Rattle.daylines.specs.Rest.{coursesLines, closingLine}
 
 -- ---- the parts of a day's listing
 module _ (d : Day) where
-  pub in-parts : printedDay d ≡ linesF d ++ (linesS d ++ (linesQ d ++ closingLine (d .closing)))
+  pub in-parts : printedDay d ≡ linesF d ++ (linesS d ++ (linesQ d ++ lineE d))
   unfolding printedDay listing coursesLines closingLine fatesIn coursesIn quantitiesIn
   in-parts = refl
 
   -- their widths add up
-  pub day-length : length (printedDay d) ≡ length (linesF d) + length (linesS d) + length (linesQ d) + length (closingLine (d .closing))
+  pub day-length : length (printedDay d) ≡ length (linesF d) + length (linesS d) + length (linesQ d) + length (lineE d)
   day-length =
-      let e : List ℕ = closingLine (d .closing) in
+      let e : List ℕ = lineE d in
       omega (
         arith,
         ap length in-parts ∙ length-append (linesF d) (linesS d ++ (linesQ d ++ e)),

@@ -6,18 +6,22 @@ use lib.ListN.{take}
 use Rattle.records.specs.declared.Refusal.{Refusal}
 use Rattle.records.specs.declared.Answer.the-variants.{Accepted, Refused}
 use Rattle.day.specs.declared.Day.{Day}
+use Rattle.day.specs.Day.{halfHours, daySeconds, closingIn}
 use Rattle.listing.specs.declared.Listed.{Listed}
-use Rattle.daylines.specs.Rest.{fateLines, coursesLines, quantityLines}
+use Rattle.daylines.specs.Rest.{fateLines, coursesLines, quantityLines, closingLine}
 
--- the F, S and Q lines of a day
+-- the F, S and Q lines of a day, and its E line
 abbrev pub linesF : Day → List ℕ
-linesF d = fateLines (d .count) (d .fates)
+linesF d = fateLines (d .taken .count) (d .found .fates)
 
 abbrev pub linesS : Day → List ℕ
-linesS d = coursesLines (d .unit) (take (d .started) (d .courses))
+linesS d = coursesLines (d .taken .unit) daySeconds (take (d .found .started) (d .found .courses))
 
 abbrev pub linesQ : Day → List ℕ
-linesQ d = quantityLines (d .sums)
+linesQ d = quantityLines halfHours (d .found .sums)
+
+abbrev pub lineE : Day → List ℕ
+lineE d = closingLine (closingIn d)
 
 -- what asking for a listing gives: a refusal, or so many bytes
 abbrev pub noListing : Refusal → Listed

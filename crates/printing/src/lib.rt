@@ -17,13 +17,15 @@ use records::Refusal;
 pub fn day_width(day: Day) -> usize
     ensures { λ r. ⌜ r ≡ length (printedDay day) ⌝ }
 {
-    let fates = day.fates;
-    let f = daylines::fates_width(fates, day.count);
-    let unit = day.unit;
-    let courses = day.courses;
-    let s = daylines::courses_width(unit, courses, day.started);
-    let q = daylines::quantities_width(&day.sums);
-    let closing = day.closing;
+    let fates = day.found.fates;
+    let f = daylines::fates_width(fates, day.taken.count);
+    let unit = day.taken.unit;
+    let courses = day.found.courses;
+    let s = daylines::courses_width(unit, courses, day.found.started, level::MOST_SECONDS);
+    let q = daylines::quantities_width(&day.found.sums, level::MOST_HALF_HOURS);
+    let last = day.found.last;
+    let end = day.found.end;
+    let closing = daylines::closing_of(last, end);
     let e = daylines::closing_width(closing);
     f + s + q + e
 }
@@ -33,13 +35,16 @@ fn put_day(out: &mut [u8], day: Day) -> usize
     requires { ⌜ length (printedDay day) ≤ length (now out) ⌝ }
     ensures { λ r. ⌜ (r ≡ length (printedDay day)) × (now (out .exit) ≡ laid (printedDay day) (now (out .entry))) ⌝ }
 {
-    let fates = day.fates;
-    let mut at = daylines::put_fates(out, fates, day.count);
-    let unit = day.unit;
-    let courses = day.courses;
-    at += daylines::put_courses(&mut out[at..], unit, courses, day.started);
-    at += daylines::put_quantities(&mut out[at..], &day.sums);
-    let closing = day.closing;
+    let fates = day.found.fates;
+    let mut at = daylines::put_fates(out, fates, day.taken.count);
+    let unit = day.taken.unit;
+    let courses = day.found.courses;
+    let started = day.found.started;
+    at += daylines::put_courses(&mut out[at..], unit, courses, started, level::MOST_SECONDS);
+    at += daylines::put_quantities(&mut out[at..], &day.found.sums, level::MOST_HALF_HOURS);
+    let last = day.found.last;
+    let end = day.found.end;
+    let closing = daylines::closing_of(last, end);
     at += daylines::put_closing(&mut out[at..], closing);
     at
 }

@@ -7,6 +7,7 @@ use native.Mathlib.Decide.{decLe}
 use native.Mathlib.Omega.{arith}
 use borrow.Author.Tests.{lt-ltb, le-ltb}
 use Rattle.level.specs.Lists.{sum}
+use Rattle.level.specs.Numbers.{halfHour}
 use Rattle.segments.specs.Segments.{area}
 use Rattle.course.specs.Course.{Trajectory, levelAt}
 use Rattle.course.specs.Pieces.{piecesIn, twiceArea}
@@ -69,14 +70,14 @@ module _ (from to : ℕ) (ss : List Span) (c : Chain from ss to) where
       ∙ omega (arith, over (suc a) n (omega arith) (omega arith), next from to a ss c h (omega arith))
 
 -- from 0 to each half-hour boundary, and in each half-hour
-module _ (n : ℕ) (ss : List Span) (c : Chain 0 ss (1800 * n)) where
+module _ (n : ℕ) (ss : List Span) (c : Chain 0 ss (halfHour * n)) where
   pub area-to : (b : ℕ) → b ≤ n → recordedTo ss b ≡ twinTo ss b
   unfolding recordedTo recordedTwice twinTo
   area-to b h =
-      omega (arith, over 0 (1800 * n) ss c 0 (1800 * b) (omega arith) (omega arith), not-yet 0 (1800 * n) 0 ss c (omega arith), ap (piecesTo ss) {x = 0 + 1800 * b} {y = 1800 * b} (omega arith))
+      omega (arith, over 0 (halfHour * n) ss c 0 (halfHour * b) (omega arith) (omega arith), not-yet 0 (halfHour * n) 0 ss c (omega arith), ap (piecesTo ss) {x = 0 + halfHour * b} {y = halfHour * b} (omega arith))
 
   pub area-in : (i : ℕ) → i < n → recordedIn ss i ≡ twinIn ss i
   unfolding recordedIn recordedTwice twinIn twinTo
   area-in i h =
-      let e : piecesTo ss (1800 * suc i) ≡ piecesTo ss (1800 * i + 1800) = ap (piecesTo ss) (omega arith) in
-      omega (arith, e, over 0 (1800 * n) ss c (1800 * i) 1800 (omega arith) (omega arith))
+      let e : piecesTo ss (halfHour * suc i) ≡ piecesTo ss (halfHour * i + halfHour) = ap (piecesTo ss) (omega arith) in
+      omega (arith, e, over 0 (halfHour * n) ss c (halfHour * i) halfHour (omega arith) (omega arith))

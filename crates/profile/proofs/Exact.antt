@@ -7,6 +7,7 @@ use native.Mathlib.Decide.{decLe}
 use native.Mathlib.Omega.{arith}
 use borrow.Author.Tests.{lt-ltb, le-ltb}
 use Rattle.level.specs.Lists.{sum}
+use Rattle.level.specs.Numbers.{halfHour}
 use Rattle.segments.specs.Segments.{area}
 use Rattle.segments.proofs.Sums.{area-split}
 use Rattle.course.specs.Course.{gap, levelAt, segments}
@@ -93,26 +94,26 @@ module _ (s : Span) (order : s .begin ≤ s .end) where
           ∙ (ap (area exactLevel (lo * p)) (e .0) ∙ ap (λ (k : ℕ). area exactLevel (k * p) (d * p)) a)
 
   -- one half-hour after another
-  half-hours : (a n : ℕ) → sum (λ i. exactIn s i .num) a n ≡ exactOver (1800 * a) (1800 * (a + n))
+  half-hours : (a n : ℕ) → sum (λ i. exactIn s i .num) a n ≡ exactOver (halfHour * a) (halfHour * (a + n))
   unfolding sum exactIn exactTwice
   half-hours a zero =
-      sym (area-none exactLevel (lasted s (1800 * a) * p) ((lasted s (1800 * (a + 0)) - lasted s (1800 * a)) * p)
-      (let e : lasted s (1800 * (a + 0)) - lasted s (1800 * a) ≡ 0 = none in ap (λ (n : ℕ). n * p) e ∙ zero-mul p))
+      sym (area-none exactLevel (lasted s (halfHour * a) * p) ((lasted s (halfHour * (a + 0)) - lasted s (halfHour * a)) * p)
+      (let e : lasted s (halfHour * (a + 0)) - lasted s (halfHour * a) ≡ 0 = none in ap (λ (n : ℕ). n * p) e ∙ zero-mul p))
     where
-      none : lasted s (1800 * (a + 0)) - lasted s (1800 * a) ≡ 0
-      none = let e : lasted s (1800 * (a + 0)) ≡ lasted s (1800 * a) = ap (λ (k : ℕ). lasted s (1800 * k)) {x = a + 0} {y = a} (omega arith) in omega arith
+      none : lasted s (halfHour * (a + 0)) - lasted s (halfHour * a) ≡ 0
+      none = let e : lasted s (halfHour * (a + 0)) ≡ lasted s (halfHour * a) = ap (λ (k : ℕ). lasted s (halfHour * k)) {x = a + 0} {y = a} (omega arith) in omega arith
   half-hours a (suc n) =
-      let x : ℕ = lasted s (1800 * a) in
-      let y : ℕ = lasted s (1800 * suc a) in
-      let z : ℕ = lasted s (1800 * (suc a + n)) in
-      let one = cut-to (1800 * a) (1800 * suc a) _ _ (omega arith) refl refl in
-      let more : sum (λ i. exactIn s i .num) (suc a) n ≡ exactOver (1800 * suc a) (1800 * (suc a + n)) = half-hours (suc a) n in
-      let xy : x ≤ y = lasted-up (1800 * a) (1800 * suc a) (omega arith) in
-      let yz : y ≤ z = lasted-up (1800 * suc a) (1800 * (suc a + n)) (omega arith) in
+      let x : ℕ = lasted s (halfHour * a) in
+      let y : ℕ = lasted s (halfHour * suc a) in
+      let z : ℕ = lasted s (halfHour * (suc a + n)) in
+      let one = cut-to (halfHour * a) (halfHour * suc a) _ _ (omega arith) refl refl in
+      let more : sum (λ i. exactIn s i .num) (suc a) n ≡ exactOver (halfHour * suc a) (halfHour * (suc a + n)) = half-hours (suc a) n in
+      let xy : x ≤ y = lasted-up (halfHour * a) (halfHour * suc a) (omega arith) in
+      let yz : y ≤ z = lasted-up (halfHour * suc a) (halfHour * (suc a + n)) (omega arith) in
       let c : x * p + (y - x) * p ≡ y * p = let q : x + (y - x) ≡ y = omega arith in omega (arith, ap (λ (k : ℕ). k * p) q) in
       let d : (y - x) * p + (z - y) * p ≡ (z - x) * p = let q : (y - x) + (z - y) ≡ z - x = omega arith in omega (arith, ap (λ (k : ℕ). k * p) q) in
-      let whole : exactOver (1800 * a) (1800 * (a + suc n)) ≡ area exactLevel (x * p) ((z - x) * p) =
-      ap (λ (k : ℕ). exactOver (1800 * a) (1800 * k)) {x = a + suc n} {y = suc a + n} (omega arith) in
+      let whole : exactOver (halfHour * a) (halfHour * (a + suc n)) ≡ area exactLevel (x * p) ((z - x) * p) =
+      ap (λ (k : ℕ). exactOver (halfHour * a) (halfHour * k)) {x = a + suc n} {y = suc a + n} (omega arith) in
       omega (
         arith,
         one,
@@ -127,35 +128,35 @@ module _ (s : Span) (order : s .begin ≤ s .end) where
   abbrev pub recordedOver : ℕ → ℕ → ℕ
   recordedOver x y = area (levelAt (s .trajectory)) (lasted s x) (lasted s y - lasted s x)
 
-  no-time : (a b : ℕ) → a ≤ b → min (s .end) (1800 * b) ≤ max (s .begin) (1800 * a) → lasted s (1800 * b) - lasted s (1800 * a) ≡ 0
+  no-time : (a b : ℕ) → a ≤ b → min (s .end) (halfHour * b) ≤ max (s .begin) (halfHour * a) → lasted s (halfHour * b) - lasted s (halfHour * a) ≡ 0
   unfolding lasted
-  no-time a b up h = elim (decLe (s .end) (1800 * a)) [
-    | yes g ↦ past-time (s .begin) (s .end) (1800 * a) (1800 * b) (omega arith) g
-    | no g ↦ elim (decLe (1800 * b) (s .begin)) [
-      | yes k ↦ before-time (s .begin) (s .end) (1800 * a) (1800 * b) (omega arith) k
+  no-time a b up h = elim (decLe (s .end) (halfHour * a)) [
+    | yes g ↦ past-time (s .begin) (s .end) (halfHour * a) (halfHour * b) (omega arith) g
+    | no g ↦ elim (decLe (halfHour * b) (s .begin)) [
+      | yes k ↦ before-time (s .begin) (s .end) (halfHour * a) (halfHour * b) (omega arith) k
       | no k ↦ elim (decLe b a) [
-        | yes m ↦ let i : b ≡ a = omega arith in rw i (sub-self (lasted s (1800 * a)))
-        | no m ↦ let j : min (s .end) (1800 * b) - s .begin ≡ 0 = omega arith in rw j (omega arith)
+        | yes m ↦ let i : b ≡ a = omega arith in rw i (sub-self (lasted s (halfHour * a)))
+        | no m ↦ let j : min (s .end) (halfHour * b) - s .begin ≡ 0 = omega arith in rw j (omega arith)
       ]
     ]
   ]
 
   -- between the boundaries a and b
-  pub course-near : Driven (s .trajectory .lists) → (a b : ℕ) → a ≤ b → Within (recordedOver (1800 * a) (1800 * b)) (exactOf s a b) (allowed s a b)
+  pub course-near : Driven (s .trajectory .lists) → (a b : ℕ) → a ≤ b → Within (recordedOver (halfHour * a) (halfHour * b)) (exactOf s a b) (allowed s a b)
   unfolding exactOf allowed hasTime gap
   course-near d a b up =
       let pos : 1 ≤ p = ticks-ok (s .trajectory) .0 in
-      let e : sum (λ i. exactIn s i .num) a (b - a) ≡ exactOver (1800 * a) (1800 * b) =
-      half-hours a (b - a) ∙ ap (λ (k : ℕ). exactOver (1800 * a) (1800 * k)) {x = a + (b - a)} {y = b} (omega arith) in
-      rw e (elim (decLe (min (s .end) (1800 * b)) (max (s .begin) (1800 * a))) [
+      let e : sum (λ i. exactIn s i .num) a (b - a) ≡ exactOver (halfHour * a) (halfHour * b) =
+      half-hours a (b - a) ∙ ap (λ (k : ℕ). exactOver (halfHour * a) (halfHour * k)) {x = a + (b - a)} {y = b} (omega arith) in
+      rw e (elim (decLe (min (s .end) (halfHour * b)) (max (s .begin) (halfHour * a))) [
         | yes h ↦
             let z = no-time a b up h in
-            let r : recordedOver (1800 * a) (1800 * b) ≡ 0 = area-none (levelAt (s .trajectory)) _ _ z in
-            let x : exactOver (1800 * a) (1800 * b) ≡ 0 = area-none exactLevel _ _ (ap (λ (n : ℕ). n * p) z ∙ zero-mul p) in
-            rw (le-ltb (max (s .begin) (1800 * a)) (min (s .end) (1800 * b)) h)
+            let r : recordedOver (halfHour * a) (halfHour * b) ≡ 0 = area-none (levelAt (s .trajectory)) _ _ z in
+            let x : exactOver (halfHour * a) (halfHour * b) ≡ 0 = area-none exactLevel _ _ (ap (λ (n : ℕ). n * p) z ∙ zero-mul p) in
+            rw (le-ltb (max (s .begin) (halfHour * a)) (min (s .end) (halfHour * b)) h)
             (record { fraction = omega (arith, mul-le-mul pos pos); above = omega (arith, ap (λ (n : ℕ). n * (p * p)) r); below = omega (arith, x) })
         | no h ↦
-            let w = course-bound (s .trajectory) d p pos (ticks-ok (s .trajectory) .1) (lasted s (1800 * a)) (lasted s (1800 * b) - lasted s (1800 * a)) in
-            rw (lt-ltb (max (s .begin) (1800 * a)) (min (s .end) (1800 * b)) (omega arith))
+            let w = course-bound (s .trajectory) d p pos (ticks-ok (s .trajectory) .1) (lasted s (halfHour * a)) (lasted s (halfHour * b) - lasted s (halfHour * a)) in
+            rw (lt-ltb (max (s .begin) (halfHour * a)) (min (s .end) (halfHour * b)) (omega arith))
             (record { fraction = omega (arith, mul-le-mul pos pos); above = omega (arith, w); below = omega (arith, w) })
       ])

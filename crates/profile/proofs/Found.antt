@@ -8,16 +8,17 @@ use native.Mathlib.Omega.{arith}
 use lib.ListN.{length, getD}
 use Rattle.level.specs.Level.{grains}
 use Rattle.level.specs.Lists.{All, sum, listFrom}
+use Rattle.level.specs.Numbers.{halfHour}
 use Rattle.segments.proofs.Sums.{sum-split}
 use Rattle.records.specs.declared.UnitData.{UnitData}
-use Rattle.records.specs.declared.Opening.{Opening}
-use Rattle.records.specs.declared.Instruction.{Instruction}
 use Rattle.validation.specs.Kept.{numbered, validated}
 use Rattle.profile.specs.State.{byRule}
-use Rattle.profile.specs.Effects.{opened}
+use Rattle.profile.specs.declared.Taken.{Taken}
+use Rattle.profile.specs.Taken.{Low, entered}
+use Rattle.profile.specs.Effects.{startCourse}
 use Rattle.profile.specs.Profile.{Span, spansOf, levelStarting, levelEnding, recordedTwice, recordedTo, recordedIn, rounded, foundBy, found, paper}
 use Rattle.profile.proofs.Tiles.{Chain, day-tiles}
-use Rattle.profile.proofs.Most.{Below, SpanBelow, courses-below, opened-below, spans-below, quantity-below}
+use Rattle.profile.proofs.Most.{Below, SpanBelow, courses-below, start-below, spans-below, quantity-below}
 
 -- ---- lists of numbers
 pub list-length : (f : ℕ → ℕ) (a n : ℕ) → length (listFrom f a n) ≡ n
@@ -38,47 +39,52 @@ sums-step ss i =
     let f : ℕ → ℕ = λ t. levelStarting ss t + levelEnding ss t in
     omega (
       arith,
-      ap (sum f 0) {x = 1800 * suc i} {y = 1800 * i + 1800} (omega arith),
-      sum-split f 0 (1800 * i) 1800,
-      ap (λ (k : ℕ). sum f k 1800) {x = 0 + 1800 * i} {y = 1800 * i} (omega arith),
+      ap (sum f 0) {x = halfHour * suc i} {y = halfHour * i + halfHour} (omega arith),
+      sum-split f 0 (halfHour * i) halfHour,
+      ap (λ (k : ℕ). sum f k halfHour) {x = 0 + halfHour * i} {y = halfHour * i} (omega arith),
     )
 
-module _ (n : ℕ) (u : UnitData) (o : Opening) (is : List Instruction) where
+module _ (n : ℕ) (t : Taken) where
   -- the spans of the day's courses
   abbrev pub spans : List Span
-  spans = spansOf u (1800 * n) (found paper n u o is .courses)
+  spans = spansOf (t .unit) (halfHour * n) (found paper n t .courses)
 
-  pub found-tiles : Chain 0 spans (1800 * n)
+  pub found-tiles : Chain 0 spans (halfHour * n)
   unfolding found foundBy
-  found-tiles = day-tiles byRule (1800 * n) u o (numbered 1 is)
+  found-tiles = day-tiles byRule (halfHour * n) (t .unit) (t .start) (numbered 1 (entered t))
 
-  pub found-sums : found paper n u o is .sums ≡ listFrom (recordedTo spans) 0 (suc n)
+  pub found-sums : found paper n t .sums ≡ listFrom (recordedTo spans) 0 (suc n)
   unfolding found foundBy
   found-sums = refl
 
-  pub found-quantities : found paper n u o is .quantities ≡ listFrom (λ i. rounded (recordedIn spans i)) 0 n
+  pub found-quantities : found paper n t .quantities ≡ listFrom (λ i. rounded (recordedIn spans i)) 0 n
   unfolding found foundBy
   found-quantities = refl
 
   -- the quantity of a half-hour, from two neighbouring sums
   pub quantity-from-sums : (i : ℕ) → i < n →
-      rounded (getD (found paper n u o is .sums) (suc i) 0 - getD (found paper n u o is .sums) i 0) ≡ rounded (recordedIn spans i)
+      rounded (getD (found paper n t .sums) (suc i) 0 - getD (found paper n t .sums) i 0) ≡ rounded (recordedIn spans i)
   quantity-from-sums i h =
-      let a : getD (found paper n u o is .sums) (suc i) 0 ≡ recordedTo spans (suc i) =
+      let a : getD (found paper n t .sums) (suc i) 0 ≡ recordedTo spans (suc i) =
       ap (λ (l : List ℕ). getD l (suc i) 0) found-sums ∙ (list-at (recordedTo spans) 0 (suc n) (suc i) (omega arith) ∙ ap (recordedTo spans) {x = 0 + suc i} {y = suc i} (omega arith)) in
-      let b : getD (found paper n u o is .sums) i 0 ≡ recordedTo spans i =
+      let b : getD (found paper n t .sums) i 0 ≡ recordedTo spans i =
       ap (λ (l : List ℕ). getD l i 0) found-sums ∙ (list-at (recordedTo spans) 0 (suc n) i (omega arith) ∙ ap (recordedTo spans) {x = 0 + i} {y = i} (omega arith)) in
       rw (a, b, sums-step spans i)
 
-  -- of a unit and an opening that meet no refusal: no level exceeds the short-term maximum
-  module _ (fits : u .capacity ≤ u .maximum) (level : o .level ≤ grains (u .maximum)) (target : o .target ≤ u .maximum) where
-    pub found-below : All (Below (u .maximum)) (found paper n u o is .courses)
-    unfolding found foundBy
-    found-below = courses-below u (u .maximum) fits (le-refl (u .maximum)) (opened u o) (validated (1800 * n) (numbered 1 is) .acts) (opened-below u (u .maximum) fits (le-refl (u .maximum)) o level target)
+  -- of a unit and a start that meet no refusal: no level exceeds the short-term maximum
+  module _ (fits : t .unit .capacity ≤ t .unit .maximum) (low : Low (t .unit) (t .start)) where
+    abbrev u : UnitData
+    u = t .unit
 
-    pub levels-below : All (SpanBelow (grains (u .maximum))) spans
-    levels-below = spans-below u (1800 * n) (u .maximum) (found paper n u o is .courses) found-below
+    pub found-below : All (Below (t .unit .maximum)) (found paper n t .courses)
+    unfolding found foundBy
+    found-below =
+        courses-below u (u .maximum) fits (le-refl (u .maximum)) (startCourse u (t .start)) (validated (halfHour * n) (numbered 1 (entered t)) .acts)
+        (start-below u (u .maximum) fits (le-refl (u .maximum)) (t .start) (low .level) (low .target) (low .ordered))
+
+    pub levels-below : All (SpanBelow (grains (t .unit .maximum))) spans
+    levels-below = spans-below u (halfHour * n) (u .maximum) (found paper n t .courses) found-below
 
     -- so no quantity does: refusal 27 is never met
-    pub quantities-below : (i : ℕ) → rounded (recordedIn spans i) ≤ u .maximum
+    pub quantities-below : (i : ℕ) → rounded (recordedIn spans i) ≤ t .unit .maximum
     quantities-below i = quantity-below (u .maximum) spans levels-below i

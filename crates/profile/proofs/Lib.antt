@@ -1,3 +1,4 @@
+pub mod Following
 pub mod Tiles
 pub mod States
 pub mod Rates

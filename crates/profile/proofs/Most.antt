@@ -1,7 +1,8 @@
 -- No level of a let-in day exceeds the short-term maximum, and so no quantity does.
 -- Assumes nothing.
+use mathlib.Core.Path.{_≡_}
 use mathlib.Core.List.{List, [], _∷_, map}
-use mathlib.Core.Bool.{Bool, true, false, _&&_}
+use mathlib.Core.Bool.{Bool, true, false, _&&_, _||_, not}
 use Prim.Native.Nat.{ℕ, zero, suc, _*_, _-_, _^_, min, _≤_, _<_}
 use native.Mathlib.Nat.{mul-le-mul-right}
 use native.Mathlib.Decide.{decLe}
@@ -10,10 +11,10 @@ use lib.Dec.{ltb, eqb}
 use Rattle.level.specs.Choice.{pick}
 use Rattle.level.specs.Level.{grains}
 use Rattle.level.specs.Lists.{All, sum}
+use Rattle.level.specs.Numbers.{halfHour, mostSeconds, mostHalfHours}
 use Rattle.records.specs.declared.Effect.{Effect}
 use Rattle.records.specs.declared.Effect.the-variants.{Trip, Mwof, Mxon, Sync, Mxof, Desy, Fail}
 use Rattle.records.specs.declared.UnitData.{UnitData}
-use Rattle.records.specs.declared.Opening.{Opening}
 use Rattle.records.specs.declared.Instruction.{Instruction}
 use Rattle.course.specs.declared.Course.{Course}
 use Rattle.course.specs.Lists.{columnFor}
@@ -25,8 +26,11 @@ use Rattle.profile.specs.declared.UnderWay.{UnderWay}
 use Rattle.profile.specs.declared.State.{State}
 use Rattle.profile.specs.State.{byRule}
 use Rattle.profile.specs.declared.Setting.{Setting}
-use Rattle.profile.specs.Effects.{setting, mwofTarget, syncTarget, stepped, courseFrom, underWay, opened, begun, idle, Followed, goesOn, replaces, stateAt, follow}
+use Rattle.profile.specs.declared.Outcome.the-variants.{Sets}
+use Rattle.profile.specs.declared.Start.{Start}
+use Rattle.profile.specs.Effects.{outcomeBy, mwofTarget, syncTarget, stepped, courseFrom, underWay, startCourse, begun, goesOn, replaces, stateAt, follow}
 use Rattle.profile.specs.Profile.{Span, spansOf, inForce, levelStarting, levelEnding, recordedTwice, recordedTo, recordedIn, rounded, courseOf}
+use Rattle.profile.proofs.Following.{unless-sets, ignored-sets, follow-ind}
 use Rattle.profile.proofs.States.{rule-level}
 use Rattle.profile.proofs.Areas.{in-here, in-rest}
 
@@ -40,36 +44,39 @@ pub record WayBelow (m : ℕ) (w : UnderWay) : Type 0 where
   pub course : Below m (w .course)
   pub ordered : w .ordered ≤ m
 
+-- what is set starts and ends at or below m kW
+pub record SettingBelow (m : ℕ) (g : Setting) : Type 0 where
+  pub from : g .from ≤ grains m
+  pub target : g .target ≤ m
+  pub ordered : g .ordered ≤ m
+
 step-below : (b : Bool) (m block target v : ℕ) → v ≤ grains m → target ≤ m → pick b (min block (grains target)) v ≤ grains m
 unfolding grains
 step-below true m block target v p q = omega arith
 step-below false m block target v p q = p
 
-way-below : (u : UnitData) (begin : ℕ) (g : Setting) (off m : ℕ) → g .from ≤ grains m → g .target ≤ m → g .ordered ≤ m → WayBelow m (underWay u begin g off)
+way-below : (u : UnitData) (begin : ℕ) (g : Setting) (off m : ℕ) → SettingBelow m g → WayBelow m (underWay u begin g off)
 unfolding underWay courseFrom stepped
-way-below u begin g off m p q r = record {
-  course = record { start = step-below (eqb (g .from) 0 && ltb 0 (grains (g .target))) m (grains (columnFor u (g .heat) .block)) (g .target) (g .from) p q; target = q };
-  ordered = r;
+way-below u begin g off m b = record {
+  course = record {
+    start = step-below (eqb (g .from) 0 && ltb 0 (grains (g .target))) m (grains (columnFor u (g .heat) .block)) (g .target) (g .from) (b .from) (b .target);
+    target = b .target;
+  };
+  ordered = b .ordered;
 }
 
 -- m kW is at least the capacity and the short-term maximum
 module _ (u : UnitData) (m : ℕ) (capacity : u .capacity ≤ m) (maximum : u .maximum ≤ m) where
-  setting-below : (now : UnderWay) (i : Instruction) (s : State) (e : Effect) → now .ordered ≤ m → s .level ≤ grains m →
-      (setting u now i s e .from ≤ grains m) × (setting u now i s e .target ≤ m) × (setting u now i s e .ordered ≤ m)
-  unfolding setting mwofTarget syncTarget
-  setting-below now i s Trip o v = (omega arith, omega arith, o)
-  setting-below now i s Mwof o v = (v, omega arith, omega arith)
-  setting-below now i s Mxon o v = (v, maximum, o)
-  setting-below now i s Sync o v = (v, omega arith, omega arith)
-  setting-below now i s Mxof o v = (v, o, o)
-  setting-below now i s Desy o v = (v, omega arith, o)
-  setting-below now i s Fail o v = (v, omega arith, o)
-
-  begun-below : (now : UnderWay) (o : Numbered) (s : State) → now .ordered ≤ m → s .level ≤ grains m → WayBelow m (begun u now o s)
-  unfolding begun
-  begun-below now o s p v =
-      let b = setting-below now (o .instruction) s (o .instruction .meaning .effect) p v in
-      way-below u (acting o) (setting u now (o .instruction) s (o .instruction .meaning .effect)) (s .off) m (b .0) (b .1) (b .2)
+  -- whatever an instruction sets
+  outcome-below : (now : UnderWay) (i : Instruction) (s : State) (e : Effect) (g : Setting) → now .ordered ≤ m → s .level ≤ grains m → outcomeBy u now i s e ≡ Sets g → SettingBelow m g
+  unfolding outcomeBy mwofTarget syncTarget
+  outcome-below now i s Trip g o v e = unless-sets (SettingBelow m) (eqb (s .level) 0) _ g e (record { from = omega arith; target = omega arith; ordered = o })
+  outcome-below now i s Mwof g o v e = unless-sets (SettingBelow m) (eqb (s .level) 0 && eqb (i .level) 0) _ g e (record { from = v; target = omega arith; ordered = omega arith })
+  outcome-below now i s Mxon g o v e = unless-sets (SettingBelow m) (eqb (s .level) 0 || now .maximised) _ g e (record { from = v; target = maximum; ordered = o })
+  outcome-below now i s Sync g o v e = unless-sets (SettingBelow m) (ltb 0 (s .level)) _ g e (record { from = v; target = omega arith; ordered = omega arith })
+  outcome-below now i s Mxof g o v e = unless-sets (SettingBelow m) (not (now .maximised)) _ g e (record { from = v; target = o; ordered = o })
+  outcome-below now i s Desy g o v e = unless-sets (SettingBelow m) (eqb (s .level) 0) _ g e (record { from = v; target = omega arith; ordered = o })
+  outcome-below now i s Fail g o v e = ignored-sets g e
 
   -- the level just before lies below where the course does
   state-below : (now : UnderWay) (t : ℕ) → WayBelow m now → stateAt byRule u now t .level ≤ grains m
@@ -79,24 +86,18 @@ module _ (u : UnitData) (m : ℕ) (capacity : u .capacity ≤ m) (maximum : u .m
       omega (arith, rule-level c (now .off) (t - now .course .begin), level-below c (grains m) (t - now .course .begin) (b .course .start) (omega (arith, b .course .target)))
 
   pub courses-below : (now : UnderWay) (os : List Numbered) → WayBelow m now → All (Below m) (map courseOf (follow byRule u now os .courses))
-  unfolding follow goesOn replaces
-  courses-below now [] b = (b .course, tt)
-  courses-below now (o ∷ os) b =
-      let s : State = stateAt byRule u now (acting o) in
-      go (idle (o .instruction .meaning .effect) (o .instruction .level) (s .level) (now .maximised)) (courses-below now os b)
-      (courses-below (begun u now o s) os (begun-below now o s (b .ordered) (state-below now (acting o) b)))
-    where
-      go : (t : Bool) → All (Below m) (map courseOf (follow byRule u now os .courses)) →
-          All (Below m) (map courseOf (follow byRule u (begun u now o (stateAt byRule u now (acting o))) os .courses)) →
-          let f : Followed = elim t [ true ↦ goesOn o (follow byRule u now os) | false ↦ replaces now o (follow byRule u (begun u now o (stateAt byRule u now (acting o))) os) ] in
-          All (Below m) (map courseOf (f .courses))
-      go true x y = x
-      go false x y = (b .course, y)
+  courses-below = follow-ind byRule u (λ now os f. WayBelow m now → All (Below m) (map courseOf (f .courses)))
+      (λ now b. (b .course, tt))
+      (λ now o os f e more b. unfold goesOn in more b)
+      (λ now o os g f e more b. unfold replaces begun in (
+        b .course,
+        more (way-below u (acting o) g (stateAt byRule u now (acting o) .off) m
+            (outcome-below now (o .instruction) (stateAt byRule u now (acting o)) (o .instruction .meaning .effect) g (b .ordered) (state-below now (acting o) b) e)),
+      ))
 
-  -- an opening that meets no refusal 22
-  pub opened-below : (o : Opening) → o .level ≤ grains m → o .target ≤ m → WayBelow m (opened u o)
-  unfolding opened
-  opened-below o p q = way-below u 0 _ (o .off) m p q q
+  pub start-below : (s : Start) → s .level ≤ grains m → s .target ≤ m → s .ordered ≤ m → WayBelow m (startCourse u s)
+  unfolding startCourse
+  start-below s p q r = way-below u 0 _ (s .off) m (record { from = p; target = q; ordered = r })
 
 -- ---- the levels of a day
 abbrev pub SpanBelow : ℕ → Span → Type 0
@@ -131,20 +132,20 @@ module _ (m : ℕ) (ss : List Span) (b : All (SpanBelow m) ss) where
   recorded-below a (suc n) = omega (arith, starting-below a, ending-below a, recorded-below (suc a) n)
 
 -- a half-hour of at most that area rounds to at most that many kW
-pub rounded-below : (x m : ℕ) → x ≤ 1800 * (2 * grains m) → rounded x ≤ m
+pub rounded-below : (x m : ℕ) → x ≤ halfHour * (2 * grains m) → rounded x ≤ m
 unfolding rounded grains
 rounded-below x m h = omega arith
 
 pub quantity-below : (m : ℕ) (ss : List Span) → All (SpanBelow (grains m)) ss → (i : ℕ) → rounded (recordedIn ss i) ≤ m
 unfolding recordedIn
-quantity-below m ss b i = rounded-below (recordedTwice ss (1800 * i) 1800) m (recorded-below (grains m) ss b (1800 * i) 1800)
+quantity-below m ss b i = rounded-below (recordedTwice ss (halfHour * i) halfHour) m (recorded-below (grains m) ss b (halfHour * i) halfHour)
 
 -- twice the recorded area of any day whose figures fit 32 bits, from 0 to any boundary of its n half-hours
-pub sum-below : (m : ℕ) (ss : List Span) → All (SpanBelow (grains m)) ss → (b : ℕ) → recordedTo ss b ≤ 1800 * b * (2 * grains m)
+pub sum-below : (m : ℕ) (ss : List Span) → All (SpanBelow (grains m)) ss → (b : ℕ) → recordedTo ss b ≤ halfHour * b * (2 * grains m)
 unfolding recordedTo
-sum-below m ss w b = recorded-below (grains m) ss w 0 (1800 * b)
+sum-below m ss w b = recorded-below (grains m) ss w 0 (halfHour * b)
 
--- 48 half-hours of levels below 2 ^ 32 kW: below 2 ^ 56 grain-seconds, so that a sum fits 64 bits
-pub sum-fits : (ss : List Span) → All (SpanBelow (grains (2 ^ 32))) ss → (b : ℕ) → b ≤ 48 → recordedTo ss b < 2 ^ 56
+-- the half-hours of the longest day, of levels below 2 ^ 32 kW: below 2 ^ 56 grain-seconds, so that a sum fits 64 bits
+pub sum-fits : (ss : List Span) → All (SpanBelow (grains (2 ^ 32))) ss → (b : ℕ) → b ≤ mostHalfHours → recordedTo ss b < 2 ^ 56
 unfolding grains
-sum-fits ss w b h = omega (arith, sum-below (2 ^ 32) ss w b, mul-le-mul-right {m = 1800 * b} {n = 86400} (2 * (60 * 2 ^ 32)) (omega arith))
+sum-fits ss w b h = omega (arith, sum-below (2 ^ 32) ss w b, mul-le-mul-right {m = halfHour * b} {n = mostSeconds} (2 * (60 * 2 ^ 32)) (omega arith))

@@ -7,6 +7,7 @@ use native.Mathlib.Nat.{mul-le-mul, mul-le-mul-right}
 use native.Mathlib.Decide.{decLe}
 use native.Mathlib.Omega.{arith}
 use Rattle.level.specs.Lists.{All, sum}
+use Rattle.level.specs.Numbers.{halfHour}
 use Rattle.segments.specs.Segments.{area}
 use Rattle.segments.proofs.Sums.{sum-split}
 use Rattle.records.specs.declared.UnitData.{UnitData}
@@ -33,7 +34,7 @@ spans-drive u f end [] = tt
 spans-drive u f end (c ∷ cs) = (course-driven u f c, spans-drive u f end cs)
 
 -- ---- differences from fractions
-within-plus : (x y m n : ℕ) (e g : Fraction) → Within x e m → Within y g n → Within (x + y) (plus e g) (m + n)
+pub within-plus : (x y m n : ℕ) (e g : Fraction) → Within x e m → Within y g n → Within (x + y) (plus e g) (m + n)
 unfolding plus
 within-plus x y m n e g p q = record {
   fraction = omega (arith, mul-le-mul (p .fraction) (q .fraction));
@@ -41,7 +42,7 @@ within-plus x y m n e g p q = record {
   below = omega (arith, mul-le-mul-right (g .den) (p .below), mul-le-mul-right (e .den) (q .below));
 }
 
-within-near : (x y k m : ℕ) (e : Fraction) → x ≤ y + k → y ≤ x + k → Within y e m → Within x e (k + m)
+pub within-near : (x y k m : ℕ) (e : Fraction) → x ≤ y + k → y ≤ x + k → Within y e m → Within x e (k + m)
 within-near x y k m e p q w = record {
   fraction = w .fraction;
   above = omega (arith, w .above, mul-le-mul-right (e .den) p);
@@ -69,17 +70,17 @@ parts-more (s ∷ ss) x y h =
     split : (e b x y : ℕ) → x ≤ y → min e y - b ≡ (min e x - b) + ((min e y - b) - (min e x - b))
     split e b x y h = let k : min e x - b ≤ min e y - b = omega arith in omega arith
 
-module _ (n : ℕ) (ss : List Span) (c : Chain 0 ss (1800 * n)) where
-  whole : (x y : ℕ) → x ≤ y → y ≤ 1800 * n → recordedTwice ss x (y - x) ≡ parts ss x y
+module _ (n : ℕ) (ss : List Span) (c : Chain 0 ss (halfHour * n)) where
+  whole : (x y : ℕ) → x ≤ y → y ≤ halfHour * n → recordedTwice ss x (y - x) ≡ parts ss x y
   unfolding recordedTwice
   whole x y h k =
-      omega (arith, over 0 (1800 * n) ss c x (y - x) (omega arith) (omega arith), parts-more ss x y h, ap (piecesTo ss) {x = x + (y - x)} {y = y} (omega arith))
+      omega (arith, over 0 (halfHour * n) ss c x (y - x) (omega arith) (omega arith), parts-more ss x y h, ap (piecesTo ss) {x = x + (y - x)} {y = y} (omega arith))
 
-all-near : (from to : ℕ) (ss : List Span) → Chain from ss to → Drives ss → (a b : ℕ) → a ≤ b → Within (parts ss (1800 * a) (1800 * b)) (exactArea ss a b) (allowance ss a b)
+all-near : (from to : ℕ) (ss : List Span) → Chain from ss to → Drives ss → (a b : ℕ) → a ≤ b → Within (parts ss (halfHour * a) (halfHour * b)) (exactArea ss a b) (allowance ss a b)
 unfolding parts exactArea allowance
 all-near from to [] c d a b up = record { fraction = omega arith; above = omega arith; below = omega arith }
 all-near from to (s ∷ ss) c d a b up =
-    within-plus (recordedOver s (order from to s ss c) (1800 * a) (1800 * b)) (parts ss (1800 * a) (1800 * b)) (allowed s a b) (allowance ss a b) (exactOf s a b) (exactArea ss a b)
+    within-plus (recordedOver s (order from to s ss c) (halfHour * a) (halfHour * b)) (parts ss (halfHour * a) (halfHour * b)) (allowed s a b) (allowance ss a b) (exactOf s a b) (exactArea ss a b)
     (course-near s (order from to s ss c) (d .0) a b up) (all-near (s .end) to ss (c .2) (d .1) a b up)
 
 -- ---- sums over half-hours, and rounding
@@ -91,25 +92,25 @@ sum-none : (f : ℕ → ℕ) (a : ℕ) → sum f a 0 ≡ 0
 unfolding sum
 sum-none f a = refl
 
-sum-blocks : (f : ℕ → ℕ) (a n : ℕ) → sum (λ i. sum f (1800 * i) 1800) a n ≡ sum f (1800 * a) (1800 * n)
-sum-blocks f a zero = sum-none (λ i. sum f (1800 * i) 1800) a ∙ sym (sum-none f (1800 * a))
+sum-blocks : (f : ℕ → ℕ) (a n : ℕ) → sum (λ i. sum f (halfHour * i) halfHour) a n ≡ sum f (halfHour * a) (halfHour * n)
+sum-blocks f a zero = sum-none (λ i. sum f (halfHour * i) halfHour) a ∙ sym (sum-none f (halfHour * a))
 sum-blocks f a (suc n) =
-    let e : 1800 + 1800 * n ≡ 1800 * suc n = omega arith in
-    let g : 1800 * a + 1800 ≡ 1800 * suc a = omega arith in
+    let e : halfHour + halfHour * n ≡ halfHour * suc n = omega arith in
+    let g : halfHour * a + halfHour ≡ halfHour * suc a = omega arith in
     omega (
       arith,
-      sum-more (λ i. sum f (1800 * i) 1800) a n,
+      sum-more (λ i. sum f (halfHour * i) halfHour) a n,
       sum-blocks f (suc a) n,
-      ap (sum f (1800 * a)) e,
-      sum-split f (1800 * a) 1800 (1800 * n),
-      ap (λ (k : ℕ). sum f k (1800 * n)) g,
+      ap (sum f (halfHour * a)) e,
+      sum-split f (halfHour * a) halfHour (halfHour * n),
+      ap (λ (k : ℕ). sum f k (halfHour * n)) g,
     )
 
 pub rounded-near : (x : ℕ) → (216000 * rounded x ≤ x + 108000) × (x ≤ 216000 * rounded x + 108000)
 unfolding rounded
 rounded-near x = omega arith
 
-rounded-sum : (f : ℕ → ℕ) (a n : ℕ) → (216000 * sum (λ i. rounded (f i)) a n ≤ sum f a n + 108000 * n) × (sum f a n ≤ 216000 * sum (λ i. rounded (f i)) a n + 108000 * n)
+pub rounded-sum : (f : ℕ → ℕ) (a n : ℕ) → (216000 * sum (λ i. rounded (f i)) a n ≤ sum f a n + 108000 * n) × (sum f a n ≤ 216000 * sum (λ i. rounded (f i)) a n + 108000 * n)
 unfolding sum
 rounded-sum f a zero = omega arith
 rounded-sum f a (suc n) = omega (arith, rounded-sum f (suc a) n, rounded-near (f a))
@@ -119,15 +120,15 @@ unfolding sum
 sum-agree f g a zero h = refl
 sum-agree f g a (suc n) h = omega (arith, h a (omega arith), sum-agree f g (suc a) n (λ j q. h j (omega arith)))
 
-module _ (n : ℕ) (ss : List Span) (c : Chain 0 ss (1800 * n)) (d : Drives ss) where
+module _ (n : ℕ) (ss : List Span) (c : Chain 0 ss (halfHour * n)) (d : Drives ss) where
   -- the recorded area itself: within the allowance of the courses having time there
   pub recorded-near : (a b : ℕ) → a ≤ b → b ≤ n → Within (sum (recordedIn ss) a (b - a)) (exactArea ss a b) (allowance ss a b)
   unfolding recordedIn recordedTwice
   recorded-near a b up top =
-      let e : 1800 * (b - a) ≡ 1800 * b - 1800 * a = omega arith in
-      rw (sum-blocks (λ t. levelStarting ss t + levelEnding ss t) a (b - a) ∙ (ap (sum (λ t. levelStarting ss t + levelEnding ss t) (1800 * a)) e
-      ∙ whole n ss c (1800 * a) (1800 * b) (omega arith) (omega arith)))
-      (all-near 0 (1800 * n) ss c d a b up)
+      let e : halfHour * (b - a) ≡ halfHour * b - halfHour * a = omega arith in
+      rw (sum-blocks (λ t. levelStarting ss t + levelEnding ss t) a (b - a) ∙ (ap (sum (λ t. levelStarting ss t + levelEnding ss t) (halfHour * a)) e
+      ∙ whole n ss c (halfHour * a) (halfHour * b) (omega arith) (omega arith)))
+      (all-near 0 (halfHour * n) ss c d a b up)
 
   -- the quantities: with the rounding
   pub quantities-near : (q : ℕ → ℕ) → ((i : ℕ) → i < n → q i ≡ rounded (recordedIn ss i)) → (a b : ℕ) → a ≤ b → b ≤ n →

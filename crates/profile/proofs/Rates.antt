@@ -1,15 +1,16 @@
 -- Every rate of a let-in unit that a course can use is at least 1.
 -- Assumes nothing.
 use mathlib.Core.Path.{_≡_, refl, ap, sym}
-use mathlib.Core.List.{List, [], _∷_, map}
-use mathlib.Core.Bool.{Bool, true, false, _&&_, not, true≢false}
+use mathlib.Core.List.{List, [], _∷_}
+use mathlib.Core.Bool.{Bool, true, false, not, true≢false}
 use Prim.Native.Nat.{ℕ, zero, suc, _+_, _-_, _≤_, _<_}
 use native.Mathlib.Decide.{ℕ-discrete}
 use native.Mathlib.Omega.{arith}
 use lib.Dec.{leb, eqb, leb→le}
-use lib.ListN.{length, getD}
+use lib.ListN.{length, getD, length-map}
 use borrow.Author.Tests.{eq-eqb, ne-eqb}
 use Rattle.level.specs.Choice.{pick}
+use Rattle.level.proofs.Lists.{and-true}
 use Rattle.level.specs.Level.{grains}
 use Rattle.records.specs.declared.Column.{Column}
 use Rattle.records.specs.declared.UnitData.{UnitData}
@@ -36,13 +37,9 @@ pub record Fit (u : UnitData) : Type 0 where
   pub up-breaks : length (u .up .breaks) ≤ 4
   pub down-breaks : length (u .down .breaks) ≤ 4
 
-grains-length : (bs : List ℕ) → length (map grains bs) ≡ length bs
-grains-length [] = refl
-grains-length (b ∷ bs) = ap suc (grains-length bs)
-
 runs-of : (rs bs : List ℕ) → Some rs (length bs) → Runs (ratesOf rs bs)
 unfolding ratesOf
-runs-of rs bs h n p = h n (omega (arith, grains-length bs))
+runs-of rs bs h n p = h n (omega (arith, length-map bs grains))
 
 five : (r n : ℕ) → 1 ≤ r → n ≤ 4 → 1 ≤ getD (r ∷ r ∷ r ∷ r ∷ r ∷ []) n 0
 five r zero h p = h
@@ -69,10 +66,6 @@ lists-driven u f heat up down = record {
 }
 
 -- ---- from the record let in
-
-and-true : (a b : Bool) → (a && b) ≡ true → (a ≡ true) × (b ≡ true)
-and-true true b e = (refl, e)
-and-true false b e = absurd (true≢false (sym e))
 
 abbrev noRange : Range
 noRange = record { low = 0; high = 0 }

@@ -1,21 +1,22 @@
 -- How much a day can hold: courses, pieces, fates, the closing state.
 -- Assumes nothing.
-use mathlib.Core.Path.{_≡_, refl, ap, _∙_}
-use mathlib.Core.List.{List, [], _∷_, _++_, map}
-use mathlib.Core.Bool.{Bool, true, false, _&&_}
+use mathlib.Core.Path.{_≡_, ap, _∙_}
+use mathlib.Core.List.{List, [], _∷_, map}
+use mathlib.Core.Bool.{Bool, true, false, _&&_, _||_, not}
 use Prim.Native.Nat.{ℕ, zero, suc, _+_, _*_, _-_, min, _≤_}
 use native.Mathlib.Nat.{le-refl}
 use native.Mathlib.Omega.{arith}
-use lib.Dec.{eqb, leb}
-use lib.ListN.{length, getD, length-append}
+use lib.Dec.{eqb, leb, ltb}
+use lib.ListN.{length, getD, length-append, length-map}
 use Rattle.level.specs.Choice.{pick}
 use Rattle.level.specs.Level.{grains}
 use Rattle.level.specs.Lists.{All}
+use Rattle.level.proofs.Lists.{all-append}
+use Rattle.level.specs.Numbers.{halfHour}
 use Rattle.records.specs.declared.Effect.{Effect}
 use Rattle.records.specs.declared.Effect.the-variants.{Trip, Mwof, Mxon, Sync, Mxof, Desy, Fail}
 use Rattle.records.specs.declared.Column.{Column}
 use Rattle.records.specs.declared.UnitData.{UnitData}
-use Rattle.records.specs.declared.Opening.{Opening}
 use Rattle.records.specs.declared.Instruction.{Instruction}
 use Rattle.records.specs.Records.{unitOf, columnOf}
 use Rattle.course.specs.declared.Course.{Course}
@@ -34,17 +35,18 @@ use Rattle.profile.specs.declared.UnderWay.{UnderWay}
 use Rattle.profile.specs.declared.Closing.{Closing}
 use Rattle.profile.specs.declared.State.{State}
 use Rattle.profile.specs.State.{held, watch, watchNext, byRule}
-use Rattle.profile.specs.Effects.{setting, heatBy, courseFrom, underWay, opened, begun, idle, Followed, goesOn, replaces, stateAt, follow}
-use Rattle.profile.specs.Profile.{Span, beginOf, spansOf, dayPieces, courseOf, closingOf, foundBy, found, paper}
+use Rattle.profile.specs.declared.Setting.{Setting}
+use Rattle.profile.specs.declared.Outcome.the-variants.{Sets}
+use Rattle.profile.specs.declared.Taken.{Taken}
+use Rattle.profile.specs.Taken.{Low, entered}
+use Rattle.profile.specs.Effects.{outcomeBy, heatBy, courseFrom, underWay, startCourse, begun, goesOn, replaces, stateAt, follow}
+use Rattle.profile.specs.Profile.{Span, beginOf, spansOf, dayPieces, courseOf, lastOf, closingBy, foundBy, found, paper}
+use Rattle.profile.proofs.Following.{unless-sets, ignored-sets, follow-ind}
 use Rattle.profile.proofs.Tiles.{Chain}
 use Rattle.profile.proofs.States.{rule-level}
-use Rattle.profile.proofs.Most.{Below, SpanBelow, courses-below, opened-below}
+use Rattle.profile.proofs.Most.{Below, WayBelow, SpanBelow, courses-below, start-below}
 
 -- ---- the lists of a unit have as many breaks and triggers as the record has
-map-length : {A B : Type 0} (f : A → B) (xs : List A) → length (map f xs) ≡ length xs
-map-length f [] = refl
-map-length f (x ∷ xs) = ap suc (map-length f xs)
-
 pub record Sized (u : UnitData) : Type 0 where
   pub columns : (heat : ℕ) → (length (columnFor u heat .breaks) ≤ 2) × (length (columnFor u heat .soaks) ≤ 2)
   pub up : length (u .up .breaks) ≤ 4
@@ -55,12 +57,12 @@ pub record Sized (u : UnitData) : Type 0 where
 pub shaped : (u : UnitData) → Sized u → (heat up down : ℕ) → Shaped (listsOf u heat up down)
 unfolding listsOf ratesOf
 shaped u s heat up down = record {
-  column = omega (arith, map-length grains (columnFor u heat .breaks), s .columns heat .0);
-  soaks = omega (arith, map-length inGrains (columnFor u heat .soaks), s .columns heat .1);
-  up = omega (arith, map-length grains (u .up .breaks), s .up);
-  dwells = omega (arith, map-length inGrains (u .dwells), s .dwells);
-  down = omega (arith, map-length grains (u .down .breaks), s .down);
-  deload = omega (arith, map-length grains (u .deload .breaks), s .deload);
+  column = omega (arith, length-map (columnFor u heat .breaks) grains, s .columns heat .0);
+  soaks = omega (arith, length-map (columnFor u heat .soaks) inGrains, s .columns heat .1);
+  up = omega (arith, length-map (u .up .breaks) grains, s .up);
+  dwells = omega (arith, length-map (u .dwells) inGrains, s .dwells);
+  down = omega (arith, length-map (u .down .breaks) grains, s .down);
+  deload = omega (arith, length-map (u .deload .breaks) grains, s .deload);
 }
 
 pub sized : (ns : List ℕ) → Sized (unitOf ns)
@@ -76,31 +78,16 @@ sized ns = record { columns = λ heat. go (eqb heat 1) (eqb heat 2); up = omega 
 -- ---- courses
 module _ (look : Trajectory → ℕ → ℕ → State) (u : UnitData) where
   follow-few : (now : UnderWay) (os : List Numbered) → length (map courseOf (follow look u now os .courses)) ≤ suc (length os)
-  unfolding follow goesOn replaces
-  follow-few now [] = omega arith
-  follow-few now (o ∷ os) =
-      go (idle (o .instruction .meaning .effect) (o .instruction .level) (stateAt look u now (acting o) .level) (now .maximised)) (follow-few now os)
-      (follow-few (begun u now o (stateAt look u now (acting o))) os)
-    where
-      go : (b : Bool) → length (map courseOf (follow look u now os .courses)) ≤ suc (length os) →
-          length (map courseOf (follow look u (begun u now o (stateAt look u now (acting o))) os .courses)) ≤ suc (length os) →
-          let f : Followed = elim b [ true ↦ goesOn o (follow look u now os) | false ↦ replaces now o (follow look u (begun u now o (stateAt look u now (acting o))) os) ] in
-          length (map courseOf (f .courses)) ≤ suc (suc (length os))
-      go true x y = omega arith
-      go false x y = omega arith
+  follow-few = follow-ind look u (λ now os f. length (map courseOf (f .courses)) ≤ suc (length os))
+      (λ now. omega arith)
+      (λ now o os f e few. unfold goesOn in omega (arith, few))
+      (λ now o os g f e few. unfold replaces in omega (arith, few))
 
   follow-digits : (now : UnderWay) (os : List Numbered) → Digits (follow look u now os .marks)
-  unfolding follow goesOn replaces
-  follow-digits now [] = tt
-  follow-digits now (o ∷ os) =
-      go (idle (o .instruction .meaning .effect) (o .instruction .level) (stateAt look u now (acting o) .level) (now .maximised)) (follow-digits now os)
-      (follow-digits (begun u now o (stateAt look u now (acting o))) os)
-    where
-      go : (b : Bool) → Digits (follow look u now os .marks) → Digits (follow look u (begun u now o (stateAt look u now (acting o))) os .marks) →
-          let f : Followed = elim b [ true ↦ goesOn o (follow look u now os) | false ↦ replaces now o (follow look u (begun u now o (stateAt look u now (acting o))) os) ] in
-          Digits (f .marks)
-      go true x y = (omega arith, x)
-      go false x y = (omega arith, y)
+  follow-digits = follow-ind look u (λ now os f. Digits (f .marks))
+      (λ now. tt)
+      (λ now o os f e ds. unfold goesOn in (omega arith, ds))
+      (λ now o os g f e ds. unfold replaces in (omega arith, ds))
 
 pub pieces-few : (u : UnitData) → Sized u → (end : ℕ) (cs : List Course) → length (dayPieces (spansOf u end cs)) ≤ 32 * length cs
 unfolding spansOf dayPieces trajectoryOf
@@ -136,10 +123,6 @@ traces-below h f m end b a n q (p ∷ ps) t =
       },
       traces-below h f m end b (p .to) n q ps (t .3),
     )
-
-all-append : {A : Type 0} (P : A → Type 0) (xs ys : List A) → All P xs → All P ys → All P (xs ++ ys)
-all-append P [] ys p q = q
-all-append P (x ∷ xs) ys p q = (p .0, all-append P xs ys (p .1) q)
 
 chain-up : (from to : ℕ) (ss : List Span) → Chain from ss to → from ≤ to
 chain-up from to [] c = omega (arith, c)
@@ -178,36 +161,37 @@ hot-below u off = go (leb off (60 * u .hot)) (leb off (60 * u .warm))
     go false true = omega arith
     go false false = omega arith
 
-heat-below : (u : UnitData) (now : UnderWay) (i : Instruction) (s : State) (e : Effect) → now .course .heat ≤ 3 → setting u now i s e .heat ≤ 3
-unfolding setting
-heat-below u now i s Trip h = h
-heat-below u now i s Mwof h = go (eqb (s .level) 0)
+abbrev HeatBelow : Setting → Type 0
+HeatBelow g = g .heat ≤ 3
+
+heat-below : (u : UnitData) (now : UnderWay) (i : Instruction) (s : State) (e : Effect) (g : Setting) → now .course .heat ≤ 3 → outcomeBy u now i s e ≡ Sets g → g .heat ≤ 3
+unfolding outcomeBy
+heat-below u now i s Trip g h e = unless-sets HeatBelow (eqb (s .level) 0) _ g e h
+heat-below u now i s Mwof g h e = unless-sets HeatBelow (eqb (s .level) 0 && eqb (i .level) 0) _ g e (go (eqb (s .level) 0))
   where
     go : (b : Bool) → pick b 3 (now .course .heat) ≤ 3
     go true = omega arith
     go false = h
-heat-below u now i s Mxon h = h
-heat-below u now i s Sync h = hot-below u (s .off)
-heat-below u now i s Mxof h = h
-heat-below u now i s Desy h = h
-heat-below u now i s Fail h = h
+heat-below u now i s Mxon g h e = unless-sets HeatBelow (eqb (s .level) 0 || now .maximised) _ g e h
+heat-below u now i s Sync g h e = unless-sets HeatBelow (ltb 0 (s .level)) _ g e (hot-below u (s .off))
+heat-below u now i s Mxof g h e = unless-sets HeatBelow (not (now .maximised)) _ g e h
+heat-below u now i s Desy g h e = unless-sets HeatBelow (eqb (s .level) 0) _ g e h
+heat-below u now i s Fail g h e = ignored-sets g e
 
 abbrev Warm : List Course → Type 0
 Warm cs = All (λ (c : Course). c .heat ≤ 3) cs
 
 follow-warm : (look : Trajectory → ℕ → ℕ → State) (u : UnitData) (now : UnderWay) (os : List Numbered) → now .course .heat ≤ 3 → Warm (map courseOf (follow look u now os .courses))
-unfolding follow goesOn replaces begun underWay courseFrom
-follow-warm look u now [] h = (h, tt)
-follow-warm look u now (o ∷ os) h =
-    let s : State = stateAt look u now (acting o) in
-    go (idle (o .instruction .meaning .effect) (o .instruction .level) (s .level) (now .maximised)) (follow-warm look u now os h)
-    (follow-warm look u (begun u now o s) os (heat-below u now (o .instruction) s (o .instruction .meaning .effect) h))
-  where
-    go : (b : Bool) → Warm (map courseOf (follow look u now os .courses)) → Warm (map courseOf (follow look u (begun u now o (stateAt look u now (acting o))) os .courses)) →
-        let f : Followed = elim b [ true ↦ goesOn o (follow look u now os) | false ↦ replaces now o (follow look u (begun u now o (stateAt look u now (acting o))) os) ] in
-        Warm (map courseOf (f .courses))
-    go true x y = x
-    go false x y = (h, y)
+follow-warm look u = follow-ind look u (λ now os f. now .course .heat ≤ 3 → Warm (map courseOf (f .courses)))
+    (λ now h. (h, tt))
+    (λ now o os f e more h. unfold goesOn in more h)
+    (λ now o os g f e more h. unfold replaces begun underWay courseFrom in (h, more (heat-below u now (o .instruction) (stateAt look u now (acting o)) (o .instruction .meaning .effect) g h e)))
+
+-- a fact of the first course and of all of some is one of the last
+last-of : (P : Course → Type 0) (c : UnderWay) (cs : List UnderWay) → P (c .course) → All P (map courseOf cs) → P (lastOf c cs .course)
+unfolding lastOf
+last-of P c [] p a = p
+last-of P c (d ∷ ds) p a = last-of P d ds (a .0) (a .1)
 
 pub record ClosingBelow (m : ℕ) (e : Closing) : Type 0 where
   pub level : e .level .grains ≤ grains m
@@ -215,47 +199,60 @@ pub record ClosingBelow (m : ℕ) (e : Closing) : Type 0 where
   pub heat : e .heat ≤ 3
   pub off : e .off ≤ 10000000
 
-closing-below : (u : UnitData) (end m : ℕ) (cs : List UnderWay) → All (Below m) (map courseOf cs) → Warm (map courseOf cs) → ClosingBelow m (closingOf paper u end cs)
-unfolding closingOf stateAt byRule trajectoryOf
-closing-below u end m [] b w = record { level = omega arith; target = omega arith; heat = omega arith; off = omega arith }
-closing-below u end m (c ∷ []) b w =
+-- a course and the state that it has come to
+closing-below : (u : UnitData) (end m : ℕ) (c : UnderWay) → Below m (c .course) → c .course .heat ≤ 3 → ClosingBelow m (closingBy c (stateAt byRule u c end))
+unfolding stateAt byRule trajectoryOf
+closing-below u end m c b w =
     let t : Trajectory = trajectoryOf u (c .course) in
     let k : ℕ = end - c .course .begin in
     record {
-      level = omega (arith, rule-level t (c .off) k, level-below t (grains m) k (b .0 .start) (grown m (c .course .target) (b .0 .target)));
-      target = b .0 .target;
-      heat = w .0;
+      level = omega (arith, rule-level t (c .off) k, level-below t (grains m) k (b .start) (grown m (c .course .target) (b .target)));
+      target = b .target;
+      heat = w;
       off = watch-held t (c .off) k;
     }
   where
     grown : (m x : ℕ) → x ≤ m → grains x ≤ grains m
     grown m x h = unfold grains in omega arith
-closing-below u end m (c ∷ (d ∷ ds)) b w = closing-below u end m (d ∷ ds) (b .1) (w .1)
 
 -- ---- the whole
-module _ (n : ℕ) (u : UnitData) (o : Opening) (is : List Instruction) where
-  pub courses-few : length (found paper n u o is .courses) ≤ suc (length is)
-  unfolding found foundBy
-  courses-few = omega (arith, follow-few byRule u (opened u o) (validated (1800 * n) (numbered 1 is) .acts), acts-few (1800 * n) (numbered 1 is), numbered-length 1 is)
+module _ (n : ℕ) (t : Taken) where
+  abbrev u : UnitData
+  u = t .unit
 
-  pub fates-are-digits : All (λ (f : ℕ). f ≤ 8) (found paper n u o is .fates)
+  abbrev is : List Instruction
+  is = entered t
+
+  abbrev first : UnderWay
+  first = startCourse u (t .start)
+
+  abbrev acts : List Numbered
+  acts = validated (halfHour * n) (numbered 1 is) .acts
+
+  pub courses-few : length (found paper n t .courses) ≤ suc (length (entered t))
+  unfolding found foundBy
+  courses-few = omega (arith, follow-few byRule u first acts, acts-few (halfHour * n) (numbered 1 is), numbered-length 1 is)
+
+  pub fates-are-digits : All (λ (f : ℕ). f ≤ 8) (found paper n t .fates)
   unfolding found foundBy
   fates-are-digits =
       fates-digits (numbered 1 is) _ (numbered 1 is)
-      (digits-append (follow byRule u (opened u o) (validated (1800 * n) (numbered 1 is) .acts) .marks) (validated (1800 * n) (numbered 1 is) .marks)
-      (follow-digits byRule u (opened u o) (validated (1800 * n) (numbered 1 is) .acts)) (marks-digits (1800 * n) (numbered 1 is)))
+      (digits-append (follow byRule u first acts .marks) (validated (halfHour * n) (numbered 1 is) .marks) (follow-digits byRule u first acts) (marks-digits (halfHour * n) (numbered 1 is)))
 
-  pub fates-many : length (found paper n u o is .fates) ≡ length is
+  pub fates-many : length (found paper n t .fates) ≡ length (entered t)
   unfolding found foundBy
   fates-many = fates-length (numbered 1 is) _ (numbered 1 is) ∙ numbered-length 1 is
 
-  opened-heat : (u : UnitData) (o : Opening) → o .heat ≤ 3 → opened u o .course .heat ≤ 3
-  unfolding opened underWay courseFrom
-  opened-heat u o h = h
+  first-heat : t .start .heat ≤ 3 → first .course .heat ≤ 3
+  unfolding startCourse underWay courseFrom
+  first-heat h = h
 
-  pub found-closing : u .capacity ≤ u .maximum → o .level ≤ grains (u .maximum) → o .target ≤ u .maximum → o .heat ≤ 3 → ClosingBelow (u .maximum) (found paper n u o is .closing)
+  pub found-closing : t .unit .capacity ≤ t .unit .maximum → Low (t .unit) (t .start) →
+      ClosingBelow (t .unit .maximum) (closingBy (found paper n t .last) (found paper n t .end))
   unfolding found foundBy
-  found-closing fits level target heat =
-      let acts : List Numbered = validated (1800 * n) (numbered 1 is) .acts in
-      closing-below u (1800 * n) (u .maximum) (follow byRule u (opened u o) acts .courses)
-      (courses-below u (u .maximum) fits (le-refl (u .maximum)) (opened u o) acts (opened-below u (u .maximum) fits (le-refl (u .maximum)) o level target)) (follow-warm byRule u (opened u o) acts (opened-heat u o heat))
+  found-closing fits low =
+      let m : ℕ = u .maximum in
+      let below : WayBelow m first = start-below u m fits (le-refl m) (t .start) (low .level) (low .target) (low .ordered) in
+      let cs : List UnderWay = follow byRule u first acts .courses in
+      closing-below u (halfHour * n) m (lastOf first cs) (last-of (Below m) first cs (below .course) (courses-below u m fits (le-refl m) first acts below))
+      (last-of (λ (c : Course). c .heat ≤ 3) first cs (first-heat (low .heat)) (follow-warm byRule u first acts (first-heat (low .heat))))

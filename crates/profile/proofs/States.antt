@@ -55,27 +55,27 @@ back (l ∷ (m ∷ ls)) v k h =
     )
 
 module _ (c : Trajectory) (off : ℕ) where
-  watch-moment : (k : ℕ) → watch c off k .moment ≡ momentAt c k
+  pub watch-moment : (k : ℕ) → watch c off k .moment ≡ momentAt c k
   unfolding watch watchNext momentAt after
   watch-moment zero = refl
   watch-moment (suc k) = ap (second (heading c) (c .lists) (c .target)) (watch-moment k)
 
-  watch-off : (k : ℕ) → watch c off (suc k) .off ≡ pick (eqb (levelAt c k) 0 && eqb (levelAt c (suc k)) 0) (held (suc (watch c off k .off))) 0
+  pub watch-off : (k : ℕ) → watch c off (suc k) .off ≡ pick (eqb (levelAt c k) 0 && eqb (levelAt c (suc k)) 0) (held (suc (watch c off k .off))) 0
   unfolding watch watchNext levelAt momentAt after
   watch-off k =
       ap (λ (m : Moment). pick (eqb (m .level) 0 && eqb (second (heading c) (c .lists) (c .target) m .level) 0) (held (suc (watch c off k .off))) 0) (watch-moment k)
 
-  off-more : (k : ℕ) → levelAt c k ≡ 0 → levelAt c (suc k) ≡ 0 → watch c off (suc k) .off ≡ held (suc (watch c off k .off))
+  pub off-more : (k : ℕ) → levelAt c k ≡ 0 → levelAt c (suc k) ≡ 0 → watch c off (suc k) .off ≡ held (suc (watch c off k .off))
   off-more k e f = watch-off k ∙ simp (eq-eqb _ _ e, eq-eqb _ _ f)
 
-  off-none : (k : ℕ) → levelAt c (suc k) ≢ 0 → watch c off (suc k) .off ≡ 0
+  pub off-none : (k : ℕ) → levelAt c (suc k) ≢ 0 → watch c off (suc k) .off ≡ 0
   off-none k f = watch-off k ∙ go (eqb (levelAt c k) 0) (eqb (levelAt c (suc k)) 0) (ne-eqb _ _ f)
     where
       go : (a b : Bool) → b ≡ false → pick (a && b) (held (suc (watch c off k .off))) 0 ≡ 0
       go true b e = rw e refl
       go false b e = refl
 
-  off-new : (k : ℕ) → levelAt c k ≢ 0 → watch c off (suc k) .off ≡ 0
+  pub off-new : (k : ℕ) → levelAt c k ≢ 0 → watch c off (suc k) .off ≡ 0
   off-new k f = watch-off k ∙ simp (ne-eqb _ _ f)
 
   -- what the twin says of a level v after k seconds

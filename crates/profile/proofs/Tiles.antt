@@ -2,12 +2,10 @@
 -- Assumes nothing.
 use mathlib.Core.Path.{_≡_, refl}
 use mathlib.Core.List.{List, [], _∷_, map}
-use mathlib.Core.Bool.{Bool, true, false}
 use Prim.Native.Nat.{ℕ, _-_, _≤_, _<_}
 use native.Mathlib.Omega.{arith}
 use Rattle.level.specs.Lists.{All}
 use Rattle.records.specs.declared.UnitData.{UnitData}
-use Rattle.records.specs.declared.Opening.{Opening}
 use Rattle.course.specs.declared.Course.{Course}
 use Rattle.course.specs.Course.{Trajectory}
 use Rattle.validation.specs.declared.Numbered.{Numbered}
@@ -15,8 +13,10 @@ use Rattle.validation.specs.Kept.{acting, validated}
 use Rattle.validation.proofs.Acting.{Rises, acting-rise}
 use Rattle.profile.specs.declared.UnderWay.{UnderWay}
 use Rattle.profile.specs.declared.State.{State}
-use Rattle.profile.specs.Effects.{Followed, goesOn, replaces, idle, underWay, courseFrom, begun, opened, stateAt, follow}
+use Rattle.profile.specs.declared.Start.{Start}
+use Rattle.profile.specs.Effects.{Followed, goesOn, replaces, underWay, courseFrom, begun, startCourse, follow}
 use Rattle.profile.specs.Profile.{Span, beginOf, spansOf, courseOf}
+use Rattle.profile.proofs.Following.{newCourse, follow-ind}
 
 -- each span begins where the one before ends
 abbrev pub Chain : ℕ → List Span → ℕ → Type 0
@@ -31,40 +31,44 @@ module _ (look : Trajectory → ℕ → ℕ → State) (end : ℕ) (u : UnitData
   abbrev courses : UnderWay → List Numbered → List Course
   courses now os = map courseOf (follow look u now os .courses)
 
-  -- the course under way is the first
-  first : (now : UnderWay) (os : List Numbered) → beginOf end (courses now os) ≡ now .course .begin
-  unfolding follow goesOn replaces beginOf
-  first now [] = refl
-  first now (o ∷ os) = go (idle (o .instruction .meaning .effect) (o .instruction .level) (stateAt look u now (acting o) .level) (now .maximised)) (first now os)
-    where
-      go : (b : Bool) → beginOf end (courses now os) ≡ now .course .begin →
-          let f : Followed = elim b [
-            | true ↦ goesOn o (follow look u now os)
-            | false ↦ replaces now o (follow look u (begun u now o (stateAt look u now (acting o))) os)
-          ] in beginOf end (map courseOf (f .courses)) ≡ now .course .begin
-      go true ih = ih
-      go false ih = refl
+  -- those left act after the course under way began, in order, within the day
+  record InDay (now : UnderWay) (os : List Numbered) : Type 0 where
+    after : All (λ o. now .course .begin ≤ acting o) os
+    rise : Rises os
+    soon : All (λ o. acting o < end) os
+    begun-soon : now .course .begin ≤ end
 
-  pub tiles : (now : UnderWay) (os : List Numbered) → All (λ o. now .course .begin ≤ acting o) os → Rises os → All (λ o. acting o < end) os → now .course .begin ≤ end →
-      Chain (now .course .begin) (spansOf u end (courses now os)) end
-  unfolding follow goesOn replaces beginOf spansOf begun underWay courseFrom
-  tiles now [] a r b h = (refl, h, refl)
-  tiles now (o ∷ os) a r b h =
-      let next : UnderWay = begun u now o (stateAt look u now (acting o)) in
-      go next refl (idle (o .instruction .meaning .effect) (o .instruction .level) (stateAt look u now (acting o) .level) (now .maximised)) (tiles now os (a .1) (r .1) (b .1) h)
-      (tiles next os (weak (acting o) os (r .0)) (r .1) (b .1) (omega (arith, b .0)))
-    where
-      go : (next : UnderWay) → next .course .begin ≡ acting o → (c : Bool) → Chain (now .course .begin) (spansOf u end (courses now os)) end →
-          Chain (next .course .begin) (spansOf u end (courses next os)) end →
-          let f : Followed = elim c [ true ↦ goesOn o (follow look u now os) | false ↦ replaces now o (follow look u next os) ] in
-          Chain (now .course .begin) (spansOf u end (map courseOf (f .courses))) end
-      go next e true stays new = stays
-      go next e false stays new = (refl, rw (first next os) (omega (arith, a .0, e)), rw (first next os) new)
+  -- the course under way is the first, and each ends where the next begins
+  record Tiled (now : UnderWay) (os : List Numbered) (f : Followed) : Type 0 where
+    first : beginOf end (map courseOf (f .courses)) ≡ now .course .begin
+    chain : InDay now os → Chain (now .course .begin) (spansOf u end (map courseOf (f .courses))) end
 
-  -- of any instructions, and any opening
-  pub day-tiles : (o : Opening) (os : List Numbered) → Chain 0 (spansOf u end (courses (opened u o) (validated end os .acts))) end
-  unfolding opened underWay courseFrom
-  day-tiles o os = let r = acting-rise end os in tiles (opened u o) (validated end os .acts) (zeros (validated end os .acts)) (r .0) (r .1) (omega arith)
+  tiles : (now : UnderWay) (os : List Numbered) → Tiled now os (follow look u now os)
+  tiles = follow-ind look u Tiled
+      (λ now. unfold beginOf spansOf in record { first = refl; chain = λ d. (refl, d .begun-soon, refl) })
+      (λ now o os f e t. unfold goesOn in record {
+        first = t .first;
+        chain = λ d. t .chain (record { after = d .after .1; rise = d .rise .1; soon = d .soon .1; begun-soon = d .begun-soon });
+      })
+      (λ now o os g f e t. unfold replaces beginOf spansOf in record {
+        first = refl;
+        chain = λ d.
+            let there : newCourse look u now o g .course .begin ≡ acting o = unfold begun underWay courseFrom in refl in
+            let later : InDay (newCourse look u now o g) os = record {
+              after = rw there (weak (acting o) os (d .rise .0));
+              rise = d .rise .1;
+              soon = d .soon .1;
+              begun-soon = omega (arith, there, d .soon .0);
+            } in
+            (refl, rw (t .first) (omega (arith, there, d .after .0)), rw (t .first) (t .chain later));
+      })
+
+  -- of any instructions, and any start
+  pub day-tiles : (s : Start) (os : List Numbered) → Chain 0 (spansOf u end (courses (startCourse u s) (validated end os .acts))) end
+  unfolding startCourse underWay courseFrom
+  day-tiles s os =
+      let r = acting-rise end os in
+      tiles (startCourse u s) (validated end os .acts) .chain (record { after = zeros (validated end os .acts); rise = r .0; soon = r .1; begun-soon = omega arith })
     where
       zeros : (os : List Numbered) → All (λ o. 0 ≤ acting o) os
       zeros [] = tt

@@ -7,13 +7,14 @@ use lib.Dec.{ltb}
 use lib.ListN.{length}
 use Rattle.level.specs.Choice.{pick}
 use Rattle.level.specs.Lists.{sum}
+use Rattle.level.specs.Numbers.{halfHour}
 use Rattle.course.specs.Course.{stops, distance}
 use Rattle.course.specs.Exact.{Fraction, nought, plus, ticksOf, exactTwice}
 use Rattle.profile.specs.Profile.{Span}
 
 -- "It has time between two boundaries if a second of it lies there"
 unfoldable pub hasTime : Span → ℕ → ℕ → Bool
-hasTime s a b = ltb (max (s .begin) (1800 * a)) (min (s .end) (1800 * b))
+hasTime s a b = ltb (max (s .begin) (halfHour * a)) (min (s .end) (halfHour * b))
 
 -- "for each course having time there, twice its number of stops times its distance in grains"
 unfoldable pub allowed : Span → ℕ → ℕ → ℕ
@@ -25,7 +26,7 @@ allowance (s ∷ ss) a b = allowed s a b + allowance ss a b
 
 -- twice the exact area of a course in the half-hour from the boundary i on, "for as long as its course lasts"
 unfoldable pub exactIn : Span → ℕ → Fraction
-exactIn s i = exactTwice (s .trajectory) (max (s .begin) (1800 * i) - s .begin) (min (s .end) (1800 * suc i) - s .begin)
+exactIn s i = exactTwice (s .trajectory) (max (s .begin) (halfHour * i) - s .begin) (min (s .end) (halfHour * suc i) - s .begin)
 
 -- between the boundaries a and b: its pieces are cut at each half-hour boundary, and all have one denominator
 unfoldable pub exactOf : Span → ℕ → ℕ → Fraction

@@ -10,7 +10,6 @@ use Rattle.level.specs.Level.{grains}
 use Rattle.records.specs.declared.Effect.{Effect}
 use Rattle.records.specs.declared.Effect.the-variants.{Trip, Mwof, Mxon, Sync, Mxof, Desy, Fail}
 use Rattle.records.specs.declared.UnitData.{UnitData}
-use Rattle.records.specs.declared.Opening.{Opening}
 use Rattle.records.specs.declared.Instruction.{Instruction}
 use Rattle.course.specs.declared.Course.{Course}
 use Rattle.course.specs.Lists.{columnFor}
@@ -20,21 +19,18 @@ use Rattle.validation.specs.Kept.{Mark, mark, acting}
 use Rattle.profile.specs.declared.UnderWay.{UnderWay}
 use Rattle.profile.specs.declared.State.{State}
 use Rattle.profile.specs.declared.Setting.{Setting}
-
--- "Fate 7, and the course under way goes on: at level 0, MWOF(0), DESY, TRIP, MXON; above 0, SYNC; MXON while maximised; MXOF when not".
--- x is the instruction's level, v the level just before, m whether the unit is maximised. (FAIL never acts.)
-unfoldable pub idle : Effect → ℕ → ℕ → Bool → Bool
-idle Trip x v m = eqb v 0
-idle Mwof x v m = eqb v 0 && eqb x 0
-idle Mxon x v m = eqb v 0 || m
-idle Sync x v m = ltb 0 v
-idle Mxof x v m = not m
-idle Desy x v m = eqb v 0
-idle Fail x v m = true
+use Rattle.profile.specs.declared.Outcome.{Outcome}
+use Rattle.profile.specs.declared.Outcome.the-variants.{Ignored, Sets}
+use Rattle.profile.specs.declared.Start.{Start}
 
 -- "column by seconds off: hot up to the hot boundary, else warm up to the warm one, else cold"
 unfoldable pub heatBy : UnitData → ℕ → ℕ
 heatBy u off = pick (leb off (60 * u .hot)) 1 (pick (leb off (60 * u .warm)) 2 3)
+
+-- fate 7 where the test holds, else fate 0 and what is set
+abbrev pub unless : Bool → Setting → Outcome
+unless true g = Ignored
+unless false g = Sets g
 
 -- on the unit u, with the course now under way, of the instruction i, read with s
 module _ (u : UnitData) (now : UnderWay) (i : Instruction) (s : State) where
@@ -46,73 +42,27 @@ module _ (u : UnitData) (now : UnderWay) (i : Instruction) (s : State) where
   unfoldable pub syncTarget : ℕ
   syncTarget = min (max (i .level) (u .msg)) (u .capacity)
 
-  -- "DESY: target 0. TRIP: level 0 at that second, target 0. MXON: target the short-term maximum; ramp-up rate 5 for all five.
-  -- MXOF: target that of the last MWOF or SYNC with fate 0, or the opening target; ramp-down rate 1 for all five.
-  -- MXON turns maximised on; any other fate-0 instruction turns it off. Column and heat stay until the next start."
-  unfoldable pub setting : Effect → Setting
-  setting Trip = record {
-    from = 0;
-    target = 0;
-    heat = now .course .heat;
-    up = i .up;
-    down = i .down;
-    maximised = false;
-    ordered = now .ordered;
-  }
-  setting Mwof = record {
-    from = s .level;
-    target = mwofTarget;
-    heat = pick (eqb (s .level) 0) 3 (now .course .heat);
-    up = i .up;
-    down = i .down;
-    maximised = false;
-    ordered = mwofTarget;
-  }
-  setting Mxon = record {
-    from = s .level;
-    target = u .maximum;
-    heat = now .course .heat;
-    up = getD (u .up .rates) 4 0;
-    down = i .down;
-    maximised = true;
-    ordered = now .ordered;
-  }
-  setting Sync = record {
-    from = s .level;
-    target = syncTarget;
-    heat = heatBy u (s .off);
-    up = i .up;
-    down = i .down;
-    maximised = false;
-    ordered = syncTarget;
-  }
-  setting Mxof = record {
-    from = s .level;
-    target = now .ordered;
-    heat = now .course .heat;
-    up = i .up;
-    down = getD (u .down .rates) 0 0;
-    maximised = false;
-    ordered = now .ordered;
-  }
-  setting Desy = record {
-    from = s .level;
-    target = 0;
-    heat = now .course .heat;
-    up = i .up;
-    down = i .down;
-    maximised = false;
-    ordered = now .ordered;
-  }
-  setting Fail = record {
-    from = s .level;
-    target = 0;
-    heat = now .course .heat;
-    up = i .up;
-    down = i .down;
-    maximised = false;
-    ordered = now .ordered;
-  }
+  -- "Fate 7, and the course under way goes on: at level 0, MWOF(0), DESY, TRIP, MXON; above 0, SYNC; MXON while maximised; MXOF when not.
+  -- Otherwise fate 0 and a new course: DESY: target 0. TRIP: level 0 at that second, target 0. MXON: target the short-term maximum; ramp-up
+  -- rate 5 for all five. MXOF: target that of the last MWOF or SYNC with fate 0, or the opening target; ramp-down rate 1 for all five.
+  -- MXON turns maximised on; any other fate-0 instruction turns it off. Column and heat stay until the next start." (FAIL never acts.)
+  unfoldable pub outcomeBy : Effect → Outcome
+  outcomeBy Trip = unless (eqb (s .level) 0)
+      (record { from = 0; target = 0; heat = now .course .heat; up = i .up; down = i .down; maximised = false; ordered = now .ordered })
+  outcomeBy Mwof = unless (eqb (s .level) 0 && eqb (i .level) 0)
+      (record { from = s .level; target = mwofTarget; heat = pick (eqb (s .level) 0) 3 (now .course .heat); up = i .up; down = i .down; maximised = false; ordered = mwofTarget })
+  outcomeBy Mxon = unless (eqb (s .level) 0 || now .maximised)
+      (record { from = s .level; target = u .maximum; heat = now .course .heat; up = getD (u .up .rates) 4 0; down = i .down; maximised = true; ordered = now .ordered })
+  outcomeBy Sync = unless (ltb 0 (s .level))
+      (record { from = s .level; target = syncTarget; heat = heatBy u (s .off); up = i .up; down = i .down; maximised = false; ordered = syncTarget })
+  outcomeBy Mxof = unless (not (now .maximised))
+      (record { from = s .level; target = now .ordered; heat = now .course .heat; up = i .up; down = getD (u .down .rates) 0 0; maximised = false; ordered = now .ordered })
+  outcomeBy Desy = unless (eqb (s .level) 0)
+      (record { from = s .level; target = 0; heat = now .course .heat; up = i .up; down = i .down; maximised = false; ordered = now .ordered })
+  outcomeBy Fail = Ignored
+
+  abbrev pub outcome : Outcome
+  outcome = outcomeBy (i .meaning .effect)
 
 -- "At level 0 with a target above 0 the level goes at once to the smaller of block load and target .. That is the course's start"
 unfoldable pub stepped : ℕ → ℕ → ℕ → ℕ
@@ -133,16 +83,16 @@ courseFrom u begin g = record {
 unfoldable pub underWay : UnitData → ℕ → Setting → ℕ → UnderWay
 underWay u begin g off = record { course = courseFrom u begin g; maximised = g .maximised; ordered = g .ordered; off = off }
 
--- "The opening starts a course at 0 to its target"
-unfoldable pub opened : UnitData → Opening → UnderWay
-opened u o =
+-- the course that the start of a day sets going at 06:00
+unfoldable pub startCourse : UnitData → Start → UnderWay
+startCourse u o =
     underWay u 0
-    (record { from = o .level; target = o .target; heat = o .heat; up = 0; down = 0; maximised = false; ordered = o .target })
+    (record { from = o .level; target = o .target; heat = o .heat; up = o .up; down = o .down; maximised = o .maximised; ordered = o .ordered })
     (o .off)
 
--- "Otherwise fate 0 and a new course"
-unfoldable pub begun : UnitData → UnderWay → Numbered → State → UnderWay
-begun u now o s = underWay u (acting o) (setting u now (o .instruction) s (o .instruction .meaning .effect)) (s .off)
+-- "Otherwise fate 0 and a new course": the one that o begins with what it sets
+unfoldable pub begun : UnitData → Numbered → Setting → State → UnderWay
+begun u o g s = underWay u (acting o) g (s .off)
 
 -- ---- all that act, one after another
 
@@ -167,7 +117,7 @@ module _ (look : Trajectory → ℕ → ℕ → State) (u : UnitData) where
   follow now [] = record { marks = []; courses = now ∷ [] }
   follow now (o ∷ os) =
       let s : State = stateAt now (acting o) in
-      elim (idle (o .instruction .meaning .effect) (o .instruction .level) (s .level) (now .maximised)) [
-        | true ↦ goesOn o (follow now os)
-        | false ↦ replaces now o (follow (begun u now o s) os)
+      elim (outcome u now (o .instruction) s) [
+        | Ignored ↦ goesOn o (follow now os)
+        | Sets g ↦ replaces now o (follow (begun u o g s) os)
       ]

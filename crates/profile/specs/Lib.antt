@@ -1,4 +1,6 @@
+pub mod Taken
 pub mod State
 pub mod Effects
 pub mod Profile
+pub mod Finding
 pub mod Allowance

@@ -5,9 +5,8 @@ use mathlib.Core.List.{List, [], _∷_, _++_, map}
 use mathlib.Core.Bool.{true, false}
 use lib.Dec.{ltb}
 use Rattle.level.specs.Lists.{sum, listFrom}
+use Rattle.level.specs.Numbers.{halfHour}
 use Rattle.records.specs.declared.UnitData.{UnitData}
-use Rattle.records.specs.declared.Opening.{Opening}
-use Rattle.records.specs.declared.Instruction.{Instruction}
 use Rattle.course.specs.declared.Course.{Course}
 use Rattle.course.specs.Course.{Trajectory, trajectoryOf, levelAt, rateOn}
 use Rattle.course.specs.declared.Piece.{Piece}
@@ -18,7 +17,9 @@ use Rattle.profile.specs.declared.UnderWay.{UnderWay}
 use Rattle.profile.specs.declared.Closing.{Closing}
 use Rattle.profile.specs.declared.State.{State}
 use Rattle.profile.specs.State.{byRule, bySegments}
-use Rattle.profile.specs.Effects.{Followed, opened, follow, stateAt}
+use Rattle.profile.specs.Effects.{Followed, startCourse, follow, stateAt}
+use Rattle.profile.specs.declared.Taken.{Taken}
+use Rattle.profile.specs.Taken.{entered}
 
 -- "A course lasts from its acting second (the opening's from 0) to that of the next fate-0 instruction, else to the day's end"
 pub record Span : Type 0 where
@@ -56,10 +57,10 @@ recordedTwice ss a n = sum (λ t. levelStarting ss t + levelEnding ss t) a n
 
 -- from 0 to the half-hour boundary b; in the half-hour from the boundary i on
 unfoldable pub recordedTo : List Span → ℕ → ℕ
-recordedTo ss b = recordedTwice ss 0 (1800 * b)
+recordedTo ss b = recordedTwice ss 0 (halfHour * b)
 
 unfoldable pub recordedIn : List Span → ℕ → ℕ
-recordedIn ss i = recordedTwice ss (1800 * i) 1800
+recordedIn ss i = recordedTwice ss (halfHour * i) halfHour
 
 -- "The quantity in kW is the floor of (that + 108,000)/216,000"
 unfoldable pub rounded : ℕ → ℕ
@@ -73,7 +74,7 @@ piecesTo [] x = 0
 piecesTo (s ∷ ss) x = twiceArea (piecesIn (s .trajectory) 0 (min (s .end) x - s .begin)) + piecesTo ss x
 
 unfoldable pub twinTo : List Span → ℕ → ℕ
-twinTo ss b = piecesTo ss (1800 * b)
+twinTo ss b = piecesTo ss (halfHour * b)
 
 unfoldable pub twinIn : List Span → ℕ → ℕ
 twinIn ss i = twinTo ss (suc i) - twinTo ss i
@@ -85,13 +86,14 @@ dayPieces (s ∷ ss) = piecesIn (s .trajectory) (s .begin) (s .end) ++ dayPieces
 
 -- ---- what close finds
 
--- fates by number, courses, twice the recorded area from 0 to each half-hour boundary, quantities, closing state
+-- fates by number, courses, twice the recorded area from 0 to each half-hour boundary, quantities, the last course and the state at the day's end
 pub record Found : Type 0 where
   pub fates : List ℕ
   pub courses : List Course
   pub sums : List ℕ
   pub quantities : List ℕ
-  pub closing : Closing
+  pub last : UnderWay
+  pub end : State
 
 -- how states and areas are got: by the rule of one second, as the paper says, or by segments
 pub record Way : Type 0 where
@@ -108,31 +110,35 @@ twin = record { look = bySegments; upTo = twinTo; within = twinIn }
 abbrev pub courseOf : UnderWay → Course
 courseOf c = c .course
 
+-- the last of some courses, the first being c
+unfoldable pub lastOf : UnderWay → List UnderWay → UnderWay
+lastOf c [] = c
+lastOf c (d ∷ ds) = lastOf d ds
+
+-- the closing state: "level target heat off" of the last course at the day's end
 abbrev pub closingBy : UnderWay → State → Closing
 closingBy c s = record { level = record { grains = s .level }; target = c .course .target; heat = c .course .heat; off = s .off }
 
 module _ (w : Way) where
-  -- the last course, at the day's end
-  unfoldable pub closingOf : UnitData → ℕ → List UnderWay → Closing
-  closingOf u end [] = record { level = record { grains = 0 }; target = 0; heat = 0; off = 0 }
-  closingOf u end (c ∷ []) = closingBy c (stateAt (w .look) u c end)
-  closingOf u end (c ∷ (d ∷ ds)) = closingOf u end (d ∷ ds)
-
-  -- of a day of n half-hours
-  unfoldable pub foundBy : ℕ → UnitData → List Numbered → Validated → Followed → Found
-  foundBy n u os v f =
+  -- of a day of n half-hours that starts with the course first
+  unfoldable pub foundBy : ℕ → UnitData → UnderWay → List Numbered → Validated → Followed → Found
+  foundBy n u first os v f =
       let cs : List Course = map courseOf (f .courses) in
-      let ss : List Span = spansOf u (1800 * n) cs in
+      let ss : List Span = spansOf u (halfHour * n) cs in
+      let last : UnderWay = lastOf first (f .courses) in
       record {
         fates = fatesOf os (f .marks ++ v .marks) os;
         courses = cs;
         sums = listFrom (w .upTo ss) 0 (suc n);
         quantities = listFrom (λ i. rounded (w .within ss i)) 0 n;
-        closing = closingOf u (1800 * n) (f .courses);
+        last = last;
+        end = stateAt (w .look) u last (halfHour * n);
       }
 
-  unfoldable pub found : ℕ → UnitData → Opening → List Instruction → Found
-  found n u o is =
-      let os : List Numbered = numbered 1 is in
-      let v : Validated = validated (1800 * n) os in
-      foundBy n u os v (follow (w .look) u (opened u o) (v .acts))
+  -- from what was taken
+  unfoldable pub found : ℕ → Taken → Found
+  found n t =
+      let os : List Numbered = numbered 1 (entered t) in
+      let v : Validated = validated (halfHour * n) os in
+      let first : UnderWay = startCourse (t .unit) (t .start) in
+      foundBy n (t .unit) first os v (follow (w .look) (t .unit) first (v .acts))

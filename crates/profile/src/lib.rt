@@ -1,4 +1,6 @@
 // The operating profile of a day.
+ghost use mathlib.Core.Path.{_≡_};
+ghost use Rattle.profile.specs.Finding.{noCourse};
 
 // The course under way: whether the unit is maximised, the target (kW) that MXOF goes back to, and the seconds off where
 // the course began.
@@ -27,10 +29,66 @@ pub struct Setting {
     pub ordered: u32,
 }
 
-// The closing state: level, target (kW), heat, seconds off.
+// What an instruction comes to at its acting second: fate 7, and the course under way goes on; or fate 0, and what it sets.
+pub enum Outcome {
+    Ignored,
+    Sets(Setting),
+}
+
+// What a day starts from at 06:00: the level (grains), the target (kW), the heat, the rates that replace all five of their kind (0
+// for none), whether the unit is maximised, the target that MXOF goes back to, and the seconds off. The level has the 32 bits of the
+// record, so that the sums of no day overflow.
+pub struct Start {
+    pub level: u32,
+    pub target: u32,
+    pub heat: u32,
+    pub up: u32,
+    pub down: u32,
+    pub maximised: bool,
+    pub ordered: u32,
+    pub off: u32,
+}
+
+// What was let in: the unit, what the day starts from, and the instructions, `count` of them.
+pub struct Taken {
+    pub hasUnit: bool,
+    pub unit: records::UnitData,
+    pub hasStart: bool,
+    pub start: Start,
+    pub count: usize,
+    pub instructions: [records::Instruction; level::INSTRUCTIONS],
+}
+
+// What close found: the fates by number, the courses (`started` of them), twice the recorded area from 06:00 to each half-hour
+// boundary (grain-seconds), the last course under way, and the state at the day's end.
+pub struct Finding {
+    pub fates: [u8; level::INSTRUCTIONS],
+    pub started: usize,
+    pub courses: [course::Course; level::COURSES],
+    pub sums: [u64; level::BOUNDARIES],
+    pub last: UnderWay,
+    pub end: State,
+}
+
+// The closing state, which E prints: level, target (kW), heat, seconds off.
 pub struct Closing {
     pub level: level::Level,
     pub target: u32,
     pub heat: u32,
     pub off: u32,
+}
+
+// What a place for a course holds that none has taken.
+pub fn no_course() -> course::Course
+    ensures { λ r. ⌜ r ≡ noCourse ⌝ }
+{
+    let start = level::Level { grains: 0 };
+    course::Course {
+        begin: 0,
+        start,
+        target: 0,
+        heat: 0,
+        up: 0,
+        down: 0,
+    }
 }

@@ -91,7 +91,7 @@ fn list_input(buf: &mut [u8], out: &mut [u8]) -> u64 {
 
 fn main() {
     let mut buf = io::buffer();
-    let mut out = [0u8; 46080];
+    let mut out = [0u8; listing::SUFFICES];
     let result = list_input(&mut buf, &mut out);
     if result == UNREAD {
         io::write_all(STDERR_FILENO, b"profiler: the input could not be read\n");

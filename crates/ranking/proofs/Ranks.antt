@@ -3,18 +3,19 @@
 use mathlib.Core.Path.{_≡_, refl, sym, ap, _∙_}
 use mathlib.Core.List.{List, [], _∷_}
 use mathlib.Core.Bool.{true, false}
-use Prim.Native.Nat.{ℕ, _-_, _≤_, _<_}
+use Prim.Native.Nat.{_≤_, _<_}
 use native.Mathlib.Omega.{arith}
 use lib.Dec.{ltb}
 use lib.ListN.{length, getD}
-use borrow.Author.Tests.{lt-ltb, le-ltb, eq-eqb, ne-eqb}
+use borrow.Author.Tests.{lt-ltb, le-ltb}
 use Rattle.level.specs.Choice.{pick}
 use Rattle.level.specs.Lists.{those}
-use Rattle.records.specs.declared.Effect.the-variants.{Sync, Desy}
-use Rattle.records.specs.Codes.{codeNumber}
+use Rattle.records.specs.declared.Effect.{Effect}
+use Rattle.records.specs.declared.Effect.the-variants.{Mwof, Sync, Desy}
+use Rattle.records.specs.Codes.{same}
 use Rattle.validation.specs.declared.Numbered.{Numbered}
 use Rattle.validation.specs.Kept.{effectOf, levelOf, goesBefore, highest, orElse, present, carrying, merged, usedOf}
-use Rattle.ranking.specs.Found.{foundList, bestFrom, earliest}
+use Rattle.ranking.specs.Found.{foundList, bestFrom}
 use Rattle.ranking.specs.declared.Found.{Found}
 use Rattle.ranking.specs.declared.Found.the-variants.{One, Nothing}
 
@@ -23,17 +24,17 @@ module _ (x o : Numbered) where
   unfolding goesBefore
   goes-rank h = simp (lt-ltb _ _ h)
 
-  pub goes-other : o .instruction .meaning .rank ≤ x .instruction .meaning .rank → (codeNumber (effectOf x) ≡ 2 → ⊥) → false ≡ goesBefore x o
+  pub goes-other : o .instruction .meaning .rank ≤ x .instruction .meaning .rank → same (effectOf x) Mwof ≡ false → false ≡ goesBefore x o
   unfolding goesBefore
-  goes-other h k = simp (le-ltb _ _ h, ne-eqb _ _ k)
+  goes-other h k = rw (le-ltb _ _ h, k)
 
-  pub goes-second : o .instruction .meaning .rank ≤ x .instruction .meaning .rank → codeNumber (effectOf x) ≡ 2 → (codeNumber (effectOf o) ≡ 2 → ⊥) → false ≡ goesBefore x o
+  pub goes-second : o .instruction .meaning .rank ≤ x .instruction .meaning .rank → same (effectOf x) Mwof ≡ true → same (effectOf o) Mwof ≡ false → false ≡ goesBefore x o
   unfolding goesBefore
-  goes-second h k j = simp (le-ltb _ _ h, eq-eqb _ _ k, ne-eqb _ _ j)
+  goes-second h k j = rw (le-ltb _ _ h, k, j)
 
-  pub goes-level : o .instruction .meaning .rank ≤ x .instruction .meaning .rank → codeNumber (effectOf x) ≡ 2 → codeNumber (effectOf o) ≡ 2 → ltb (levelOf o) (levelOf x) ≡ goesBefore x o
+  pub goes-level : o .instruction .meaning .rank ≤ x .instruction .meaning .rank → same (effectOf x) Mwof ≡ true → same (effectOf o) Mwof ≡ true → ltb (levelOf o) (levelOf x) ≡ goesBefore x o
   unfolding goesBefore
-  goes-level h k j = simp (le-ltb _ _ h, eq-eqb _ _ k, eq-eqb _ _ j)
+  goes-level h k j = rw (le-ltb _ _ h, k, j)
 
   pub higher-yes : goesBefore x o ≡ true → x ≡ pick (goesBefore x o) x o
   higher-yes e = rw e
@@ -43,17 +44,17 @@ module _ (x o : Numbered) where
 
 -- ---- the carrier, and the one that is used
 module _ (g : List Numbered) where
-  pub merged-other : (o : Numbered) → (codeNumber (effectOf o) ≡ 2 → ⊥) → o ∷ [] ≡ merged g o
+  pub merged-other : (o : Numbered) → same (effectOf o) Mwof ≡ false → o ∷ [] ≡ merged g o
   unfolding merged
-  merged-other o h = simp (ne-eqb _ _ h)
+  merged-other o h = rw h
 
-  pub merged-into : (o : Numbered) (f : Found) (c : Numbered) → codeNumber (effectOf o) ≡ 2 → foundList f ≡ orElse (present Sync g) (present Desy g) → f ≡ One c → carrying o c ∷ [] ≡ merged g o
+  pub merged-into : (o : Numbered) (f : Found) (c : Numbered) → same (effectOf o) Mwof ≡ true → foundList f ≡ orElse (present Sync g) (present Desy g) → f ≡ One c → carrying o c ∷ [] ≡ merged g o
   unfolding merged
-  merged-into o f c h p q = let e : orElse (present Sync g) (present Desy g) ≡ c ∷ [] = sym p ∙ ap foundList q in simp (eq-eqb _ _ h, e)
+  merged-into o f c h p q = let e : orElse (present Sync g) (present Desy g) ≡ c ∷ [] = sym p ∙ ap foundList q in rw (h, e)
 
-  pub merged-alone : (o : Numbered) (f : Found) → codeNumber (effectOf o) ≡ 2 → foundList f ≡ orElse (present Sync g) (present Desy g) → f ≡ Nothing → o ∷ [] ≡ merged g o
+  pub merged-alone : (o : Numbered) (f : Found) → same (effectOf o) Mwof ≡ true → foundList f ≡ orElse (present Sync g) (present Desy g) → f ≡ Nothing → o ∷ [] ≡ merged g o
   unfolding merged
-  merged-alone o f h p q = let e : orElse (present Sync g) (present Desy g) ≡ [] = sym p ∙ ap foundList q in simp (eq-eqb _ _ h, e)
+  merged-alone o f h p q = let e : orElse (present Sync g) (present Desy g) ≡ [] = sym p ∙ ap foundList q in rw (h, e)
 
 pub used-best : (g : List Numbered) (o : Numbered) → o ∷ [] ≡ bestFrom [] g → merged g o ≡ usedOf g
 unfolding usedOf bestFrom
@@ -74,11 +75,11 @@ pub better-none : (f : Found) (o : Numbered) → f ≡ Nothing → o ∷ [] ≡ 
 unfolding bestFrom highest
 better-none f o e = rw e
 
-module _ (o : Numbered) (code : ℕ) where
-  pub code-same : codeNumber (effectOf o) ≡ code → o ∷ [] ≡ earliest code (o ∷ [])
-  unfolding earliest those
-  code-same e = simp (eq-eqb _ _ e)
+module _ (o : Numbered) (code : Effect) where
+  pub code-same : same (effectOf o) code ≡ true → o ∷ [] ≡ present code (o ∷ [])
+  unfolding present those
+  code-same e = rw e
 
-  pub code-other : (codeNumber (effectOf o) ≡ code → ⊥) → [] ≡ earliest code (o ∷ [])
-  unfolding earliest those
-  code-other h = simp (ne-eqb _ _ h)
+  pub code-other : same (effectOf o) code ≡ false → [] ≡ present code (o ∷ [])
+  unfolding present those
+  code-other e = rw e

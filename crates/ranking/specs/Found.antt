@@ -1,12 +1,8 @@
--- What is found of a group: the highest ranked, the earliest of a code.
+-- What is found of a group.
 -- Assumes nothing.
-use Prim.Native.Nat.{ℕ}
 use mathlib.Core.List.{List, [], _∷_}
-use lib.Dec.{eqb}
-use Rattle.level.specs.Lists.{those}
-use Rattle.records.specs.Codes.{codeNumber}
 use Rattle.validation.specs.declared.Numbered.{Numbered}
-use Rattle.validation.specs.Kept.{effectOf, highest, firstOne}
+use Rattle.validation.specs.Kept.{highest}
 use Rattle.ranking.specs.declared.Found.{Found}
 use Rattle.ranking.specs.declared.Found.the-variants.{One, Nothing}
 
@@ -20,7 +16,3 @@ unfoldable pub bestFrom : List Numbered → List Numbered → List Numbered
 bestFrom [] [] = []
 bestFrom [] (x ∷ xs) = highest x xs ∷ []
 bestFrom (b ∷ bs) xs = highest b xs ∷ []
-
--- the earliest entered of the code with this number, where it is present
-unfoldable pub earliest : ℕ → List Numbered → List Numbered
-earliest code g = firstOne (those (λ (o : Numbered). eqb (codeNumber (effectOf o)) code) g)

@@ -5,10 +5,10 @@ ghost use mathlib.Core.Bool.{true};
 ghost use mathlib.Core.List.{List, [], _∷_};
 ghost use Rattle.level.specs.Choice.{pick};
 ghost use Rattle.records.specs.declared.Effect.the-variants.{Sync, Desy};
-ghost use Rattle.records.specs.Codes.{codeNumber};
+ghost use Rattle.records.specs.Codes.{same};
 ghost use Rattle.validation.specs.declared.Numbered.{Numbered};
 ghost use Rattle.validation.specs.Kept.{effectOf, goesBefore, orElse, present, carrying, merged, usedOf};
-ghost use Rattle.ranking.specs.Found.{foundList, bestFrom, earliest};
+ghost use Rattle.ranking.specs.Found.{foundList, bestFrom};
 
 // One of them, or none.
 pub enum Found {
@@ -16,17 +16,14 @@ pub enum Found {
     Nothing,
 }
 
-// The codes that the steps name.
-const MWOF: u8 = 2;
-
-// The number of an instruction's code.
-pub fn code_of(o: validation::Numbered) -> u8
-    ensures { λ r. ⌜ r ≡ codeNumber (effectOf o) ⌝ }
+// Whether one has this code.
+pub fn has_code(o: validation::Numbered, code: records::Effect) -> bool
+    ensures { λ r. ⌜ r ≡ same (effectOf o) code ⌝ }
 {
     let i = o.instruction;
     let m = i.meaning;
-    let e = m.effect;
-    records::code_number(e)
+    let own = m.effect;
+    records::same_code(own, code)
 }
 
 // ---- step 2: the one that is used of those left at one effective time
@@ -42,10 +39,10 @@ fn goes_before(x: validation::Numbered, o: validation::Numbered) -> bool
     if m.rank < k.rank {
         return true;
     }
-    if code_of(x) != MWOF {
+    if !has_code(x, records::Effect::Mwof) {
         return false;
     }
-    if code_of(o) != MWOF {
+    if !has_code(o, records::Effect::Mwof) {
         return false;
     }
     j.level < i.level
@@ -75,10 +72,10 @@ pub fn better(best: Found, o: validation::Numbered) -> Found
 }
 
 // o, where it has this code.
-pub fn of_code(o: validation::Numbered, code: u8) -> Found
-    ensures { λ r. ⌜ foundList r ≡ earliest code (o ∷ []) ⌝ }
+pub fn of_code(o: validation::Numbered, code: records::Effect) -> Found
+    ensures { λ r. ⌜ foundList r ≡ present code (o ∷ []) ⌝ }
 {
-    if code_of(o) == code {
+    if has_code(o, code) {
         return Found::One(o);
     }
     Found::Nothing
@@ -119,7 +116,7 @@ fn carry(m: validation::Numbered, c: validation::Numbered) -> validation::Number
 fn merge(highest: validation::Numbered, carrier: Found) -> validation::Numbered
     ensures { λ r. ⌜ ((g : List Numbered) → foundList carrier ≡ orElse (present Sync g) (present Desy g) → r ∷ [] ≡ merged g highest) ⌝ }
 {
-    if code_of(highest) != MWOF {
+    if !has_code(highest, records::Effect::Mwof) {
         return highest;
     }
     match carrier {
@@ -130,7 +127,7 @@ fn merge(highest: validation::Numbered, carrier: Found) -> validation::Numbered
 
 // The one that is used of a group: by its highest ranked, its earliest SYNC and its earliest DESY.
 pub fn used_of(best: Found, sync: Found, desy: Found) -> Found
-    ensures { λ r. ⌜ ((g : List Numbered) → foundList best ≡ bestFrom [] g → foundList sync ≡ earliest 4 g → foundList desy ≡ earliest 6 g → foundList r ≡ usedOf g) ⌝ }
+    ensures { λ r. ⌜ ((g : List Numbered) → foundList best ≡ bestFrom [] g → foundList sync ≡ present Sync g → foundList desy ≡ present Desy g → foundList r ≡ usedOf g) ⌝ }
 {
     match best {
         Found::One(h) => {

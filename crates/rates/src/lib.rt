@@ -5,13 +5,14 @@ ghost use mathlib.Core.List.{[], _∷_, map};
 ghost use lib.ListN.{getD};
 ghost use Rattle.level.specs.Choice.{pick};
 ghost use Rattle.level.specs.Level.{grains};
+ghost use Rattle.level.specs.Numbers.{levelBound};
 ghost use Rattle.course.specs.Lists.{placeOf, columnFor, replaced};
 ghost use Rattle.course.specs.Course.{rising, falling, passed, rateAt};
 ghost use Rattle.rates.specs.Ways.{headed, ownLists, listsBy, ramping};
 
 // So many kW in grains.
 pub fn grains_of(kw: u32) -> u64
-    ensures { λ r. ⌜ (r ≡ grains kw) × (r < 274877906944) ⌝ }
+    ensures { λ r. ⌜ (r ≡ grains kw) × (r < levelBound) ⌝ }
 {
     let l = level::Level::from_kw(kw);
     l.grains

@@ -6,6 +6,7 @@ use mathlib.Core.Bool.{true, false}
 use mathlib.Core.List.{List, [], _∷_, _++_, map}
 use lib.ListN.{set}
 use Rattle.level.specs.Lists.{some}
+use Rattle.level.specs.Numbers.{mostSeconds}
 use Rattle.records.specs.Answers.{numberOf}
 use Rattle.records.specs.Codes.{meaningOf, meaningIn, isUnknown}
 use Rattle.records.specs.Records.{sizeOf, triggerOf, columnOf, unitOf, openingOf, issueOf, instructionOf}
@@ -37,7 +38,7 @@ abbrev none : List ℕ
 none = 0 ∷ 0 ∷ 0 ∷ 0 ∷ []
 
 abbrev answered : List ℕ → List ℕ → ℕ → List ℕ → List ℕ → List ℕ → ℕ
-answered effective issue code level up down = numberOf (instructionAnswer 86400 (effective ++ (issue ++ ((code ∷ []) ++ (level ++ (up ++ down))))))
+answered effective issue code level up down = numberOf (instructionAnswer mostSeconds (effective ++ (issue ++ ((code ∷ []) ++ (level ++ (up ++ down))))))
 
 -- effective at 86,399 and at 86,400
 effective-times :

@@ -42,8 +42,12 @@ abbrev pub refusing : Bool → Refusal → Answer
 refusing true r = Refused r
 refusing false r = Accepted
 
+-- the first of two answers that is a refusal
+abbrev pub before : Answer → Answer → Answer
+before Accepted b = b
+before (Refused r) b = Refused r
+
 -- the first refusal, in the order given
 abbrev pub firstRefusal : List Answer → Answer
 firstRefusal [] = Accepted
-firstRefusal (Accepted ∷ xs) = firstRefusal xs
-firstRefusal (Refused r ∷ xs) = Refused r
+firstRefusal (a ∷ rest) = before a (firstRefusal rest)

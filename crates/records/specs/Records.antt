@@ -5,7 +5,7 @@ use mathlib.Core.List.{List, [], _∷_, _++_}
 use lib.Dec.{eqb}
 use lib.ListN.{getD}
 use Rattle.level.specs.Choice.{pick}
-use Rattle.records.specs.declared.Effect.the-variants.{Fail}
+use Rattle.records.specs.declared.Effect.the-variants.{Trip}
 use Rattle.records.specs.declared.Trigger.{Trigger}
 use Rattle.records.specs.declared.Column.{Column}
 use Rattle.records.specs.declared.UnitData.{UnitData}
@@ -13,9 +13,22 @@ use Rattle.records.specs.declared.Opening.{Opening}
 use Rattle.records.specs.declared.Instruction.{Instruction}
 use Rattle.records.specs.Codes.{meaningOf, meaningIn}
 
--- "a body whose length the kind fixes": the bytes of a record of the kind k, with the byte of kind
+-- "a body whose length the kind fixes": the bytes of a record, with the byte of kind
+abbrev pub unitSize : ℕ
+unitSize = 249
+
+abbrev pub openingSize : ℕ
+openingSize = 17
+
+abbrev pub instructionSize : ℕ
+instructionSize = 22
+
+abbrev pub closeSize : ℕ
+closeSize = 1
+
+-- of a record of the kind k
 unfoldable pub sizeOf : ℕ → ℕ
-sizeOf k = pick (eqb k 1) 249 (pick (eqb k 2) 17 (pick (eqb k 3) 22 1))
+sizeOf k = pick (eqb k 1) unitSize (pick (eqb k 2) openingSize (pick (eqb k 3) instructionSize closeSize))
 
 -- "numbers are big-endian, four bytes wide": the number whose four bytes begin at a place
 abbrev pub numberAt : List ℕ → ℕ → ℕ
@@ -88,6 +101,6 @@ instructionOf b = record {
   down = numberAt b 17;
 }
 
--- what a place for an instruction holds that none has taken
+-- what a place for an instruction holds that none has taken: zeros
 abbrev pub noInstruction : Instruction
-noInstruction = record { effective = 0; issue = 0; meaning = record { lag = 0; rank = 0; effect = Fail }; level = 0; up = 0; down = 0 }
+noInstruction = record { effective = 0; issue = 0; meaning = record { lag = 0; rank = 0; effect = Trip }; level = 0; up = 0; down = 0 }

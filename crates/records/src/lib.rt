@@ -4,8 +4,17 @@ ghost use Prim.Native.Nat.{_<_, _^_};
 ghost use lib.ListN.{getD};
 ghost use Rattle.records.specs.declared.Coded.the-variants.{Means};
 ghost use Rattle.records.specs.Answers.{refusalNumber, numberOf, accepted};
-ghost use Rattle.records.specs.Codes.{meaningOf, codeNumber};
+ghost use Rattle.records.specs.Codes.{meaningOf, codeNumber, same};
 ghost use Rattle.records.specs.Records.{numberAt, noInstruction};
+
+// The bytes of a record of each kind, with the byte of kind.
+pub const UNIT_SIZE: usize = 249;
+
+pub const OPENING_SIZE: usize = 17;
+
+pub const INSTRUCTION_SIZE: usize = 22;
+
+pub const CLOSE_SIZE: usize = 1;
 
 // A soak or dwell trigger: a level in kW, and the minutes that the unit holds there. 0 minutes: no hold.
 pub struct Trigger {
@@ -201,11 +210,18 @@ pub fn code_number(e: Effect) -> u8
     }
 }
 
-// What a place for an instruction holds that none has taken.
+// Whether two are the same code.
+pub fn same_code(a: Effect, b: Effect) -> bool
+    ensures { λ r. ⌜ r ≡ same a b ⌝ }
+{
+    code_number(a) == code_number(b)
+}
+
+// What a place for an instruction holds that none has taken: zeros.
 pub fn no_instruction() -> Instruction
     ensures { λ r. ⌜ r ≡ noInstruction ⌝ }
 {
-    let effect = Effect::Fail;
+    let effect = Effect::Trip;
     let meaning = Meaning {
         lag: 0,
         rank: 0,

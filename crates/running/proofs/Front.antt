@@ -6,60 +6,45 @@ use mathlib.Core.Path.{_≡_, refl, ap, sym, _∙_}
 use mathlib.Core.List.{List, [], _∷_, _++_}
 use mathlib.Core.Bool.{Bool, true, false, _&&_, not}
 use native.Mathlib.Omega.{arith}
-use lib.Dec.{leb, ltb, eqb}
+use lib.Dec.{leb, ltb}
 use lib.ListN.{length, take, drop, length-append}
 use lib.Seq.{take-append-le, drop-append-le}
 use borrow.Author.Tests.{ltb-false, le-ltb, ne-eqb}
-use Rattle.level.specs.Choice.{pick}
 use Rattle.records.specs.declared.Answer.{Answer}
 use Rattle.records.specs.declared.Answer.the-variants.{Accepted, Refused}
-use Rattle.records.specs.declared.Refusal.the-variants.{UnknownKind, TooFewBytes, SecondOne, BeforeUnit, OpeningTooHigh, TooManyInstructions, AfterClose, NotReady, QuantityTooHigh}
+use Rattle.records.specs.declared.Refusal.the-variants.{UnknownKind, TooFewBytes, AfterClose}
 use Rattle.records.specs.Answers.{accepted, refusing, firstRefusal}
-use Rattle.records.specs.Records.{sizeOf, openingOf}
+use Rattle.records.specs.Records.{sizeOf}
+use Rattle.profile.specs.declared.Taken.{Taken}
 use Rattle.profile.specs.Profile.{Found}
 use Rattle.day.specs.declared.Day.{Day}
 use Rattle.day.specs.declared.Stepped.{Stepped}
 use Rattle.day.specs.declared.Ran.{Ran}
-use Rattle.day.specs.Day.{empty}
-use Rattle.day.specs.Step.{kindOf, bodyOf, noBytes, unknownKind, tooFew, secondOne, beforeUnit, tooMany, notReady, fieldAnswer, tooHigh, quantityTooHigh, answerBy, dayWith, stepBy}
+use Rattle.day.specs.Day.{empty, dayWith}
+use Rattle.day.specs.Step.{kindOf, bodyOf, noBytes, unknownKind, tooFew, accept, settle, answerBy, stepBy}
+use Rattle.day.specs.ByKind.{kindRefusals}
 use Rattle.level.proofs.Lists.{by-bool}
-use Rattle.day.proofs.Passed.{never}
-use Rattle.entering.proofs.Laws.{step-used}
+use Rattle.day.proofs.Answers.{never}
+use Rattle.day.proofs.ByKind.{by-kind, step-used}
 use Rattle.contract.specs.Program.{runBy, ranBy}
 
 -- a step, by what it reads of the bytes
-module _ (find : Day → Found) (d : Day) where
-  answerFrom : Bool → Bool → Bool → ℕ → List ℕ → Answer
-  answerFrom none unknown few k b =
-      firstRefusal
-      (refusing none TooFewBytes
-      ∷ refusing unknown UnknownKind
-      ∷ refusing few TooFewBytes
-      ∷ refusing (d .closed) AfterClose
-      ∷ refusing (secondOne d k) SecondOne
-      ∷ refusing (beforeUnit d k) BeforeUnit
-      ∷ refusing (tooMany d k) TooManyInstructions
-      ∷ refusing (notReady d k) NotReady
-      ∷ fieldAnswer k b
-      ∷ refusing (eqb k 2 && tooHigh (d .unit) (openingOf b)) OpeningTooHigh
-      ∷ refusing (eqb k 4 && quantityTooHigh (d .unit) (find d)) QuantityTooHigh
-      ∷ [])
-
+module _ (find : Taken → Found) (d : Day) where
   stepFrom : Bool → Bool → Bool → ℕ → List ℕ → Stepped
   stepFrom none unknown few k b =
-      let a : Answer = answerFrom none unknown few k b in
-      pick (accepted a) (record { answer = Accepted; day = dayWith find d k b; used = sizeOf k }) (record { answer = a; day = d; used = 0 })
+      settle (firstRefusal (refusing none TooFewBytes ∷ refusing unknown UnknownKind ∷ refusing few TooFewBytes ∷ refusing (d .closed) AfterClose ∷ kindRefusals find (d .taken) k b)) d
+      (accept (dayWith find d k b) (sizeOf k))
 
   step-from : (s : List ℕ) → stepBy find d s ≡ stepFrom (noBytes s) (unknownKind s) (tooFew s) (kindOf s) (bodyOf s)
-  unfolding stepBy answerBy stepFrom answerFrom
-  step-from s = refl
+  unfolding stepBy stepFrom
+  step-from s = ap (λ (a : Answer). settle a d (accept (dayWith find d (kindOf s) (bodyOf s)) (sizeOf (kindOf s)))) (by-kind find d s)
 
   unknown-from : (few other : Bool) (k : ℕ) (b c : List ℕ) → stepFrom false true few k b ≡ stepFrom false true other k c
-  unfolding stepFrom answerFrom
+  unfolding stepFrom
   unknown-from few other k b c = refl
 
   few-from : (k : ℕ) (b : List ℕ) → stepFrom false false true k b .answer ≡ Refused TooFewBytes
-  unfolding stepFrom answerFrom
+  unfolding stepFrom
   few-from k b = refl
 
   module _ (x : ℕ) (xs t : List ℕ) where
@@ -108,7 +93,7 @@ module _ (find : Day → Found) (d : Day) where
   none-few = refl
 
 -- ---- a run
-module _ (find : Day → Found) where
+module _ (find : Taken → Found) where
   -- what a run comes to after a step, by its answer, its day, whether that is closed, and the bytes left
   unfoldable pub onward : ℕ → Answer → Day → Bool → List ℕ → Ran
   onward n (Refused r) d b s = record { answer = Refused r; day = d }

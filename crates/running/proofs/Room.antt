@@ -15,8 +15,8 @@ use Rattle.day.specs.declared.Stepped.{Stepped}
 use Rattle.day.specs.declared.Ran.{Ran}
 use Rattle.day.specs.Day.{empty, foundIn}
 use Rattle.day.specs.Step.{stepOf}
-use Rattle.day.proofs.Passed.{never}
-use Rattle.listing.specs.Listing.{printedDay}
+use Rattle.day.proofs.Answers.{never}
+use Rattle.listing.specs.Listing.{suffices, printedDay}
 use Rattle.contract.specs.Calls.{Call, sends, after, dayAfter}
 use Rattle.contract.specs.Program.{runBy, ranBy}
 use Rattle.contract.proofs.Room.{listing-suffices}
@@ -64,7 +64,7 @@ run-closed (suc n) d s h = let t : Stepped = stepOf d s in go (t .answer) (t .da
     go Accepted e false r c f h = f h
 
 pub ran-fits : (s : List ℕ) → ranBy (foundIn paper) s .answer ≡ Accepted →
-    (ranBy (foundIn paper) s .day .closed ≡ true) × (length (printedDay (ranBy (foundIn paper) s .day)) ≤ 46080)
+    (ranBy (foundIn paper) s .day .closed ≡ true) × (length (printedDay (ranBy (foundIn paper) s .day)) ≤ suffices)
 unfolding ranBy
 ran-fits s h =
     let c = run-closed (length s) empty s h in
@@ -72,6 +72,6 @@ ran-fits s h =
     let e : dayAfter calls ≡ runBy (foundIn paper) (length s) empty s .day = calls-leave (length s) empty s in
     (c, rw e at (listing-suffices calls (ap (λ (d : Day). d .closed) e ∙ c)))
 
-pub run-fits : (s : List ℕ) (r : Ran) → r ≡ ranBy (foundIn paper) s → r .answer ≡ Accepted → (r .day .closed ≡ true) × (length (printedDay (r .day)) ≤ 46080)
+pub run-fits : (s : List ℕ) (r : Ran) → r ≡ ranBy (foundIn paper) s → r .answer ≡ Accepted → (r .day .closed ≡ true) × (length (printedDay (r .day)) ≤ suffices)
 run-fits s r made a =
-    subst (λ (x : Ran). (x .day .closed ≡ true) × (length (printedDay (x .day)) ≤ 46080)) (sym made) (ran-fits s (sym (ap (λ (x : Ran). x .answer) made) ∙ a))
+    subst (λ (x : Ran). (x .day .closed ≡ true) × (length (printedDay (x .day)) ≤ suffices)) (sym made) (ran-fits s (sym (ap (λ (x : Ran). x .answer) made) ∙ a))

@@ -12,21 +12,21 @@ use Rattle.level.specs.Choice.{pick}
 use Rattle.level.proofs.Lists.{tail-is}
 use Rattle.records.specs.declared.Answer.{Answer}
 use Rattle.records.specs.declared.Answer.the-variants.{Accepted, Refused}
-use Rattle.records.specs.declared.Refusal.the-variants.{TooFewBytes, UnknownKind, QuantityTooHigh}
-use Rattle.records.specs.Answers.{accepted, refusing}
-use Rattle.records.specs.Records.{sizeOf}
-use Rattle.units.specs.declared.UnitRead.{UnitRead}
-use Rattle.fields.specs.declared.OpeningRead.{OpeningRead}
-use Rattle.fields.specs.declared.InstructionRead.{InstructionRead}
+use Rattle.records.specs.declared.Refusal.the-variants.{TooFewBytes, UnknownKind, AfterClose}
+use Rattle.records.specs.Answers.{accepted, refusing, firstRefusal}
+use Rattle.records.specs.Records.{closeSize, sizeOf}
+use Rattle.profile.specs.declared.Taken.{Taken}
 use Rattle.profile.specs.Profile.{Found, paper}
 use Rattle.day.specs.declared.Day.{Day}
 use Rattle.day.specs.declared.Stepped.{Stepped}
 use Rattle.day.specs.declared.Ran.{Ran}
-use Rattle.day.specs.Day.{empty, foundIn, closedWith}
-use Rattle.day.specs.Step.{kindOf, bodyOf, noBytes, quantityTooHigh, answerBy, dayWith, stepBy, stepOf}
-use Rattle.day.proofs.Passed.{never}
-use Rattle.entering.specs.Fronts.{unitFront, openingFront, instructionFront, closeFront, accept, settle, unitTaken, openingTaken, instructionTaken, closeTaken}
-use Rattle.entering.proofs.Laws.{step-used, no-kind, unit-step, opening-step, instruction-step, close-step, settle-refused, settle-taken}
+use Rattle.day.specs.Day.{empty, foundIn, dayWith}
+use Rattle.day.specs.Step.{kindOf, bodyOf, noBytes, accept, settle, answerBy, stepBy, stepOf}
+use Rattle.day.specs.ByKind.{closeRefusals}
+use Rattle.day.proofs.Answers.{never, settle-refused, settle-taken}
+use Rattle.day.proofs.ByKind.{step-used, no-kind}
+use Rattle.entering.specs.Fronts.{closeTaken}
+use Rattle.entering.proofs.Laws.{close-step}
 use Rattle.contract.specs.Program.{runBy, ranBy}
 use Rattle.running.specs.Ended.{afterStep, endedBy}
 use Rattle.running.proofs.Front.{onward, run-onward}
@@ -42,13 +42,13 @@ size-some k = go (eqb k 1) (eqb k 2) (eqb k 3)
     go false false true = omega arith
     go false false false = omega arith
 
-module _ (find : Day → Found) where
+module _ (find : Taken → Found) where
   used-some : (d : Day) (s : List ℕ) → accepted (stepBy find d s .answer) ≡ true → 1 ≤ stepBy find d s .used
   unfolding stepBy
   used-some d s = go (answerBy find d s) (dayWith find d (kindOf s) (bodyOf s))
     where
       go : (a : Answer) (x : Day) →
-          let t : Stepped = pick (accepted a) (record { answer = Accepted; day = x; used = sizeOf (kindOf s) }) (record { answer = a; day = d; used = 0 }) in
+          let t : Stepped = settle a d (accept x (sizeOf (kindOf s))) in
           accepted (t .answer) ≡ true → 1 ≤ t .used
       go Accepted x h = size-some (kindOf s)
       go (Refused r) x h = never h
@@ -114,34 +114,25 @@ module _ (d : Day) (s : List ℕ) (some : 1 ≤ length s) where
           ∙ (enough (foundIn paper) (length s - 1) (length (drop u s)) e (drop u s) (omega (arith, length-drop u s)) (omega arith)
           ∙ ap (from e) (sym (tail-is u s))))
 
-  -- ---- the record, by its kind
-  pub by-unit : (r : UnitRead) → r ≡ unitFront (d .hasUnit) (d .closed) s → getD s 0 0 ≡ 1 → unitTaken d r ≡ stepOf d s
-  by-unit r e k = ap (unitTaken d) e ∙ unit-step (foundIn paper) d s some k
-
-  pub by-opening : (r : OpeningRead) → r ≡ openingFront (d .hasUnit) (d .hasOpening) (d .closed) (d .unit) s → getD s 0 0 ≡ 2 → openingTaken d r ≡ stepOf d s
-  by-opening r e k = ap (openingTaken d) e ∙ opening-step (foundIn paper) d s some k
-
-  pub by-instruction : (r : InstructionRead) → r ≡ instructionFront (d .hasUnit) (d .closed) (d .count) s → getD s 0 0 ≡ 3 → instructionTaken d r ≡ stepOf d s
-  by-instruction r e k = ap (instructionTaken d) e ∙ instruction-step (foundIn paper) d s some k
-
-  closes : accepted (closeTaken d (foundIn paper) .answer) ≡ true → closeTaken d (foundIn paper) .day .closed ≡ true
-  unfolding closedWith
-  closes = go (closeFront (d .hasOpening) (d .closed)) (refusing (quantityTooHigh (d .unit) (foundIn paper d)) QuantityTooHigh) (closedWith d (foundIn paper d)) refl
+  -- ---- the end of the records
+  closes : accepted (closeTaken (foundIn paper) d .answer) ≡ true → closeTaken (foundIn paper) d .day .closed ≡ true
+  unfolding dayWith
+  closes = go (firstRefusal (refusing (d .closed) AfterClose ∷ closeRefusals (d .taken) (foundIn paper (d .taken)))) (dayWith (foundIn paper) d 4 []) refl
     where
-      go : (a b : Answer) (e : Day) → e .closed ≡ true →
-          let t : Stepped = settle a d (settle b d (accept e 1)) in
+      go : (a : Answer) (e : Day) → e .closed ≡ true →
+          let t : Stepped = settle a d (accept e closeSize) in
           accepted (t .answer) ≡ true → t .day .closed ≡ true
-      go (Refused r) b e c h = never h
-      go Accepted (Refused r) e c h = never h
-      go Accepted Accepted e c h = c
+      go (Refused r) e c h = never h
+      go Accepted e c h = c
 
-  pub by-other : (getD s 0 0 ≡ 1 → ⊥) → (getD s 0 0 ≡ 2 → ⊥) → (getD s 0 0 ≡ 3 → ⊥) → endedBy d (getD s 0 0) ≡ from d s
+  -- at a close, or at no kind of 1 to 4
+  pub by-other : ((getD s 0 0 ≡ 4 → ⊥) → 1 ≤ getD s 0 0 → getD s 0 0 ≤ 4 → ⊥) → endedBy d (getD s 0 0) ≡ from d s
   unfolding endedBy
-  by-other a b c = go (eqb (getD s 0 0) 4) refl
+  by-other out = go (eqb (getD s 0 0) 4) refl
     where
-      go : (x : Bool) → eqb (getD s 0 0) 4 ≡ x → pick x (afterStep (closeTaken d (foundIn paper))) (record { answer = Refused UnknownKind; day = d }) ≡ from d s
-      go true e = ends (closeTaken d (foundIn paper)) (close-step (foundIn paper) d s some (eqb-true (getD s 0 0) 4 e)) closes
-      go false e = ends (record { answer = Refused UnknownKind; day = d; used = 0 }) (no-kind (foundIn paper) d s some a b c (eqb-false (getD s 0 0) 4 e)) (λ y. never y)
+      go : (x : Bool) → eqb (getD s 0 0) 4 ≡ x → pick x (afterStep (closeTaken (foundIn paper) d)) (record { answer = Refused UnknownKind; day = d }) ≡ from d s
+      go true e = ends (closeTaken (foundIn paper) d) (close-step (foundIn paper) d s some (eqb-true (getD s 0 0) 4 e)) closes
+      go false e = ends (record { answer = Refused UnknownKind; day = d; used = 0 }) (no-kind (foundIn paper) d s some (out (eqb-false (getD s 0 0) 4 e))) (λ y. never y)
 
 pub run-first : (d : Day) (s : List ℕ) → d ≡ empty → from d s ≡ ranBy (foundIn paper) s
 unfolding ranBy
@@ -157,6 +148,6 @@ module _ (d : Day) (k : ℕ) where
   unfolding endedBy
   end-none h = rw (ne-eqb k 4 h)
 
-  pub end-close : k ≡ 4 → (t : Stepped) → t ≡ closeTaken d (foundIn paper) → afterStep t ≡ endedBy d k
+  pub end-close : k ≡ 4 → (t : Stepped) → t ≡ closeTaken (foundIn paper) d → afterStep t ≡ endedBy d k
   unfolding endedBy
   end-close h t e = rw (eq-eqb k 4 h) (ap afterStep e)

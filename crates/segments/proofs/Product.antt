@@ -1,6 +1,5 @@
 -- The product of the rates, which every rate divides: a number of ticks to a second at which each stop is reached at a tick.
 -- Assumes nothing.
-use mathlib.Core.Path.{_≡_}
 use mathlib.Core.List.{List, [], _∷_}
 use Prim.Native.Nat.{ℕ, _+_, _*_, _≤_, _<_, _∣_}
 use native.Mathlib.Nat.{mul-pos, dvd-refl, dvd-trans, dvd-mul-left, dvd-mul-right}

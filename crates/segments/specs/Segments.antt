@@ -1,7 +1,7 @@
 -- Segments (Appendix P's word): the straight ways of a course from stop to stop, each with its rate and the hold at its end.
 -- What is recorded of them at whole seconds, and what is exact. Ways are grains, rates grains a second, holds seconds.
 -- Assumes nothing.
-use Prim.Native.Nat.{ℕ, zero, suc, _+_, _*_, _-_, _/_, _%_, min, _≤_, _∣_}
+use Prim.Native.Nat.{ℕ, suc, _+_, _*_, _-_, _/_, _%_, min, _≤_, _∣_}
 use mathlib.Core.List.{List, [], _∷_}
 use Rattle.level.specs.Lists.{sum}
 use Rattle.segments.specs.declared.Segment.{Segment}

@@ -5,8 +5,9 @@ use mathlib.Core.List.{List}
 use mathlib.Core.Bool.{Bool}
 use lib.Dec.{ltb}
 use Rattle.level.specs.Lists.{some, listFrom}
-use Rattle.day.specs.Day.{quantityAt}
+use Rattle.profile.specs.Finding.{quantityAt}
 
--- "27 at close, a quantity above the short-term maximum", by the sums at the boundaries: of n half-hours from the boundary i on
+-- "27 at close, a quantity above the short-term maximum", by the sums at the boundaries: of n half-hours from the boundary i on.
+-- The working twin of `quantityTooHigh` (day/specs/Step), to which `too-high-is` (close/proofs/Whole) equates it.
 unfoldable pub someAbove : ℕ → List ℕ → ℕ → ℕ → Bool
 someAbove most sums i n = some (λ q. ltb most q) (listFrom (quantityAt sums) i n)

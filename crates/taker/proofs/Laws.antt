@@ -10,7 +10,7 @@ use Rattle.profile.specs.Profile.{paper}
 use Rattle.day.specs.declared.Day.{Day}
 use Rattle.day.specs.Day.{foundIn}
 use Rattle.day.specs.Step.{stepOf}
-use Rattle.entering.proofs.Laws.{step-used}
+use Rattle.day.proofs.ByKind.{step-used}
 use Rattle.taker.specs.Rest.{restAfter, countedBy}
 
 pub rest-is : (d : Day) (s : List ℕ) → restAfter (stepOf d s) s ≡ drop (stepOf d s .used) s

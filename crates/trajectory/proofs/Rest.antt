@@ -10,18 +10,13 @@ use borrow.Author.Tests.{lt-ltb, le-ltb, eq-eqb, ne-eqb}
 use Rattle.level.specs.Choice.{pick}
 use Rattle.segments.specs.declared.Segment.{Segment}
 use Rattle.course.specs.Lists.{Lists}
-use Rattle.course.specs.Course.{Heading, rising, falling, toward, gap, rateAt, nextStop, holdAt}
+use Rattle.course.specs.Course.{Heading, toward, gap, rateAt, nextStop, holdAt}
 use Rattle.course.proofs.Near.{Past, Short, short-past, past-on, gap-left}
 use Rattle.course.proofs.Ahead.{rate-same, next-same, next-past}
 use Rattle.trajectory.specs.declared.Place.{Place}
 use Rattle.stops.specs.Ahead.{segmentTo, segmentFrom}
 use Rattle.trajectory.specs.Walk.{Known, unknown, reachedAt, afterRun, along, restRun, restAlong}
 use Rattle.trajectory.proofs.Onward.{along-run}
-
--- a level short of the target is not there
-pub past-apart : (h : Heading) (v t : ℕ) → Past h v t → v ≡ t → ⊥
-past-apart rising v t p e = omega arith
-past-apart falling v t p e = omega arith
 
 -- where a course is reached: no segment is known, or the one that lies ahead
 module _ (h : Heading) (l : Lists) (t : ℕ) (p : Place) where

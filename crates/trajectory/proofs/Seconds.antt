@@ -1,6 +1,6 @@
 -- Several seconds at once: in a hold, at rest, at a rate of 0, and at full rate up to a stop.
 -- Assumes nothing.
-use Prim.Native.Nat.{ℕ, zero, suc, _+_, _*_, _-_, min, _≤_, _<_}
+use Prim.Native.Nat.{ℕ, zero, suc, _+_, _*_, _-_, _≤_, _<_}
 use mathlib.Core.Path.{_≡_, refl, ap, sym, _∙_}
 use native.Mathlib.Decide.{ℕ-discrete}
 use native.Mathlib.Omega.{arith}
@@ -8,32 +8,15 @@ use lib.Dec.{eqb}
 use borrow.Author.Tests.{lt-ltb, eq-eqb, ne-eqb}
 use Rattle.level.specs.Choice.{pick}
 use Rattle.course.specs.Lists.{Lists}
-use Rattle.course.specs.Course.{Heading, Moment, toward, gap, rateAt, nextStop, holdAt, second, arrived, after}
+use Rattle.course.specs.Course.{Heading, Moment, toward, gap, rateAt, nextStop, holdAt, second, after}
 use Rattle.course.proofs.Near.{Past, past-on, gap-some, gap-to, gap-left, toward-add, toward-zero}
 use Rattle.course.proofs.Ahead.{rate-same, next-same, next-past}
-use Rattle.course.proofs.Rule.{at, past-not}
+use Rattle.course.proofs.Rule.{at, second-run, second-stop}
 
 module _ (h : Heading) (l : Lists) (t : ℕ) where
   hold-second : (v d : ℕ) → 0 < d → second h l t (at v d) ≡ at v (d - 1)
   unfolding second
   hold-second v d p = simp (lt-ltb 0 d p)
-
-  -- a second from a level short of the target: by the smaller of the rate and the way
-  run-second : (v : ℕ) → Past h v t → rateAt h l v < gap v (nextStop h l t v) → second h l t (at v 0) ≡ at (toward h v (rateAt h l v)) 0
-  unfolding second arrived
-  run-second v p q =
-      let n = next-past h l t v p in
-      let g = gap-left v (nextStop h l t v) h (rateAt h l v) (n .0) q in
-      let m : min (rateAt h l v) (gap v (nextStop h l t v)) ≡ rateAt h l v = omega arith in
-      simp (ne-eqb v t (past-not h v t p), m, ne-eqb (toward h v (rateAt h l v)) (nextStop h l t v) (past-not h _ _ (g .0)))
-
-  stop-second : (v : ℕ) → Past h v t → gap v (nextStop h l t v) ≤ rateAt h l v →
-      second h l t (at v 0) ≡ at (nextStop h l t v) (holdAt h l t (nextStop h l t v))
-  unfolding second arrived
-  stop-second v p q =
-      let n = next-past h l t v p in
-      let m : min (rateAt h l v) (gap v (nextStop h l t v)) ≡ gap v (nextStop h l t v) = omega arith in
-      simp (ne-eqb v t (past-not h v t p), m, gap-to v (nextStop h l t v) h (n .0), eq-eqb (nextStop h l t v) (nextStop h l t v) refl)
 
   pub holds : (f v d : ℕ) → f ≤ d → after h l t f (at v d) ≡ at v (d - f)
   unfolding after
@@ -45,7 +28,7 @@ module _ (h : Heading) (l : Lists) (t : ℕ) where
   stuck zero v p z = refl
   stuck (suc f) v p z =
       ap (second h l t) (stuck f v p z)
-      ∙ (run-second v p (omega (arith, gap-some v (nextStop h l t v) h (next-past h l t v p .0))) ∙ ap (λ (w : ℕ). at w 0) (ap (toward h v) z ∙ toward-zero h v))
+      ∙ (second-run h l t v p (omega (arith, gap-some v (nextStop h l t v) h (next-past h l t v p .0))) ∙ ap (λ (w : ℕ). at w 0) (ap (toward h v) z ∙ toward-zero h v))
 
   -- at full rate from v: the hold begins where the whole way is come
   module _ (v : ℕ) (p : Past h v t) (some : 1 ≤ rateAt h l v) where
@@ -77,8 +60,8 @@ module _ (h : Heading) (l : Lists) (t : ℕ) where
         let even : rateAt h l x ≡ rate = rate-same h l t v x (on .1) (on .0) in
         let left : gap x (nextStop h l t x) ≡ way - f * rate = ap (gap x) same ∙ on .2 in
         elim (ℕ-discrete (f * rate + rate) way) [
-          | yes e ↦ stop-second x z (omega arith) ∙ ap (λ (w : ℕ). at w (holdAt h l t w)) same ∙ sym (ran-whole (suc f) (omega arith))
-          | no e ↦ run-second x z (omega arith)
+          | yes e ↦ second-stop h l t x z (omega arith) ∙ ap (λ (w : ℕ). at w (holdAt h l t w)) same ∙ sym (ran-whole (suc f) (omega arith))
+          | no e ↦ second-run h l t x z (omega arith)
               ∙ ap (λ (w : ℕ). at w 0) (toward-add h v (f * rate) (rateAt h l x) ∙ ap (toward h v) {x = f * rate + rateAt h l x} {y = suc f * rate} (omega arith))
               ∙ sym (ran-part (suc f) (λ e′. e (omega arith)))
         ]
@@ -94,7 +77,7 @@ module _ (h : Heading) (l : Lists) (t : ℕ) where
     -- a way shorter than the rate
     pub stops : way ≤ rate → after h l t 1 (at v 0) ≡ at stop (holdAt h l t stop)
     unfolding after
-    stops q = stop-second v p q
+    stops q = second-stop h l t v p q
 
   -- j seconds, and then k
   pub after-add : (j k : ℕ) (m : Moment) → after h l t (j + k) m ≡ after h l t k (after h l t j m)

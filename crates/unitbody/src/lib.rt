@@ -53,7 +53,7 @@ fn column_of(ns: [u32; 62], at: usize) -> Column
 }
 
 // The ramp list whose nine numbers begin at a place.
-fn ramp_of(ns: [u32; 62], at: usize) -> Ramp
+fn ramp_at(ns: [u32; 62], at: usize) -> Ramp
     requires { ⌜ at + 9 ≤ 62 ⌝ }
     ensures { λ r. ⌜ (r .rates ≡ getD ns at 0 ∷ getD ns (at + 1) 0 ∷ getD ns (at + 2) 0 ∷ getD ns (at + 3) 0 ∷ getD ns (at + 4) 0 ∷ []) × (r .breaks ≡ getD ns (at + 5) 0 ∷ getD ns (at + 6) 0 ∷ getD ns (at + 7) 0 ∷ getD ns (at + 8) 0 ∷ []) ⌝ }
 {
@@ -70,12 +70,12 @@ pub fn unit_of(ns: [u32; 62]) -> UnitData
     let warm = column_of(ns, 15);
     let cold = column_of(ns, 25);
     let columns = [hot, warm, cold];
-    let up = ramp_of(ns, 35);
+    let up = ramp_at(ns, 35);
     let first = trigger_of(ns, 44, 47);
     let second = trigger_of(ns, 45, 48);
     let third = trigger_of(ns, 46, 49);
     let dwells = [first, second, third];
-    let down = ramp_of(ns, 50);
+    let down = ramp_at(ns, 50);
     let rates = [ns[59], ns[60]];
     let breaks = [ns[61]];
     let deload = Deload { rates, breaks };

@@ -15,5 +15,5 @@ abbrev pub unitRead : List ℕ → UnitRead
 unitRead b = record { answer = unitAnswer (numbers b 62); unit = unitOf (numbers b 62) }
 
 -- 3 and 4, of the numbers ns and the unit u
-abbrev pub answerFor : List ℕ → UnitData → Answer
-answerFor ns u = firstRefusal (refusing (not (fitFrom unitRanges ns 0)) UnitField ∷ refusing (disagrees u) UnitDisagrees ∷ [])
+abbrev pub unitAnswerFor : List ℕ → UnitData → Answer
+unitAnswerFor ns u = firstRefusal (refusing (not (fitFrom unitRanges ns 0)) UnitField ∷ refusing (disagrees u) UnitDisagrees ∷ [])

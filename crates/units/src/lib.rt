@@ -4,7 +4,7 @@ ghost use Prim.Native.Nat.{_<_};
 ghost use lib.Dec.{ltb};
 ghost use Rattle.level.specs.Lists.{some};
 ghost use Rattle.records.specs.Fields.{unitRanges, fitFrom, falls, disagrees};
-ghost use Rattle.units.specs.Decoded.{unitRead, answerFor};
+ghost use Rattle.units.specs.Decoded.{unitRead, unitAnswerFor};
 use records::Answer;
 use records::Column;
 use records::Refusal;
@@ -228,7 +228,7 @@ fn unit_disagrees(u: UnitData) -> bool
 
 // Refusals 3 and 4, of 62 numbers and the unit that they make.
 fn unit_answer(ns: [u32; 62], u: UnitData) -> Answer
-    ensures { λ r. ⌜ r ≡ answerFor ns u ⌝ }
+    ensures { λ r. ⌜ r ≡ unitAnswerFor ns u ⌝ }
 {
     if !all_fit(ns) {
         return Answer::Refused(Refusal::UnitField);

@@ -1,24 +1,20 @@
 -- Acting times strictly increase in the acting order, and all lie before the day's end.
 -- Assumes nothing.
-use mathlib.Core.Path.{_≡_, refl, ap, sym, _∙_}
+use mathlib.Core.Path.{_≡_, refl, sym}
 use mathlib.Core.List.{List, [], _∷_}
-use mathlib.Core.Bool.{Bool, true, false, _||_, true≢false}
-use Prim.Native.Nat.{ℕ, zero, suc, _+_, _≤_, _<_}
-use native.Mathlib.Omega.{arith}
-use lib.Dec.{T, leb, ltb, eqb, leb→le, nleb→lt, eqb→eq}
+use mathlib.Core.Bool.{Bool, true, false, true≢false}
+use Prim.Native.Nat.{ℕ, _<_}
+use lib.Dec.{leb, eqb, nleb→lt}
 use Rattle.level.specs.Choice.{pick}
 use Rattle.level.specs.Lists.{All, some}
+use Rattle.level.proofs.Lists.{or-false}
 use Rattle.validation.specs.declared.Numbered.{Numbered}
-use Rattle.validation.specs.Kept.{acting, overtaken, lateFate, actors, Checked, Validated, turned, keptOf, used, check, validated}
+use Rattle.validation.specs.Kept.{acting, overtaken, lateFate, actors, keptOf, validated}
 
 -- each acts before all after it
 abbrev pub Rises : List Numbered → Type 0
 Rises [] = Unit {0}
 Rises (o ∷ os) = All (λ l. acting o < acting l) os × Rises os
-
-or-false : (a b : Bool) → (a || b) ≡ false → (a ≡ false) × (b ≡ false)
-or-false true b e = absurd (true≢false e)
-or-false false b e = (refl, e)
 
 not-overtaken : (o : Numbered) (ls : List Numbered) → overtaken o ls ≡ false → All (λ l. acting o < acting l) ls
 unfolding overtaken some

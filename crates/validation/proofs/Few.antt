@@ -1,22 +1,21 @@
 -- No more act than were entered, and every fate is a digit.
 -- Assumes nothing.
-use mathlib.Core.Path.{_≡_, refl, ap, sym, _∙_}
+use mathlib.Core.Path.{_≡_, refl, ap}
 use mathlib.Core.List.{List, [], _∷_, _++_, map}
 use mathlib.Core.Bool.{Bool, true, false}
-use Prim.Native.Nat.{ℕ, zero, suc, _+_, _≤_, _<_}
-use native.Mathlib.Nat.{le-refl}
+use Prim.Native.Nat.{ℕ, zero, suc, _+_, _≤_}
 use native.Mathlib.Omega.{arith}
 use lib.Dec.{leb, ltb, eqb}
 use lib.ListN.{length, length-append}
 use Rattle.level.specs.Choice.{pick}
 use Rattle.level.specs.Lists.{All, those}
-use Rattle.level.proofs.Lists.{by-bool}
+use Rattle.level.proofs.Lists.{by-bool, map-length, all-append}
 use Rattle.records.specs.declared.Effect.{Effect}
 use Rattle.records.specs.declared.Effect.the-variants.{Mwof, Sync, Desy, Fail}
 use Rattle.records.specs.declared.Instruction.{Instruction}
 use Rattle.records.specs.Codes.{same}
 use Rattle.validation.specs.declared.Numbered.{Numbered}
-use Rattle.validation.specs.Kept.{effectOf, effectiveOf, numbered, Mark, mark, superseded, group, highest, firstOne, orElse, present, carrying, merged, usedOf, nextTime, usedFrom, used, repeats, syncWithinHour, fromSync, beforeSync, Checked, failed, checkOne, check, acting, overtaken, lateFate, actors, lateMarks, turned, Validated, keptOf, validated, fateAmong, fatesOf}
+use Rattle.validation.specs.Kept.{effectOf, effectiveOf, numbered, Mark, mark, superseded, group, highest, firstOne, orElse, present, carrying, merged, usedOf, nextTime, usedFrom, used, repeats, syncWithinHour, fromSync, beforeSync, Checked, failed, checkOne, check, acting, overtaken, lateFate, actors, lateMarks, turned, keptOf, validated, fateAmong, fatesOf}
 
 pub numbered-length : (n : ℕ) (is : List Instruction) → length (numbered n is) ≡ length is
 unfolding numbered
@@ -36,10 +35,6 @@ present-one : (c : Effect) (g : List Numbered) → length (present c g) ≤ 1
 unfolding present
 present-one c g = first-one (those (λ (o : Numbered). same (effectOf o) c) g)
 
-carried : (o : Numbered) (xs : List Numbered) → length (map (carrying o) xs) ≡ length xs
-carried o [] = refl
-carried o (x ∷ xs) = ap suc (carried o xs)
-
 merged-one : (g : List Numbered) (o : Numbered) → length (merged g o) ≤ 1
 unfolding merged
 merged-one g o = go (same (effectOf o) Mwof)
@@ -48,7 +43,7 @@ merged-one g o = go (same (effectOf o) Mwof)
     carrier = orElse (present Sync g) (present Desy g)
 
     go : (b : Bool) → length (pick b (orElse (map (carrying o) carrier) (o ∷ [])) (o ∷ [])) ≤ 1
-    go true = or-else (map (carrying o) carrier) (o ∷ []) (omega (arith, carried o carrier, or-else (present Sync g) (present Desy g) (present-one Sync g) (present-one Desy g))) (omega arith)
+    go true = or-else (map (carrying o) carrier) (o ∷ []) (omega (arith, map-length (carrying o) carrier, or-else (present Sync g) (present Desy g) (present-one Sync g) (present-one Desy g))) (omega arith)
     go false = omega arith
 
 used-one : (g : List Numbered) → length (usedOf g) ≤ 1
@@ -114,47 +109,59 @@ acts-few end os =
       used-few end os (length os) 0,
     )
 
+-- ---- the fates of marks: 3, 4 and 5 of step 3; 6, 8 and 0 of step 4
+abbrev pub Fated : (ℕ → Type 0) → List Mark → Type 0
+Fated P ms = All (λ (m : Mark). P (m .fate)) ms
+
+module _ (P : ℕ → Type 0) where
+  pub fated-append : (xs ys : List Mark) → Fated P xs → Fated P ys → Fated P (xs ++ ys)
+  fated-append xs ys p q = all-append (λ (m : Mark). P (m .fate)) xs ys p q
+
+  module _ (p3 : P 3) (p4 : P 4) (p5 : P 5) where
+    fours : (ks : List Numbered) → Fated P (map (mark 4) ks)
+    fours [] = tt
+    fours (k ∷ ks) = (p4, fours ks)
+
+    checked-one : (s : Checked) (o : Numbered) → Fated P (s .marks) → Fated P (checkOne s o .marks)
+    unfolding checkOne failed
+    checked-one s o d =
+        by-bool (same (effectOf o) Fail)
+        (λ e. by-bool (syncWithinHour (effectiveOf o) (s .kept))
+        (λ f. rw (e, f) (p5, fated-append (map (mark 4) (fromSync (s .kept))) (s .marks) (fours (fromSync (s .kept))) d))
+        (λ f. rw (e, f) (p5, d)))
+        (λ e. by-bool (repeats o (s .kept)) (λ f. rw (e, f) (p3, d)) (λ f. rw (e, f) d))
+
+    pub checked-fated : (s : Checked) (os : List Numbered) → Fated P (s .marks) → Fated P (check s os .marks)
+    unfolding check
+    checked-fated s [] d = d
+    checked-fated s (o ∷ os) d = checked-fated (checkOne s o) os (checked-one s o d)
+
+  module _ (p0 : P 0) (p6 : P 6) (p8 : P 8) where
+    pub late-fated : (end : ℕ) (os : List Numbered) → Fated P (lateMarks end os)
+    unfolding lateMarks lateFate
+    late-fated end [] = tt
+    late-fated end (o ∷ os) = (go (overtaken o os) (leb end (acting o)), late-fated end os)
+      where
+        go : (a b : Bool) → P (pick a 6 (pick b 8 0))
+        go true b = p6
+        go false true = p8
+        go false false = p0
+
 -- ---- fates
 abbrev pub Digits : List Mark → Type 0
-Digits ms = All (λ (m : Mark). m .fate ≤ 8) ms
+Digits ms = Fated (λ (f : ℕ). f ≤ 8) ms
 
 pub digits-append : (xs ys : List Mark) → Digits xs → Digits ys → Digits (xs ++ ys)
-digits-append [] ys p q = q
-digits-append (x ∷ xs) ys p q = (p .0, digits-append xs ys (p .1) q)
-
-fours : (ks : List Numbered) → Digits (map (mark 4) ks)
-fours [] = tt
-fours (k ∷ ks) = (omega arith, fours ks)
-
-one-digits : (s : Checked) (o : Numbered) → Digits (s .marks) → Digits (checkOne s o .marks)
-unfolding checkOne failed
-one-digits s o d =
-    by-bool (same (effectOf o) Fail)
-    (λ e. by-bool (syncWithinHour (effectiveOf o) (s .kept))
-    (λ f. rw (e, f) (omega arith, digits-append (map (mark 4) (fromSync (s .kept))) (s .marks) (fours (fromSync (s .kept))) d))
-    (λ f. rw (e, f) (omega arith, d)))
-    (λ e. by-bool (repeats o (s .kept)) (λ f. rw (e, f) (omega arith, d)) (λ f. rw (e, f) d))
-
-all-digits : (s : Checked) (os : List Numbered) → Digits (s .marks) → Digits (check s os .marks)
-unfolding check
-all-digits s [] d = d
-all-digits s (o ∷ os) d = all-digits (checkOne s o) os (one-digits s o d)
-
-late-digits : (end : ℕ) (os : List Numbered) → Digits (lateMarks end os)
-unfolding lateMarks lateFate
-late-digits end [] = tt
-late-digits end (o ∷ os) = (go (overtaken o os) (leb end (acting o)), late-digits end os)
-  where
-    go : (a b : Bool) → pick a 6 (pick b 8 0) ≤ 8
-    go true b = omega arith
-    go false true = omega arith
-    go false false = omega arith
+digits-append xs ys p q = fated-append (λ (f : ℕ). f ≤ 8) xs ys p q
 
 pub marks-digits : (end : ℕ) (os : List Numbered) → Digits (validated end os .marks)
 unfolding validated keptOf
 marks-digits end os =
     let s : Checked = check (record { kept = []; marks = [] }) (used end os) in
-    digits-append (s .marks) (lateMarks end (turned (s .kept) [])) (all-digits (record { kept = []; marks = [] }) (used end os) tt) (late-digits end (turned (s .kept) []))
+    let digit : ℕ → Type 0 = λ (f : ℕ). f ≤ 8 in
+    digits-append (s .marks) (lateMarks end (turned (s .kept) []))
+    (checked-fated digit (omega arith) (omega arith) (omega arith) (record { kept = []; marks = [] }) (used end os) tt)
+    (late-fated digit (omega arith) (omega arith) (omega arith) end (turned (s .kept) []))
 
 among-digit : (n : ℕ) (ms : List Mark) → Digits ms → fateAmong n ms ≤ 8
 unfolding fateAmong

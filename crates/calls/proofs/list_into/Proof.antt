@@ -4,9 +4,6 @@ use lib.Seq.{length-take-le}
 use borrow.Author.Needs.{needs}
 use Rattle.calls.proofs.list_into.Statement.{statement}
 use Rattle.calls.proofs.list_into.Tie as tie
-use Rattle.calls.proofs.list_into.Reads as reads
-use Rattle.calls.proofs.list_into.Lts as lts
-use Rattle.printing.proofs.list.Reads as list-reads
 
 list-requires : tie.Need-list-requires
 list-requires c κs = search needs

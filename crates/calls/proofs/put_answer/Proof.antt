@@ -3,11 +3,6 @@ use Rattle.text.proofs.Laws.{word-width, line-two}
 use borrow.Author.Needs.{needs}
 use Rattle.calls.proofs.put_answer.Statement.{statement}
 use Rattle.calls.proofs.put_answer.Tie as tie
-use Rattle.calls.proofs.put_answer.Reads as reads
-use Rattle.calls.proofs.put_answer.Lts as lts
-use Rattle.calls.proofs.put_front.Reads as put-front-reads
-use Rattle.records.proofs.answer_number.Reads as answer-number-reads
-use Rattle.text.proofs.put_line.Reads as put-line-reads
 
 answer-number-requires : tie.Need-answer-number-requires
 answer-number-requires c κs = search needs

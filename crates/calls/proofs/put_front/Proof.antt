@@ -4,9 +4,6 @@ use lib.Seq.{length-take-le}
 use borrow.Author.Needs.{needs}
 use Rattle.calls.proofs.put_front.Statement.{statement}
 use Rattle.calls.proofs.put_front.Tie as tie
-use Rattle.calls.proofs.put_front.Reads as reads
-use Rattle.calls.proofs.put_front.Lts as lts
-use Rattle.io.proofs.write_all.Reads as write-all-reads
 
 slice-aggregate-write-all : tie.Need-slice-aggregate-write-all
 slice-aggregate-write-all c = sym (length-take-le _ _ (omega arith))

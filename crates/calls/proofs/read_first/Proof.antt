@@ -5,9 +5,6 @@ use lib.ListN.{length}
 use borrow.Author.Needs.{needs}
 use Rattle.calls.proofs.read_first.Statement.{statement}
 use Rattle.calls.proofs.read_first.Tie as tie
-use Rattle.calls.proofs.read_first.Reads as reads
-use Rattle.calls.proofs.read_first.Lts as lts
-use Rattle.calls.proofs.read_on.Reads as read-on-reads
 
 abbrev Inv-loop : tie.InvT-loop
 Inv-loop buf₀ n at₀ buf at = length buf ≡ length buf₀

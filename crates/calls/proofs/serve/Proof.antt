@@ -1,10 +1,6 @@
 use native.Mathlib.Omega.{arith}
 use Rattle.calls.proofs.serve.Statement.{statement}
 use Rattle.calls.proofs.serve.Tie as tie
-use Rattle.calls.proofs.serve.Reads as reads
-use Rattle.calls.proofs.serve.Lts as lts
-use Rattle.calls.proofs.serve_one.Reads as serve-one-reads
-use Rattle.day.proofs.empty_day.Reads as empty-day-reads
 
 abbrev Inv-loop : tie.InvT-loop
 Inv-loop day₀ turns₀ day turns = Unit {0}

@@ -4,11 +4,6 @@ use lib.Seq.{length-take-le}
 use borrow.Author.Needs.{needs}
 use Rattle.calls.proofs.take_read.Statement.{statement}
 use Rattle.calls.proofs.take_read.Tie as tie
-use Rattle.calls.proofs.take_read.Reads as reads
-use Rattle.calls.proofs.take_read.Lts as lts
-use Rattle.calls.proofs.malformed.Reads as malformed-reads
-use Rattle.calls.proofs.put_answer.Reads as put-answer-reads
-use Rattle.taker.proofs.take_front.Reads as take-front-reads
 
 malformed-requires : tie.Need-malformed-requires
 malformed-requires c κs = search needs

@@ -3,16 +3,17 @@ use mathlib.Core.List.{List, map}
 use native.Mathlib.Omega.{arith}
 use Prim.Native.Nat.{ℕ, suc, _≤_, _-_, _+_}
 use lib.ListN.{length, getD}
+use Rattle.level.specs.Numbers.{instructionPlaces}
 use Rattle.validation.specs.declared.Numbered.{Numbered}
 use Rattle.validation.specs.Kept.{mark}
-use Rattle.checking.specs.Working.{numberOf, Noted, setFate, marked, between}
+use Rattle.checking.specs.Working.{entryNumber, Noted, setFate, marked, stackFrom}
 use Rattle.checking.proofs.Steps.{set-length, voided-more, voided-none}
 use borrow.Author.Needs.{needs}
 use Rattle.checking.proofs.void_from.Statement.{statement}
 use Rattle.checking.proofs.void_from.Tie as tie
 
 abbrev Inv-loop : tie.InvT-loop
-Inv-loop numbers from height fates₀ i₀ fates i = (from ≤ i) × (i ≤ height) × (length fates ≡ 40) × ((ks : List Numbered) → Noted numberOf numbers ks height → fates ≡ marked fates₀ (map (mark 4) (between ks from (i - from))))
+Inv-loop numbers from height fates₀ i₀ fates i = (from ≤ i) × (i ≤ height) × (length fates ≡ instructionPlaces) × ((ks : List Numbered) → Noted entryNumber numbers ks height → fates ≡ marked fates₀ (map (mark 4) (stackFrom ks from (i - from))))
 
 abbrev μ-loop : tie.MeasureT-loop
 μ-loop numbers from height fates₀ i₀ fates i = height - i
@@ -21,7 +22,7 @@ loop-holds : tie.Need-loop-holds Inv-loop μ-loop
 loop-holds c =
     let a = c .args in
     let z : a .from - a .from ≡ 0 = omega arith in
-    (omega arith, omega arith, omega arith, λ ks e. sym (ap (λ (k : ℕ). marked (a .fates .now) (map (mark 4) (between ks (a .from) k))) z ∙ voided-none (a .fates .now) ks (a .from)))
+    (omega arith, omega arith, omega arith, λ ks e. sym (ap (λ (k : ℕ). marked (a .fates .now) (map (mark 4) (stackFrom ks (a .from) k))) z ∙ voided-none (a .fates .now) ks (a .from)))
 
 mul-number : tie.Need-mul-number Inv-loop μ-loop
 mul-number c = omega arith
@@ -51,7 +52,7 @@ loop-again c =
       omega arith,
       ap length p ∙ (set-length (l .fates) number 4 ∙ l .inv .2),
       λ ks e. p ∙ ((λ j. setFate (l .inv .3 ks e j) (e (l .i) (omega arith) j) 4)
-          ∙ (rw f at (voided-more (a .fates .now) ks (a .from) d) ∙ ap (λ (k : ℕ). marked (a .fates .now) (map (mark 4) (between ks (a .from) k))) (sym q))),
+          ∙ (rw f at (voided-more (a .fates .now) ks (a .from) d) ∙ ap (λ (k : ℕ). marked (a .fates .now) (map (mark 4) (stackFrom ks (a .from) k))) (sym q))),
     )
 
 returns : tie.Need-returns Inv-loop μ-loop
@@ -59,7 +60,7 @@ returns c =
     let a = c .before .before .args in
     let l = c .before .loop in
     let z : l .i ≡ a .height = omega arith in
-    (l .inv .2, λ ks e. l .inv .3 ks e ∙ ap (λ (k : ℕ). marked (a .fates .now) (map (mark 4) (between ks (a .from) (k - a .from)))) z)
+    (l .inv .2, λ ks e. l .inv .3 ks e ∙ ap (λ (k : ℕ). marked (a .fates .now) (map (mark 4) (stackFrom ks (a .from) (k - a .from)))) z)
 
 pub void-from-spec : {M : Type 1} → statement M
 void-from-spec =

@@ -1,5 +1,4 @@
-use mathlib.Core.Path.{refl}
-use Rattle.checking.specs.Working.{withinHour}
+use Rattle.validation.specs.Kept.{syncWithinHour}
 use borrow.Author.Needs.{needs}
 use Rattle.checking.proofs.within_hour.Statement.{statement}
 use Rattle.checking.proofs.within_hour.Tie as tie
@@ -14,8 +13,8 @@ add-result : tie.Need-add-result
 add-result c = search needs
 
 returns : tie.Need-returns
-unfolding withinHour
-returns c = refl
+unfolding syncWithinHour
+returns c = λ e. rw e
 
 pub within-hour-spec : {M : Type 1} → statement M
 within-hour-spec = tie.close (tie.spec cast-a cast-b add-result returns)

@@ -1,11 +1,11 @@
 use borrow.Author.Tests.{lt-ltb, le-ltb}
-use Rattle.choosing.specs.Working.{hasTime}
+use Rattle.choosing.specs.Working.{hasTimeAt}
 use borrow.Author.Needs.{needs}
 use Rattle.choosing.proofs.has_time.Statement.{statement}
 use Rattle.choosing.proofs.has_time.Tie as tie
 
 returns : tie.Need-returns
-unfolding hasTime
+unfolding hasTimeAt
 returns c = rw (le-ltb _ _ (c .if1 .taken))
 
 mul-result : tie.Need-mul-result
@@ -15,7 +15,7 @@ element-copy-out-result : tie.Need-element-copy-out-result
 element-copy-out-result c = search needs
 
 returns-2 : tie.Need-returns-2
-unfolding hasTime
+unfolding hasTimeAt
 returns-2 c = rw (lt-ltb _ _ (c .before .if1 .left))
 
 pub has-time-spec : {M : Type 1} → statement M

@@ -1,16 +1,17 @@
-use Rattle.choosing.proofs.Laws.{later-other, later-more, later-not}
-use native.Mathlib.Omega.{arith}
+use mathlib.Core.Path.{_∙_}
+use Rattle.choosing.proofs.Laws.{later-other, later-same}
+use borrow.Author.Needs.{needs}
 use Rattle.choosing.proofs.later.Statement.{statement}
 use Rattle.choosing.proofs.later.Tie as tie
 
 returns : tie.Need-returns
 returns c = later-other _ _ _ _ (c .if1 .taken)
 
-returns-2 : tie.Need-returns-2
-returns-2 c = later-more _ _ _ _ (omega arith) (omega arith)
+larger-requires : tie.Need-larger-requires
+larger-requires c κs = search needs
 
-returns-3 : tie.Need-returns-3
-returns-3 c = later-not _ _ _ _ (omega arith) (omega arith)
+returns-2 : tie.Need-returns-2
+returns-2 c = c .larger .ensures ∙ later-same _ _ _ _ (c .before .if1 .left)
 
 pub later-spec : {M : Type 1} → statement M
-later-spec = tie.close (tie.spec returns returns-2 returns-3)
+later-spec = tie.close (tie.spec returns larger-requires returns-2)

@@ -1,7 +1,7 @@
 use Prim.Native.Nat.{_≤_, _+_, _-_}
 use mathlib.Core.Path.{_≡_, sym, _∙_}
 use lib.ListN.{take, drop}
-use Rattle.choosing.specs.Working.{nextAt}
+use Rattle.choosing.specs.Working.{nextTimeAmong}
 use Rattle.level.proofs.Lists.{left-none}
 use Rattle.choosing.proofs.Laws.{next-none, next-more}
 use native.Mathlib.Omega.{arith}
@@ -10,7 +10,7 @@ use Rattle.choosing.proofs.next_time.Statement.{statement}
 use Rattle.choosing.proofs.next_time.Tie as tie
 
 abbrev Inv-loop : tie.InvT-loop
-Inv-loop times n t end best₀ i₀ best i = (i ≤ n) × (best ≡ nextAt end (drop i (take n times)) t)
+Inv-loop times n t end best₀ i₀ best i = (i ≤ n) × (best ≡ nextTimeAmong end (drop i (take n times)) t)
 
 abbrev μ-loop : tie.MeasureT-loop
 μ-loop times n t end best₀ i₀ best i = i

@@ -7,7 +7,7 @@ use Rattle.level.specs.Lists.{those}
 use Rattle.validation.specs.declared.Numbered.{Numbered}
 use Rattle.validation.specs.Kept.{numbered, effectiveOf, superseded, group, orElse, usedOf}
 use Rattle.ranking.specs.Found.{foundList}
-use Rattle.choosing.specs.Working.{noNumbered, issueOf, Timed, supersededAt}
+use Rattle.choosing.specs.Working.{noNumbered, issueTimeOf, Timed, supersededAmong}
 use Rattle.level.proofs.Lists.{left-none}
 use Rattle.choosing.proofs.Laws.{Walked, inGroup, those-none, those-skip, those-keep, walked-none, walked-more, walked-best, walked-sync, walked-desy, time-fits, time-at, superseded-is, group-other, group-gone, group-left, as-many, all-numbered, number-here, timed-all}
 use native.Mathlib.Omega.{arith}
@@ -38,7 +38,7 @@ timed s = timed-all (s .args .t1) (s .args .n) (room s) (s .pre .1)
 latest-at-requires : tie.Need-latest-at-requires Inv-loop μ-loop
 latest-at-requires c κs =
     let g = fits c in
-    (omega arith, time-fits effectiveOf (numbers c) (c .args .times .now) (c .args .n) (timed c .effective) g, time-fits issueOf (numbers c) (c .args .issues .now) (c .args .n) (timed c .issued) g)
+    (omega arith, time-fits effectiveOf (numbers c) (c .args .times .now) (c .args .n) (timed c .effective) g, time-fits issueTimeOf (numbers c) (c .args .issues .now) (c .args .n) (timed c .issued) g)
 
 loop-holds : tie.Need-loop-holds Inv-loop μ-loop
 loop-holds c =
@@ -59,11 +59,11 @@ loop-less c = omega arith
 
 -- of one at the time t
 left-is : (s : tie.Start Inv-loop μ-loop) (i : ℕ) → i < s .args .n → getD (s .args .times .now) i 0 ≡ s .args .t →
-    supersededAt (take (s .args .n) (s .args .times .now)) (take (s .args .n) (s .args .issues .now)) (s .args .t) (getD (s .args .issues .now) i 0) ≡ superseded (take (s .args .n) (numbers s)) (getD (numbers s) i noNumbered)
+    supersededAmong (take (s .args .n) (s .args .times .now)) (take (s .args .n) (s .args .issues .now)) (s .args .t) (getD (s .args .issues .now) i 0) ≡ superseded (take (s .args .n) (numbers s)) (getD (numbers s) i noNumbered)
 left-is s i h q =
     let os = numbers s in
     let n = s .args .n in
-    superseded-is (timed s) (getD os i noNumbered) (s .args .t) (getD (s .args .issues .now) i 0) (sym q ∙ time-at effectiveOf os (s .args .times .now) n i (timed s .effective) h) (time-at issueOf os (s .args .issues .now) n i (timed s .issued) h)
+    superseded-is (timed s) (getD os i noNumbered) (s .args .t) (getD (s .args .issues .now) i 0) (sym q ∙ time-at effectiveOf os (s .args .times .now) n i (timed s .effective) h) (time-at issueTimeOf os (s .args .issues .now) n i (timed s .issued) h)
 
 loop-again : tie.Need-loop-again Inv-loop μ-loop
 loop-again c =

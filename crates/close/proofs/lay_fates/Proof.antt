@@ -1,24 +1,18 @@
-use Rattle.close.proofs.Laying.{laid-end}
-use mathlib.Core.Path.{_≡_, _∙_}
+use mathlib.Core.Path.{_∙_}
 use native.Mathlib.Omega.{arith}
-use Prim.Native.Nat.{_≤_, _-_}
-use Rattle.close.specs.Laying.{laid, laidAll, marksFrom}
-use Rattle.close.proofs.Laying.{laid-start, laid-back}
+use Rattle.close.specs.Laying.{overlaid}
+use Rattle.close.proofs.Laying.{LaidFrom, overlaid-start, overlaid-back, overlaid-end}
 use Rattle.close.proofs.lay_fates.Statement.{statement}
 use Rattle.close.proofs.lay_fates.Tie as tie
-use Rattle.close.proofs.lay_fates.Reads as reads
-use Rattle.close.proofs.lay_fates.Lts as lts
-use Rattle.close.proofs.lay_fate.Reads as lay-fate-reads
 
--- the fates of those from the place i on are laid over
 abbrev Inv-loop : tie.InvT-loop
-Inv-loop n acts own out₀ i₀ out i = (i ≤ n) × (out .count ≤ 40) × (out ≡ laidAll out₀ (marksFrom acts own i (n - i)))
+Inv-loop n acts own out₀ i₀ out i = LaidFrom n acts own out₀ out i
 
 abbrev μ-loop : tie.MeasureT-loop
 μ-loop n acts own out₀ i₀ out i = i
 
 loop-holds : tie.Need-loop-holds Inv-loop μ-loop
-loop-holds c = (omega arith, omega arith, laid-start _ _ _ _)
+loop-holds c = record { within = omega arith; few = omega arith; over = overlaid-start _ _ _ _ }
 
 sub-o : tie.Need-sub-o Inv-loop μ-loop
 sub-o c = omega arith
@@ -45,16 +39,20 @@ loop-less : tie.Need-loop-less Inv-loop μ-loop
 loop-less c = omega arith
 
 loop-again : tie.Need-loop-again Inv-loop μ-loop
-unfolding laid
+unfolding overlaid
 loop-again c = let s = c .before .before .before .before in
     let l = c .before .before .before .loop in
     let e = c .lay-fate .ensures in
-    (omega arith, rw e (omega arith), e ∙ laid-back (s .args .t2) (s .args .t3) (s .args .n) (s .args .s) (l .out) (l .i) (omega arith) (omega arith) (l .inv .2))
+    record {
+      within = omega arith;
+      few = rw e (omega arith);
+      over = e ∙ overlaid-back (s .args .t2) (s .args .t3) (s .args .n) (s .args .s) (l .out) (l .i) (omega arith) (omega arith) (l .inv .over);
+    }
 
 returns : tie.Need-returns Inv-loop μ-loop
 returns c = let s = c .before .before in
     let l = c .before .loop in
-    laid-end (s .args .t2) (s .args .t3) (s .args .n) (s .args .s) (l .out) (l .i) (omega arith) (l .inv .2)
+    overlaid-end (s .args .t2) (s .args .t3) (s .args .n) (s .args .s) (l .out) (l .i) (omega arith) (l .inv .over)
 
 pub lay-fates-spec : {M : Type 1} → statement M
 lay-fates-spec =

@@ -12,26 +12,16 @@ use Rattle.listing.specs.declared.Listed.{Listed}
 use Rattle.records.specs.declared.Refusal.the-variants.{UnknownKind}
 use Rattle.day.specs.declared.Day.{Day}
 use Rattle.day.specs.declared.Ran.{Ran}
-use Rattle.listing.specs.Listing.{printedDay}
-use Rattle.entering.proofs.Laws.{is-refused, is-taken}
-use Rattle.taking.specs.Closed.{closedBy}
+use Rattle.listing.specs.Listing.{suffices, printedDay}
+use Rattle.day.proofs.Answers.{is-refused, is-taken}
 use Rattle.taking.proofs.Closed.{close-early, close-refused, close-taken}
-use Rattle.running.specs.Ended.{endedBy}
+use Rattle.running.specs.Ended.{openDay, endedBy}
 use Rattle.running.proofs.Runs.{end-none, end-close}
 use Rattle.closing.specs.Result.{inOne, ranResult, ranLent}
 use Rattle.closing.proofs.Laws.{refused-run}
 use borrow.Author.Needs.{needs}
 use Rattle.closing.proofs.close_run.Statement.{statement}
 use Rattle.closing.proofs.close_run.Tie as tie
-use Rattle.closing.proofs.close_run.Reads as reads
-use Rattle.closing.proofs.close_run.Lts as lts
-use Rattle.entering.proofs.close_front.Reads as close-front-reads
-use Rattle.closing.proofs.answer_result.Reads as answer-result-reads
-use Rattle.closing.proofs.listed_result.Reads as listed-result-reads
-use Rattle.printing.proofs.list_closed.Reads as list-closed-reads
-use Rattle.records.proofs.is_accepted.Reads as is-accepted-reads
-use Rattle.taking.proofs.closed_with.Reads as closed-with-reads
-use Rattle.taking.proofs.find_close.Reads as find-close-reads
 
 -- a refusal ends the records
 refuses : (a : Answer) (d : Day) (k : ℕ) (o : List ℕ) (n : ℕ) → (record { answer = a; day = d }) ≡ endedBy d k → accepted a ≡ false → n ≡ numberOf a * 4294967296 →
@@ -42,7 +32,7 @@ answer-result-requires : tie.Need-answer-result-requires
 answer-result-requires c κs = search needs
 
 returns : tie.Need-returns
-returns c = let s = c .before .before .before in refuses (Refused UnknownKind) (s .args .day) (s .args .kind) (s .args .out .now) _ (end-none _ _ (c .before .if1 .taken)) refl (c .answer-result .ensures)
+returns c = let s = c .before .before .before in refuses (Refused UnknownKind) (openDay (s .args .taken)) (s .args .kind) (s .args .out .now) _ (end-none _ _ (c .before .if1 .taken)) refl (c .answer-result .ensures)
 
 close-front-requires : tie.Need-close-front-requires
 close-front-requires c κs = search needs
@@ -58,7 +48,7 @@ returns-2 c =
     let s = c .before .before .before .before .before .before in
     let early = c .before .before .before .close-front in
     let no = is-refused (early .result) _ (c .before .before .is-accepted .ensures) (c .before .if2 .taken) in
-    refuses (early .result) (s .args .day) (s .args .kind) (s .args .out .now) _ (end-close _ _ (c .before .before .before .before .if1 .left) _ (close-early _ (early .result) (early .ensures) no)) no (c .answer-result2 .ensures)
+    refuses (early .result) (openDay (s .args .taken)) (s .args .kind) (s .args .out .now) _ (end-close _ _ (c .before .before .before .before .if1 .left) _ (close-early _ (early .result) (early .ensures) no)) no (c .answer-result2 .ensures)
 
 find-close-requires : tie.Need-find-close-requires
 find-close-requires c κs = search needs
@@ -71,33 +61,34 @@ answer-result-requires-3 c κs = search needs
 
 returns-3 : tie.Need-returns-3
 returns-3 c =
-    let s = c .before .before .before .before .before .before .before .before .before .before .before .before .before in
-    let early = c .before .before .before .before .before .before .before .before .before .before .close-front in
-    let read = c .before .before .before .before .find-close in
-    let first = is-taken (early .result) _ (c .before .before .before .before .before .before .before .before .before .is-accepted .ensures) (c .before .before .before .before .before .before .before .before .if2 .left) in
+    let p = c .before .before .before .before in
+    let s = p .before .before .before .before .before .before in
+    let early = p .before .before .before .close-front in
+    let first = is-taken (early .result) _ (p .before .before .is-accepted .ensures) (p .before .if2 .left) in
+    let read = p .find-close in
     let no = is-refused (read .result .answer) _ (c .before .before .is-accepted2 .ensures) (c .before .if3 .taken) in
-    refuses (read .result .answer) (s .args .day) (s .args .kind) (s .args .out .now) _
-    (end-close _ _ (c .before .before .before .before .before .before .before .before .before .before .before .if1 .left) _ (close-refused _ (early .result) (early .ensures) first (read .result) (read .ensures) no)) no (c .answer-result3 .ensures)
+    refuses (read .result .answer) (openDay (s .args .taken)) (s .args .kind) (s .args .out .now) _
+    (end-close _ _ (p .before .before .before .before .if1 .left) _ (close-refused _ (early .result) (early .ensures) first (read .result) (read .ensures) no)) no (c .answer-result3 .ensures)
 
-closed-with-requires : tie.Need-closed-with-requires
-closed-with-requires c κs = search needs
+closed-day-requires : tie.Need-closed-day-requires
+closed-day-requires c κs = search needs
 
 -- the closed day
-closes : (c : tie.After-closed-with) → let s = c .before .before .before .before .before .before .before .before .before .before .before .before .before in (record { answer = Accepted; day = c .closed-with .result }) ≡ endedBy (s .args .day) (s .args .kind)
+closes : (c : tie.After-closed-day) → let s = c .before .before .before .before .before .before .before .before .before .before in (record { answer = Accepted; day = c .closed-day .result }) ≡ endedBy (openDay (s .args .taken)) (s .args .kind)
 closes c =
-    let early = c .before .before .before .before .before .before .before .before .before .before .close-front in
-    let read = c .before .before .before .before .find-close in
-    let first = is-taken (early .result) _ (c .before .before .before .before .before .before .before .before .before .is-accepted .ensures) (c .before .before .before .before .before .before .before .before .if2 .left) in
-    ap (λ (d : Day). record { answer = Accepted; day = d }) (c .closed-with .ensures)
-    ∙ end-close _ _ (c .before .before .before .before .before .before .before .before .before .before .before .if1 .left) _ (close-taken _ (early .result) (early .ensures) first (read .result) (read .ensures) (is-taken (read .result .answer) _ (c .before .before .is-accepted2 .ensures) (c .before .if3 .left)))
+    let p = c .before .before .before .before in
+    let early = p .before .before .before .close-front in
+    let first = is-taken (early .result) _ (p .before .before .is-accepted .ensures) (p .before .if2 .left) in
+    let read = p .find-close in
+    ap (λ (d : Day). record { answer = Accepted; day = d }) (c .closed-day .ensures)
+    ∙ end-close _ _ (p .before .before .before .before .if1 .left) _ (close-taken _ (early .result) (early .ensures) first (read .result) (read .ensures) (is-taken (read .result .answer) _ (c .before .before .is-accepted2 .ensures) (c .before .if3 .left)))
 
 list-closed-requires : tie.Need-list-closed-requires
-unfolding closedBy
 list-closed-requires c κs =
-    let s = c .before .before .before .before .before .before .before .before .before .before .before .before .before .before in
+    let s = c .before .before .before .before .before .before .before .before .before .before .before in
     let e = closes (c .before) in (
-      ap (λ (d : Day). d .closed) (c .before .closed-with .ensures),
-      λ f. omega (arith, leb→le 46080 (length (s .args .out .now)) (rw f tt), ap (λ (r : Ran). length (printedDay (r .day))) e, s .pre (sym (ap (λ (r : Ran). r .answer) e))),
+      ap (λ (d : Day). d .closed) (c .before .closed-day .ensures),
+      λ f. omega (arith, leb→le suffices (length (s .args .out .now)) (rw f tt), ap (λ (r : Ran). length (printedDay (r .day))) e, s .pre (sym (ap (λ (r : Ran). r .answer) e))),
     )
 
 listed-result-requires : tie.Need-listed-result-requires
@@ -108,7 +99,7 @@ same-length c = search needs
 
 returns-4 : tie.Need-returns-4
 returns-4 c =
-    let s = c .before .before .before .before .before .before .before .before .before .before .before .before .before .before .before .before .before .before in
+    let s = c .before .before .before .before .before .before .before .before .before .before .before .before .before .before .before in
     let l = c .before .before .before .list-closed in
     let e = closes (c .before .before .before .before .before) in (
       c .listed-result .ensures ∙ ap (λ (x : Listed). inOne (x .answer) (x .count)) (l .ensures .0) ∙ ap (λ (r : Ran). ranResult r (s .args .out .now)) e,
@@ -129,7 +120,7 @@ close-run-spec =
     is-accepted-requires-2
     answer-result-requires-3
     returns-3
-    closed-with-requires
+    closed-day-requires
     list-closed-requires
     listed-result-requires
     same-length

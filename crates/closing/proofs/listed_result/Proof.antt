@@ -3,10 +3,6 @@ use Rattle.closing.proofs.Laws.{one-taken, one-refused}
 use borrow.Author.Needs.{needs}
 use Rattle.closing.proofs.listed_result.Statement.{statement}
 use Rattle.closing.proofs.listed_result.Tie as tie
-use Rattle.closing.proofs.listed_result.Reads as reads
-use Rattle.closing.proofs.listed_result.Lts as lts
-use Rattle.closing.proofs.answer_result.Reads as answer-result-reads
-use Rattle.records.proofs.is_accepted.Reads as is-accepted-reads
 
 is-accepted-requires : tie.Need-is-accepted-requires
 is-accepted-requires c κs = search needs

@@ -2,8 +2,6 @@ use mathlib.Core.Path.{refl}
 use Rattle.records.specs.Records.{openingOf}
 use Rattle.day.proofs.no_opening.Statement.{statement}
 use Rattle.day.proofs.no_opening.Tie as tie
-use Rattle.day.proofs.no_opening.Reads as reads
-use Rattle.day.proofs.no_opening.Lts as lts
 
 returns : tie.Need-returns
 unfolding openingOf

@@ -2,8 +2,6 @@ use mathlib.Core.Path.{refl}
 use Rattle.records.specs.Records.{unitOf, columnOf, triggerOf}
 use Rattle.day.proofs.no_unit.Statement.{statement}
 use Rattle.day.proofs.no_unit.Tie as tie
-use Rattle.day.proofs.no_unit.Reads as reads
-use Rattle.day.proofs.no_unit.Lts as lts
 
 returns : tie.Need-returns
 unfolding unitOf columnOf triggerOf

@@ -2,9 +2,6 @@ use Rattle.daylines.specs.Rest.{closingLine}
 use borrow.Author.Needs.{needs}
 use Rattle.daylines.proofs.closing_width.Statement.{statement}
 use Rattle.daylines.proofs.closing_width.Tie as tie
-use Rattle.daylines.proofs.closing_width.Reads as reads
-use Rattle.daylines.proofs.closing_width.Lts as lts
-use Rattle.widths.proofs.e_width.Reads as e-width-reads
 
 cast-e-width : tie.Need-cast-e-width
 cast-e-width c = search needs

@@ -8,11 +8,6 @@ use Rattle.daylines.specs.Rest.{pieceLine, linesLeft}
 use Rattle.daylines.proofs.Laws.{left-shorter, Along, PieceOn, along-begins, piece-on, pieces-none}
 use Rattle.daylines.proofs.course_width.Statement.{statement}
 use Rattle.daylines.proofs.course_width.Tie as tie
-use Rattle.daylines.proofs.course_width.Reads as reads
-use Rattle.daylines.proofs.course_width.Lts as lts
-use Rattle.daylines.proofs.piece_width.Reads as piece-width-reads
-use Rattle.trajectory.proofs.begin_at.Reads as begin-at-reads
-use Rattle.trajectory.proofs.walk_on.Reads as walk-on-reads
 
 abbrev Inv-loop : tie.InvT-loop
 Inv-loop l c up n from₀ width₀ from width =

@@ -7,7 +7,7 @@ use lib.ListN.{length, getD}
 use Rattle.level.specs.Level.{grains}
 use Rattle.course.specs.declared.Course.{Course}
 use Rattle.course.proofs.Near.{Short}
-use Rattle.day.specs.Day.{noCourse}
+use Rattle.profile.specs.Finding.{noCourse}
 use Rattle.rates.specs.Ways.{headed}
 use Rattle.trajectory.specs.Walk.{beginning}
 use Rattle.daylines.specs.Rest.{linesLeft}
@@ -15,46 +15,44 @@ use Rattle.rates.proofs.Anew.{Shared, setAnew, shared-own, shared-anew}
 use Rattle.daylines.proofs.Laws.{left-shorter, courses-left, courses-none, course-next}
 use Rattle.daylines.proofs.courses_width.Statement.{statement}
 use Rattle.daylines.proofs.courses_width.Tie as tie
-use Rattle.daylines.proofs.courses_width.Reads as reads
-use Rattle.daylines.proofs.courses_width.Lts as lts
-use Rattle.daylines.proofs.at_most.Reads as at-most-reads
-use Rattle.daylines.proofs.end_of.Reads as end-of-reads
-use Rattle.rates.proofs.own_lists.Reads as own-lists-reads
-use Rattle.rates.proofs.place_of.Reads as place-of-reads
-use Rattle.rates.proofs.ramp_of.Reads as ramp-of-reads
-use Rattle.trajectory.proofs.is_rising.Reads as is-rising-reads
-use Rattle.daylines.proofs.course_width.Reads as course-width-reads
 
 abbrev Inv-loop : tie.InvT-loop
-Inv-loop started u cs n l₀ width₀ i₀ l width i =
-    (i ≤ n) × Shared u l × (width + length (courses-left u cs started i) ≡ length (courses-left u cs started 0)) × (width ≤ 369367187370 * i)
+Inv-loop started end u cs n l₀ width₀ i₀ l width i =
+    (i ≤ n) × Shared u l × (width + length (courses-left u end cs started i) ≡ length (courses-left u end cs started 0)) × (width ≤ 369367187370 * i)
 
 abbrev μ-loop : tie.MeasureT-loop
-μ-loop started u cs n l₀ width₀ i₀ l width i = n - i
+μ-loop started end u cs n l₀ width₀ i₀ l width i = n - i
+
+-- the loop's body, and the function's start, of what is known where a course's lists are set
+abbrev in-loop : tie.After-ramp-of Inv-loop μ-loop → tie.In-loop Inv-loop μ-loop
+in-loop c = c .before .before .before .before .before .before .before .before .before
+
+abbrev start : tie.After-ramp-of Inv-loop μ-loop → tie.Start Inv-loop μ-loop
+start c = in-loop c .before .before .before .before .before
 
 -- the lines of the next course
 abbrev lines-of : (c : tie.After-ramp-of Inv-loop μ-loop) → List ℕ
 lines-of c =
-    let a = c .before .before .before .before .before .before .before .before .before .before .before .before .before .before .args in
-    let l = c .before .before .before .before .before .before .before .before .before .before .loop in
+    let a = start c .args in
+    let l = in-loop c .before .loop in
     let d : Course = getD (a .t2) (l .i) noCourse in
     linesLeft (setAnew (a .t1) (l .l) (c .before .before .before .before .place-of .result) (c .ramp-of .result)) d (c .before .before .before .before .before .is-rising .result) (c .before .before .before .before .before .before .end-of .result) (beginning d (d .begin))
 
 next : (c : tie.After-ramp-of Inv-loop μ-loop) →
-    let a = c .before .before .before .before .before .before .before .before .before .before .before .before .before .before .args in
-    let i = c .before .before .before .before .before .before .before .before .before .before .loop .i in
+    let a = start c .args in
+    let i = in-loop c .before .loop .i in
     let d : Course = getD (a .t2) i noCourse in
     Short (headed (c .before .before .before .before .before .is-rising .result)) (grains (d .target)) (d .start .grains)
-    × (courses-left (a .t1) (a .t2) (a .started) i ≡ lines-of c ++ courses-left (a .t1) (a .t2) (a .started) (i + 1))
+    × (courses-left (a .t1) (a .end) (a .t2) (a .started) i ≡ lines-of c ++ courses-left (a .t1) (a .end) (a .t2) (a .started) (i + 1))
 next c =
-    let s = c .before .before .before .before .before .before .before .before .before .before .before .before .before .before in
+    let s = start c in
     let a = s .args in
-    let l = c .before .before .before .before .before .before .before .before .before .before .loop in
-    course-next (a .t1) (a .t2) (a .started) (c .before .before .before .before .before .before .before .before .before .before .before .before .before .at-most .result) (l .i) (s .good .1 .0 .1 .0 .1) (c .before .before .before .before .before .before .before .before .before .before .before .before .before .at-most .ensures) (omega arith) (l .l) _ _ _ _ _ (l .inv .1)
-    (c .before .before .before .before .before .is-rising .ensures) (c .before .before .before .before .place-of .ensures .0) (c .ramp-of .ensures) (c .before .before .before .before .before .before .before .at-most2 .ensures) (c .before .before .before .before .before .before .end-of .ensures)
+    let l = in-loop c .before .loop in
+    course-next (a .t1) (a .end) (a .t2) (a .started) (in-loop c .before .before .before .before .smaller-count .result) (l .i) (s .good .1 .0 .1 .0 .1) (in-loop c .before .before .before .before .smaller-count .ensures) (omega arith) (l .l) _ _ _ _ _ (l .inv .1)
+    (c .before .before .before .before .before .is-rising .ensures) (c .before .before .before .before .place-of .ensures .0) (c .ramp-of .ensures) (c .before .before .before .before .before .before .before .smaller-count2 .ensures) (c .before .before .before .before .before .before .end-of .ensures)
 
-at-most-requires : tie.Need-at-most-requires Inv-loop μ-loop
-at-most-requires c κs = search needs
+smaller-count-requires : tie.Need-smaller-count-requires Inv-loop μ-loop
+smaller-count-requires c κs = search needs
 
 array-copy-out-first : tie.Need-array-copy-out-first Inv-loop μ-loop
 array-copy-out-first c = omega arith
@@ -74,8 +72,8 @@ array-copy-out-c c = omega arith
 add-i : tie.Need-add-i Inv-loop μ-loop
 add-i c = omega arith
 
-at-most-requires-2 : tie.Need-at-most-requires-2 Inv-loop μ-loop
-at-most-requires-2 c κs = search needs
+smaller-count-requires-2 : tie.Need-smaller-count-requires-2 Inv-loop μ-loop
+smaller-count-requires-2 c κs = search needs
 
 mul-end-of : tie.Need-mul-end-of Inv-loop μ-loop
 mul-end-of c = omega arith
@@ -105,19 +103,19 @@ course-width-requires : tie.Need-course-width-requires Inv-loop μ-loop
 course-width-requires c κs = next c .0
 
 add-width : tie.Need-add-width Inv-loop μ-loop
-add-width c = let l = c .before .before .before .before .before .before .before .before .before .before .before .loop in omega (arith, l .inv .0, l .inv .3, c .course-width .ensures .1, c .before .before .before .before .before .before .before .before .before .before .before .before .before .before .at-most .ensures)
+add-width c = let l = in-loop (c .before) .before .loop in omega (arith, l .inv .0, l .inv .3, c .course-width .ensures .1, in-loop (c .before) .before .before .before .before .smaller-count .ensures)
 
 loop-less : tie.Need-loop-less Inv-loop μ-loop
-loop-less c = omega (arith, c .before .before .before .before .before .before .before .before .before .before .loop-test)
+loop-less c = omega (arith, in-loop (c .before) .loop-test)
 
 loop-again : tie.Need-loop-again Inv-loop μ-loop
 loop-again c =
-    let a = c .before .before .before .before .before .before .before .before .before .before .before .before .before .before .before .args in
-    let l = c .before .before .before .before .before .before .before .before .before .before .before .loop in
+    let a = start (c .before) .args in
+    let l = in-loop (c .before) .before .loop in
     let w = c .course-width .ensures in
-    let left = courses-left (a .t1) (a .t2) (a .started) in
+    let left = courses-left (a .t1) (a .end) (a .t2) (a .started) in
     let r = left-shorter (left (l .i)) (lines-of (c .before)) (left (l .i + 1)) (next (c .before) .1) in (
-      omega (arith, c .before .before .before .before .before .before .before .before .before .before .loop-test),
+      omega (arith, in-loop (c .before) .loop-test),
       shared-anew (a .t1) (l .l) _ _ (l .inv .1),
       omega (arith, r, w .0, l .inv .2),
       omega (arith, w .1, l .inv .3),
@@ -128,8 +126,8 @@ returns c =
     let s = c .before .before .before .before .before in
     let a = s .args in
     let l = c .before .loop in (
-      omega (arith, l .inv .2, ap length (courses-none (a .t1) (a .t2) (a .started) (l .i) (omega (arith, s .good .1 .0 .1 .0 .1, c .before .before .before .before .at-most .ensures, c .loop-test)))),
-      omega (arith, l .inv .0, l .inv .3, c .before .before .before .before .at-most .ensures),
+      omega (arith, l .inv .2, ap length (courses-none (a .t1) (a .end) (a .t2) (a .started) (l .i) (omega (arith, s .good .1 .0 .1 .0 .1, c .before .before .before .before .smaller-count .ensures, c .loop-test)))),
+      omega (arith, l .inv .0, l .inv .3, c .before .before .before .before .smaller-count .ensures),
     )
 
 pub courses-width-spec : {M : Type 1} → statement M
@@ -138,14 +136,14 @@ courses-width-spec =
     (tie.spec
     Inv-loop
     μ-loop
-    at-most-requires
+    smaller-count-requires
     array-copy-out-first
     own-lists-requires
     loop-holds
     mul-c
     array-copy-out-c
     add-i
-    at-most-requires-2
+    smaller-count-requires-2
     mul-end-of
     element-copy-out-end-of
     end-of-requires

@@ -7,10 +7,6 @@ use Rattle.lines.specs.Lines.{fLine}
 use Rattle.daylines.proofs.Laws.{left-shorter, fates-left, fates-more, fates-none}
 use Rattle.daylines.proofs.fates_width.Statement.{statement}
 use Rattle.daylines.proofs.fates_width.Tie as tie
-use Rattle.daylines.proofs.fates_width.Reads as reads
-use Rattle.daylines.proofs.fates_width.Lts as lts
-use Rattle.widths.proofs.f_width.Reads as f-width-reads
-use Rattle.daylines.proofs.at_most.Reads as at-most-reads
 
 abbrev Inv-loop : tie.InvT-loop
 Inv-loop count fates n width₀ i₀ width i = (i ≤ n) × (width + length (fates-left fates count i) ≡ length (fates-left fates count 0)) × (width ≤ 44 * i)
@@ -18,8 +14,8 @@ Inv-loop count fates n width₀ i₀ width i = (i ≤ n) × (width + length (fat
 abbrev μ-loop : tie.MeasureT-loop
 μ-loop count fates n width₀ i₀ width i = n - i
 
-at-most-requires : tie.Need-at-most-requires Inv-loop μ-loop
-at-most-requires c κs = search needs
+smaller-count-requires : tie.Need-smaller-count-requires Inv-loop μ-loop
+smaller-count-requires c κs = search needs
 
 loop-holds : tie.Need-loop-holds Inv-loop μ-loop
 loop-holds c = (omega arith, omega arith, omega arith)
@@ -68,7 +64,7 @@ fates-width-spec =
     (tie.spec
     Inv-loop
     μ-loop
-    at-most-requires
+    smaller-count-requires
     loop-holds
     add-number
     array-read-fate

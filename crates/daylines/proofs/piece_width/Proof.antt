@@ -2,9 +2,6 @@ use Rattle.daylines.specs.Rest.{pieceLine}
 use borrow.Author.Needs.{needs}
 use Rattle.daylines.proofs.piece_width.Statement.{statement}
 use Rattle.daylines.proofs.piece_width.Tie as tie
-use Rattle.daylines.proofs.piece_width.Reads as reads
-use Rattle.daylines.proofs.piece_width.Lts as lts
-use Rattle.widths.proofs.s_width.Reads as s-width-reads
 
 cast-from : tie.Need-cast-from
 cast-from c = search needs

@@ -2,9 +2,6 @@ use Rattle.daylines.specs.Rest.{closingLine}
 use borrow.Author.Needs.{needs}
 use Rattle.daylines.proofs.put_closing.Statement.{statement}
 use Rattle.daylines.proofs.put_closing.Tie as tie
-use Rattle.daylines.proofs.put_closing.Reads as reads
-use Rattle.daylines.proofs.put_closing.Lts as lts
-use Rattle.lines.proofs.put_e.Reads as put-e-reads
 
 cast-put-e : tie.Need-cast-put-e
 cast-put-e c = search needs

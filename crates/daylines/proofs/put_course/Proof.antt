@@ -9,11 +9,6 @@ use Rattle.text.proofs.Laws.{part-length}
 use Rattle.daylines.proofs.Laws.{Laying, lay-none, lay-room, lay-next, lay-more, lay-all, Along, PieceOn, along-begins, piece-on, pieces-none}
 use Rattle.daylines.proofs.put_course.Statement.{statement}
 use Rattle.daylines.proofs.put_course.Tie as tie
-use Rattle.daylines.proofs.put_course.Reads as reads
-use Rattle.daylines.proofs.put_course.Lts as lts
-use Rattle.daylines.proofs.put_piece.Reads as put-piece-reads
-use Rattle.trajectory.proofs.begin_at.Reads as begin-at-reads
-use Rattle.trajectory.proofs.walk_on.Reads as walk-on-reads
 
 abbrev Inv-loop : tie.InvT-loop
 Inv-loop out₀ l c up n from₀ at₀ out from at =

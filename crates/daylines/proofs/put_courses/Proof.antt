@@ -7,7 +7,7 @@ use lib.ListN.{length, getD}
 use Rattle.level.specs.Level.{grains}
 use Rattle.course.specs.declared.Course.{Course}
 use Rattle.course.proofs.Near.{Short}
-use Rattle.day.specs.Day.{noCourse}
+use Rattle.profile.specs.Finding.{noCourse}
 use Rattle.rates.specs.Ways.{headed}
 use Rattle.trajectory.specs.Walk.{beginning}
 use Rattle.text.proofs.Laws.{part-length}
@@ -16,55 +16,53 @@ use Rattle.rates.proofs.Anew.{Shared, setAnew, shared-own, shared-anew}
 use Rattle.daylines.proofs.Laws.{Laying, lay-none, lay-room, lay-next, lay-more, lay-all, courses-left, courses-none, course-next}
 use Rattle.daylines.proofs.put_courses.Statement.{statement}
 use Rattle.daylines.proofs.put_courses.Tie as tie
-use Rattle.daylines.proofs.put_courses.Reads as reads
-use Rattle.daylines.proofs.put_courses.Lts as lts
-use Rattle.daylines.proofs.at_most.Reads as at-most-reads
-use Rattle.daylines.proofs.end_of.Reads as end-of-reads
-use Rattle.rates.proofs.own_lists.Reads as own-lists-reads
-use Rattle.rates.proofs.place_of.Reads as place-of-reads
-use Rattle.rates.proofs.ramp_of.Reads as ramp-of-reads
-use Rattle.trajectory.proofs.is_rising.Reads as is-rising-reads
-use Rattle.daylines.proofs.put_course.Reads as put-course-reads
 
 abbrev Inv-loop : tie.InvT-loop
-Inv-loop out₀ started u cs n l₀ at₀ i₀ out l at i = (i ≤ n) × Shared u l × Laying (courses-left u cs started 0) (courses-left u cs started i) out₀ out at
+Inv-loop out₀ started end u cs n l₀ at₀ i₀ out l at i = (i ≤ n) × Shared u l × Laying (courses-left u end cs started 0) (courses-left u end cs started i) out₀ out at
 
 abbrev μ-loop : tie.MeasureT-loop
-μ-loop out₀ started u cs n l₀ at₀ i₀ out l at i = n - i
+μ-loop out₀ started end u cs n l₀ at₀ i₀ out l at i = n - i
+
+-- the loop's body, and the function's start, of what is known where a course's lists are set
+abbrev in-loop : tie.After-ramp-of Inv-loop μ-loop → tie.In-loop Inv-loop μ-loop
+in-loop c = c .before .before .before .before .before .before .before .before .before
+
+abbrev start : tie.After-ramp-of Inv-loop μ-loop → tie.Start Inv-loop μ-loop
+start c = in-loop c .before .before .before .before .before .before
 
 -- the lines of the next course, and their room
 abbrev lines-of : (c : tie.After-ramp-of Inv-loop μ-loop) → List ℕ
 lines-of c =
-    let a = c .before .before .before .before .before .before .before .before .before .before .before .before .before .before .before .args in
-    let l = c .before .before .before .before .before .before .before .before .before .before .loop in
+    let a = start c .args in
+    let l = in-loop c .before .loop in
     let d : Course = getD (a .t3) (l .i) noCourse in
     linesLeft (setAnew (a .t2) (l .l) (c .before .before .before .before .place-of .result) (c .ramp-of .result)) d (c .before .before .before .before .before .is-rising .result) (c .before .before .before .before .before .before .end-of .result) (beginning d (d .begin))
 
 next : (c : tie.After-ramp-of Inv-loop μ-loop) →
-    let a = c .before .before .before .before .before .before .before .before .before .before .before .before .before .before .before .args in
-    let i = c .before .before .before .before .before .before .before .before .before .before .loop .i in
+    let a = start c .args in
+    let i = in-loop c .before .loop .i in
     let d : Course = getD (a .t3) i noCourse in
     Short (headed (c .before .before .before .before .before .is-rising .result)) (grains (d .target)) (d .start .grains)
-    × (courses-left (a .t2) (a .t3) (a .started) i ≡ lines-of c ++ courses-left (a .t2) (a .t3) (a .started) (i + 1))
+    × (courses-left (a .t2) (a .end) (a .t3) (a .started) i ≡ lines-of c ++ courses-left (a .t2) (a .end) (a .t3) (a .started) (i + 1))
 next c =
-    let s = c .before .before .before .before .before .before .before .before .before .before .before .before .before .before .before in
+    let s = start c in
     let a = s .args in
-    let l = c .before .before .before .before .before .before .before .before .before .before .loop in
-    course-next (a .t2) (a .t3) (a .started) (c .before .before .before .before .before .before .before .before .before .before .before .before .before .at-most .result) (l .i) (s .good .1 .1 .0 .1 .0 .1) (c .before .before .before .before .before .before .before .before .before .before .before .before .before .at-most .ensures) (omega arith) (l .l) _ _ _ _ _ (l .inv .1)
-    (c .before .before .before .before .before .is-rising .ensures) (c .before .before .before .before .place-of .ensures .0) (c .ramp-of .ensures) (c .before .before .before .before .before .before .before .at-most2 .ensures) (c .before .before .before .before .before .before .end-of .ensures)
+    let l = in-loop c .before .loop in
+    course-next (a .t2) (a .end) (a .t3) (a .started) (in-loop c .before .before .before .before .smaller-count .result) (l .i) (s .good .1 .1 .0 .1 .0 .1) (in-loop c .before .before .before .before .smaller-count .ensures) (omega arith) (l .l) _ _ _ _ _ (l .inv .1)
+    (c .before .before .before .before .before .is-rising .ensures) (c .before .before .before .before .place-of .ensures .0) (c .ramp-of .ensures) (c .before .before .before .before .before .before .before .smaller-count2 .ensures) (c .before .before .before .before .before .before .end-of .ensures)
 
 room : (c : tie.After-ramp-of Inv-loop μ-loop) →
-    let l = c .before .before .before .before .before .before .before .before .before .before .loop in
-    (l .at + length (lines-of c) ≤ length (l .out)) × (length (l .out) ≡ length (c .before .before .before .before .before .before .before .before .before .before .before .before .before .before .before .args .out .now))
+    let l = in-loop c .before .loop in
+    (l .at + length (lines-of c) ≤ length (l .out)) × (length (l .out) ≡ length (start c .args .out .now))
 room c =
-    let s = c .before .before .before .before .before .before .before .before .before .before .before .before .before .before .before in
+    let s = start c in
     let a = s .args in
-    let l = c .before .before .before .before .before .before .before .before .before .before .loop in
-    let left = courses-left (a .t2) (a .t3) (a .started) in
+    let l = in-loop c .before .loop in
+    let left = courses-left (a .t2) (a .end) (a .t3) (a .started) in
     lay-next (left 0) (left (l .i)) (lines-of c) (left (l .i + 1)) (a .out .now) (l .out) (l .at) (s .pre) (next c .1) (l .inv .2)
 
-at-most-requires : tie.Need-at-most-requires Inv-loop μ-loop
-at-most-requires c κs = search needs
+smaller-count-requires : tie.Need-smaller-count-requires Inv-loop μ-loop
+smaller-count-requires c κs = search needs
 
 array-copy-out-first : tie.Need-array-copy-out-first Inv-loop μ-loop
 array-copy-out-first c = omega arith
@@ -75,7 +73,7 @@ own-lists-requires c κs = search needs
 loop-holds : tie.Need-loop-holds Inv-loop μ-loop
 loop-holds c =
     let a = c .before .before .before .before .args in
-    (omega arith, shared-own (a .t2) (c .own-lists .result) _ _ (c .own-lists .ensures), lay-none (courses-left (a .t2) (a .t3) (a .started) 0) (a .out .now))
+    (omega arith, shared-own (a .t2) (c .own-lists .result) _ _ (c .own-lists .ensures), lay-none (courses-left (a .t2) (a .end) (a .t3) (a .started) 0) (a .out .now))
 
 mul-c : tie.Need-mul-c Inv-loop μ-loop
 mul-c c = omega arith
@@ -86,8 +84,8 @@ array-copy-out-c c = omega arith
 add-i : tie.Need-add-i Inv-loop μ-loop
 add-i c = omega arith
 
-at-most-requires-2 : tie.Need-at-most-requires-2 Inv-loop μ-loop
-at-most-requires-2 c κs = search needs
+smaller-count-requires-2 : tie.Need-smaller-count-requires-2 Inv-loop μ-loop
+smaller-count-requires-2 c κs = search needs
 
 mul-end-of : tie.Need-mul-end-of Inv-loop μ-loop
 mul-end-of c = omega arith
@@ -123,23 +121,23 @@ part-put-course-end : tie.Need-part-put-course-end Inv-loop μ-loop
 part-put-course-end c = search needs
 
 put-course-requires : tie.Need-put-course-requires Inv-loop μ-loop
-put-course-requires c κs = let l = c .before .before .before .before .before .before .before .before .before .before .before .loop in (next (c .before) .0, omega (arith, part-length (l .at) (l .out), room (c .before)))
+put-course-requires c κs = let l = in-loop (c .before) .before .loop in (next (c .before) .0, omega (arith, part-length (l .at) (l .out), room (c .before)))
 
 add-at : tie.Need-add-at Inv-loop μ-loop
 add-at c = omega (arith, room (c .before .before .before .before), c .before .before .put-course .ensures .0)
 
 loop-less : tie.Need-loop-less Inv-loop μ-loop
-loop-less c = omega (arith, c .before .before .before .before .before .before .before .before .before .before .before .before .before .loop-test)
+loop-less c = omega (arith, in-loop (c .before .before .before .before) .loop-test)
 
 loop-again : tie.Need-loop-again Inv-loop μ-loop
 loop-again c =
     let w = c .before .before .before .before in
-    let s = c .before .before .before .before .before .before .before .before .before .before .before .before .before .before .before .before .before .before .before in
+    let s = start w in
     let a = s .args in
-    let l = c .before .before .before .before .before .before .before .before .before .before .before .before .before .before .loop in
+    let l = in-loop w .before .loop in
     let p = c .before .before .put-course in
-    let left = courses-left (a .t2) (a .t3) (a .started) in (
-      omega (arith, c .before .before .before .before .before .before .before .before .before .before .before .before .before .loop-test),
+    let left = courses-left (a .t2) (a .end) (a .t3) (a .started) in (
+      omega (arith, in-loop w .loop-test),
       shared-anew (a .t2) (l .l) _ _ (l .inv .1),
       lay-more (left 0) (left (l .i)) (lines-of w) (left (l .i + 1)) (a .out .now) (l .out) (p .last .0) (l .at) (p .result) (s .pre) (next w .1) (l .inv .2) (p .ensures .0) (p .ensures .1),
     )
@@ -149,7 +147,7 @@ same-length c =
     let s = c .before .before .before .before .before .before in
     let a = s .args in
     let l = c .before .loop in
-    let left = courses-left (a .t2) (a .t3) (a .started) in
+    let left = courses-left (a .t2) (a .end) (a .t3) (a .started) in
     lay-room (left 0) (left (l .i)) (a .out .now) (l .out) (l .at) (s .pre) (l .inv .2) .1
 
 returns : tie.Need-returns Inv-loop μ-loop
@@ -157,8 +155,8 @@ returns c =
     let s = c .before .before .before .before .before .before in
     let a = s .args in
     let l = c .before .loop in
-    let left = courses-left (a .t2) (a .t3) (a .started) in
-    lay-all (left 0) (left (l .i)) (a .out .now) (l .out) (l .at) (courses-none (a .t2) (a .t3) (a .started) (l .i) (omega (arith, s .good .1 .1 .0 .1 .0 .1, c .before .before .before .before .at-most .ensures, c .loop-test))) (l .inv .2)
+    let left = courses-left (a .t2) (a .end) (a .t3) (a .started) in
+    lay-all (left 0) (left (l .i)) (a .out .now) (l .out) (l .at) (courses-none (a .t2) (a .end) (a .t3) (a .started) (l .i) (omega (arith, s .good .1 .1 .0 .1 .0 .1, c .before .before .before .before .smaller-count .ensures, c .loop-test))) (l .inv .2)
 
 pub put-courses-spec : {M : Type 1} → statement M
 put-courses-spec =
@@ -166,14 +164,14 @@ put-courses-spec =
     (tie.spec
     Inv-loop
     μ-loop
-    at-most-requires
+    smaller-count-requires
     array-copy-out-first
     own-lists-requires
     loop-holds
     mul-c
     array-copy-out-c
     add-i
-    at-most-requires-2
+    smaller-count-requires-2
     mul-end-of
     element-copy-out-end-of
     end-of-requires

@@ -9,10 +9,6 @@ use Rattle.text.proofs.Laws.{part-length}
 use Rattle.daylines.proofs.Laws.{Laying, lay-none, lay-room, lay-next, lay-more, lay-all, fates-left, fates-more, fates-none}
 use Rattle.daylines.proofs.put_fates.Statement.{statement}
 use Rattle.daylines.proofs.put_fates.Tie as tie
-use Rattle.daylines.proofs.put_fates.Reads as reads
-use Rattle.daylines.proofs.put_fates.Lts as lts
-use Rattle.lines.proofs.put_f.Reads as put-f-reads
-use Rattle.daylines.proofs.at_most.Reads as at-most-reads
 
 abbrev Inv-loop : tie.InvT-loop
 Inv-loop out₀ count fates n at₀ i₀ out at i = (i ≤ n) × Laying (fates-left fates count 0) (fates-left fates count i) out₀ out at
@@ -40,8 +36,8 @@ room c =
     let left = fates-left (a .t2) (a .count) in
     lay-next (left 0) (left (l .i)) (fLine (l .i + 1) (getD (a .t2) (l .i) 0)) (left (l .i + 1)) (a .out .now) (l .out) (l .at) (s .pre) (next c) (l .inv .1)
 
-at-most-requires : tie.Need-at-most-requires Inv-loop μ-loop
-at-most-requires c κs = search needs
+smaller-count-requires : tie.Need-smaller-count-requires Inv-loop μ-loop
+smaller-count-requires c κs = search needs
 
 loop-holds : tie.Need-loop-holds Inv-loop μ-loop
 loop-holds c = let a = c .before .before .args in (omega arith, lay-none (fates-left (a .t2) (a .count) 0) (a .out .now))
@@ -110,7 +106,7 @@ put-fates-spec =
     (tie.spec
     Inv-loop
     μ-loop
-    at-most-requires
+    smaller-count-requires
     loop-holds
     add-number
     array-read-fate

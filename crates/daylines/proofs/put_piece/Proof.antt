@@ -2,9 +2,6 @@ use Rattle.daylines.specs.Rest.{pieceLine}
 use borrow.Author.Needs.{needs}
 use Rattle.daylines.proofs.put_piece.Statement.{statement}
 use Rattle.daylines.proofs.put_piece.Tie as tie
-use Rattle.daylines.proofs.put_piece.Reads as reads
-use Rattle.daylines.proofs.put_piece.Lts as lts
-use Rattle.lines.proofs.put_s.Reads as put-s-reads
 
 cast-from : tie.Need-cast-from
 cast-from c = search needs

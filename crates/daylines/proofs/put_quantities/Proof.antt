@@ -7,37 +7,33 @@ use lib.ListN.{length}
 use Rattle.lines.specs.Lines.{qLine}
 use Rattle.text.specs.Text.{laid}
 use Rattle.text.proofs.Laws.{part-length}
-use Rattle.day.specs.Day.{quantityAt}
+use Rattle.profile.specs.Finding.{quantityAt}
 use Rattle.daylines.proofs.Laws.{Laying, lay-none, lay-room, lay-next, lay-more, lay-all, quantities-left, quantities-more, quantities-none, quantities-all, quantity-here}
 use Rattle.daylines.proofs.put_quantities.Statement.{statement}
 use Rattle.daylines.proofs.put_quantities.Tie as tie
-use Rattle.daylines.proofs.put_quantities.Reads as reads
-use Rattle.daylines.proofs.put_quantities.Lts as lts
-use Rattle.lines.proofs.put_q.Reads as put-q-reads
-use Rattle.daylines.proofs.twice_at.Reads as twice-at-reads
-use Rattle.summing.proofs.quantity_of.Reads as quantity-of-reads
-use Rattle.daylines.proofs.run_end.Reads as run-end-reads
 
 abbrev Inv-loop : tie.InvT-loop
-Inv-loop out₀ sums at₀ i₀ out at i = (i ≤ 48) × Laying (quantities-left (quantityAt sums) 0) (quantities-left (quantityAt sums) i) out₀ out at
+Inv-loop out₀ sums halves end at₀ i₀ out at i = (i ≤ halves) × Laying (quantities-left (quantityAt sums) halves 0) (quantities-left (quantityAt sums) halves i) out₀ out at
 
 abbrev μ-loop : tie.MeasureT-loop
-μ-loop out₀ sums at₀ i₀ out at i = 48 - i
+μ-loop out₀ sums halves end at₀ i₀ out at i = halves - i
 
 -- all of it has room
-fits : (c : tie.At-loop Inv-loop μ-loop) → let a = c .before .before .args in length (quantities-left (quantityAt (a .sums .now)) 0) ≤ length (a .out .now)
-fits c = let s = c .before .before in rw (quantities-all (quantityAt (s .args .sums .now))) (s .pre)
+fits : (c : tie.At-loop Inv-loop μ-loop) → let a = c .before .before .args in length (quantities-left (quantityAt (a .sums .now)) (a .halves) 0) ≤ length (a .out .now)
+fits c = let s = c .before .before in rw (quantities-all (quantityAt (s .args .sums .now)) (s .args .halves)) (s .pre .1)
 
 -- the next line, and its room
 next : (c : tie.After-run-end Inv-loop μ-loop) →
-    let left = quantities-left (quantityAt (c .before .before .before .before .before .before .args .sums .now)) in
+    let a = c .before .before .before .before .before .before .args in
+    let left = quantities-left (quantityAt (a .sums .now)) (a .halves) in
     let i = c .before .before .before .before .loop .i in
     left i ≡ qLine (i + 1) (c .run-end .result) (c .before .quantity-of .result) ++ left (c .run-end .result)
 next c =
-    let sums = c .before .before .before .before .before .before .args .sums .now in
+    let a = c .before .before .before .before .before .before .args in
+    let sums = a .sums .now in
     let i = c .before .before .before .before .loop .i in
     let kw = c .before .quantity-of in
-    quantities-more (quantityAt sums) i (kw .result) (c .run-end .result) (omega arith) (quantity-here sums i _ _ (c .before .before .twice-at .ensures) (kw .ensures)) (c .run-end .ensures .0)
+    quantities-more (quantityAt sums) (a .halves) i (kw .result) (c .run-end .result) (omega arith) (quantity-here sums i _ _ (c .before .before .twice-at .ensures) (kw .ensures)) (c .run-end .ensures .0)
 
 room : (c : tie.After-run-end Inv-loop μ-loop) →
     let l = c .before .before .before .before .loop in
@@ -45,12 +41,12 @@ room : (c : tie.After-run-end Inv-loop μ-loop) →
 room c =
     let a = c .before .before .before .before .before .before .args in
     let l = c .before .before .before .before .loop in
-    let left = quantities-left (quantityAt (a .sums .now)) in
+    let left = quantities-left (quantityAt (a .sums .now)) (a .halves) in
     let end = c .run-end .result in
     lay-next (left 0) (left (l .i)) (qLine (l .i + 1) end (c .before .quantity-of .result)) (left end) (a .out .now) (l .out) (l .at) (fits (c .before .before .before .before)) (next c) (l .inv .1)
 
 loop-holds : tie.Need-loop-holds Inv-loop μ-loop
-loop-holds c = let a = c .before .args in (omega arith, lay-none (quantities-left (quantityAt (a .sums .now)) 0) (a .out .now))
+loop-holds c = let a = c .before .args in (omega arith, lay-none (quantities-left (quantityAt (a .sums .now)) (a .halves) 0) (a .out .now))
 
 twice-at-requires : tie.Need-twice-at-requires Inv-loop μ-loop
 twice-at-requires c κs = omega arith
@@ -62,7 +58,7 @@ add-first : tie.Need-add-first Inv-loop μ-loop
 add-first c = omega arith
 
 run-end-requires : tie.Need-run-end-requires Inv-loop μ-loop
-run-end-requires c κs = (omega arith, c .quantity-of .ensures)
+run-end-requires c κs = (omega arith, omega arith, c .quantity-of .ensures)
 
 sub-put-q : tie.Need-sub-put-q Inv-loop μ-loop
 sub-put-q c = omega (arith, room c)
@@ -89,7 +85,7 @@ loop-again c =
     let l = c .before .before .before .before .before .before .before .before .loop in
     let p = c .before .before .put-q in
     let end = w .run-end .result in
-    let left = quantities-left (quantityAt (a .sums .now)) in (
+    let left = quantities-left (quantityAt (a .sums .now)) (a .halves) in (
       w .run-end .ensures .2,
       lay-more (left 0) (left (l .i)) (qLine (l .i + 1) end (c .before .before .before .before .before .quantity-of .result)) (left end) (a .out .now) (l .out) (p .last .0) (l .at) (p .result)
           (fits (c .before .before .before .before .before .before .before .before)) (next w) (l .inv .1) (p .ensures .0) (p .ensures .1),
@@ -99,7 +95,7 @@ same-length : tie.Need-same-length Inv-loop μ-loop
 same-length c =
     let a = c .before .before .before .args in
     let l = c .before .loop in
-    let left = quantities-left (quantityAt (a .sums .now)) in
+    let left = quantities-left (quantityAt (a .sums .now)) (a .halves) in
     lay-room (left 0) (left (l .i)) (a .out .now) (l .out) (l .at) (fits (c .before)) (l .inv .1) .1
 
 returns : tie.Need-returns Inv-loop μ-loop
@@ -107,8 +103,9 @@ returns c =
     let a = c .before .before .before .args in
     let l = c .before .loop in
     let f = quantityAt (a .sums .now) in
-    let r = lay-all (quantities-left f 0) (quantities-left f (l .i)) (a .out .now) (l .out) (l .at) (quantities-none f (l .i) (omega arith)) (l .inv .1) in
-    let all = quantities-all f in
+    let left = quantities-left f (a .halves) in
+    let r = lay-all (left 0) (left (l .i)) (a .out .now) (l .out) (l .at) (quantities-none f (a .halves) (l .i) (omega arith)) (l .inv .1) in
+    let all = quantities-all f (a .halves) in
     (r .0 ∙ ap length all, r .1 ∙ ap (λ (d : List ℕ). laid d (a .out .now)) all)
 
 pub put-quantities-spec : {M : Type 1} → statement M

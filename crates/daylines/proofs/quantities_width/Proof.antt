@@ -4,22 +4,17 @@ use native.Mathlib.Omega.{arith}
 use borrow.Author.Needs.{needs}
 use lib.ListN.{length}
 use Rattle.lines.specs.Lines.{qLine}
-use Rattle.day.specs.Day.{quantityAt}
+use Rattle.profile.specs.Finding.{quantityAt}
 use Rattle.daylines.proofs.Laws.{left-shorter, quantities-left, quantities-more, quantities-none, quantities-all, quantity-here}
 use Rattle.daylines.proofs.quantities_width.Statement.{statement}
 use Rattle.daylines.proofs.quantities_width.Tie as tie
-use Rattle.daylines.proofs.quantities_width.Reads as reads
-use Rattle.daylines.proofs.quantities_width.Lts as lts
-use Rattle.widths.proofs.q_width.Reads as q-width-reads
-use Rattle.daylines.proofs.twice_at.Reads as twice-at-reads
-use Rattle.summing.proofs.quantity_of.Reads as quantity-of-reads
-use Rattle.daylines.proofs.run_end.Reads as run-end-reads
 
 abbrev Inv-loop : tie.InvT-loop
-Inv-loop sums width₀ i₀ width i = (i ≤ 48) × (width + length (quantities-left (quantityAt sums) i) ≡ length (quantities-left (quantityAt sums) 0)) × (width ≤ 65 * i)
+Inv-loop sums halves end width₀ i₀ width i =
+    (i ≤ halves) × (width + length (quantities-left (quantityAt sums) halves i) ≡ length (quantities-left (quantityAt sums) halves 0)) × (width ≤ 65 * i)
 
 abbrev μ-loop : tie.MeasureT-loop
-μ-loop sums width₀ i₀ width i = 48 - i
+μ-loop sums halves end width₀ i₀ width i = halves - i
 
 loop-holds : tie.Need-loop-holds Inv-loop μ-loop
 loop-holds c = (omega arith, omega arith, omega arith)
@@ -34,7 +29,7 @@ add-first : tie.Need-add-first Inv-loop μ-loop
 add-first c = omega arith
 
 run-end-requires : tie.Need-run-end-requires Inv-loop μ-loop
-run-end-requires c κs = (omega arith, c .quantity-of .ensures)
+run-end-requires c κs = (omega arith, omega arith, c .quantity-of .ensures)
 
 q-width-requires : tie.Need-q-width-requires Inv-loop μ-loop
 q-width-requires c κs = search needs
@@ -47,20 +42,23 @@ loop-less c = omega arith
 
 loop-again : tie.Need-loop-again Inv-loop μ-loop
 loop-again c =
-    let sums = c .before .before .before .before .before .before .args .sums .now in
+    let a = c .before .before .before .before .before .before .args in
+    let sums = a .sums .now in
     let l = c .before .before .before .before .before .loop in
     let kw = c .before .before .quantity-of in
     let end = c .before .run-end in
-    let left = quantities-left (quantityAt sums) in
-    let e = quantities-more (quantityAt sums) (l .i) (kw .result) (end .result) (omega arith) (quantity-here sums (l .i) _ _ (c .before .before .before .twice-at .ensures) (kw .ensures)) (end .ensures .0) in
+    let left = quantities-left (quantityAt sums) (a .halves) in
+    let e = quantities-more (quantityAt sums) (a .halves) (l .i) (kw .result) (end .result) (omega arith) (quantity-here sums (l .i) _ _ (c .before .before .before .twice-at .ensures) (kw .ensures)) (end .ensures .0) in
     let r = left-shorter (left (l .i)) (qLine (l .i + 1) (end .result) (kw .result)) (left (end .result)) e in
     (end .ensures .2, omega (arith, r, c .q-width .ensures .0, l .inv .1), omega (arith, end .ensures .1, c .q-width .ensures .1, l .inv .2))
 
 returns : tie.Need-returns Inv-loop μ-loop
 returns c =
     let l = c .before .loop in
-    let f = quantityAt (c .before .before .args .sums .now) in
-    (omega (arith, l .inv .1, ap length (quantities-none f (l .i) (omega arith)), ap length (quantities-all f)), omega (arith, l .inv .2, l .inv .0))
+    let s = c .before .before in
+    let f = quantityAt (s .args .sums .now) in
+    let n = s .args .halves in
+    (omega (arith, l .inv .1, ap length (quantities-none f n (l .i) (omega arith)), ap length (quantities-all f n)), omega (arith, l .inv .2, l .inv .0, s .pre))
 
 pub quantities-width-spec : {M : Type 1} → statement M
 quantities-width-spec =

@@ -3,22 +3,18 @@ use mathlib.Core.Path.{_≡_, refl, sym, ap, _∙_}
 use native.Mathlib.Omega.{arith}
 use borrow.Author.Needs.{needs}
 use Rattle.profile.specs.Profile.{rounded}
-use Rattle.day.specs.Day.{quantityAt}
+use Rattle.profile.specs.Finding.{quantityAt}
 use Rattle.daylines.specs.Rest.{runEnd}
 use Rattle.summing.proofs.Above.{quantity-is}
 use Rattle.daylines.proofs.Laws.{quantity-here, run-on, run-ends, end-none}
 use Rattle.daylines.proofs.run_end.Statement.{statement}
 use Rattle.daylines.proofs.run_end.Tie as tie
-use Rattle.daylines.proofs.run_end.Reads as reads
-use Rattle.daylines.proofs.run_end.Lts as lts
-use Rattle.daylines.proofs.twice_at.Reads as twice-at-reads
-use Rattle.summing.proofs.quantity_of.Reads as quantity-of-reads
 
 abbrev Inv-loop : tie.InvT-loop
-Inv-loop sums twice kw from i₀ i = (from ≤ i) × (i ≤ 48) × (runEnd (quantityAt sums) kw i (48 - i) ≡ runEnd (quantityAt sums) kw from (48 - from))
+Inv-loop sums twice kw from end i₀ i = (from ≤ i) × (i ≤ end) × (runEnd (quantityAt sums) kw i (end - i) ≡ runEnd (quantityAt sums) kw from (end - from))
 
 abbrev μ-loop : tie.MeasureT-loop
-μ-loop sums twice kw from i₀ i = 48 - i
+μ-loop sums twice kw from end i₀ i = end - i
 
 loop-holds : tie.Need-loop-holds Inv-loop μ-loop
 loop-holds c = (omega arith, c .pre .0, refl)
@@ -36,8 +32,8 @@ loop-again : tie.Need-loop-again Inv-loop μ-loop
 loop-again c =
     let s = c .before .before .before .before in
     let l = c .before .before .before .loop in
-    let same = sym (quantity-is (s .args .sums .now) (l .i)) ∙ ap rounded (sym (c .before .twice-at .ensures) ∙ c .if1 .taken) ∙ sym (s .pre .1) in
-    (omega arith, omega arith, run-on (s .args .sums .now) (l .i) (s .args .kw) (omega arith) same ∙ l .inv .2)
+    let same = sym (quantity-is (s .args .sums .now) (l .i)) ∙ ap rounded (sym (c .before .twice-at .ensures) ∙ c .if1 .taken) ∙ sym (s .pre .2) in
+    (omega arith, omega arith, run-on (s .args .sums .now) (l .i) (s .args .end) (s .args .kw) (omega arith) same ∙ l .inv .2)
 
 quantity-of-requires : tie.Need-quantity-of-requires Inv-loop μ-loop
 quantity-of-requires c κs = search needs
@@ -47,7 +43,7 @@ returns c =
     let s = c .before .before .before .before .before .before in
     let l = c .before .before .before .before .before .loop in
     let q = quantity-here (s .args .sums .now) (l .i) (c .before .before .before .twice-at .result) (c .before .quantity-of .result) (c .before .before .before .twice-at .ensures) (c .before .quantity-of .ensures) in
-    (run-ends (s .args .sums .now) (l .i) (s .args .kw) (omega arith) (λ e. omega (arith, q)) ∙ l .inv .2, l .inv .0, l .inv .1)
+    (run-ends (s .args .sums .now) (l .i) (s .args .end) (s .args .kw) (omega arith) (λ e. omega (arith, q)) ∙ l .inv .2, l .inv .0, l .inv .1)
 
 loop-less-2 : tie.Need-loop-less-2 Inv-loop μ-loop
 loop-less-2 c = omega arith
@@ -57,13 +53,13 @@ loop-again-2 c =
     let s = c .before .before .before .before .before .before in
     let l = c .before .before .before .before .before .loop in
     let q = quantity-here (s .args .sums .now) (l .i) (c .before .before .before .twice-at .result) (c .before .quantity-of .result) (c .before .before .before .twice-at .ensures) (c .before .quantity-of .ensures) in
-    (omega arith, omega arith, run-on (s .args .sums .now) (l .i) (s .args .kw) (omega arith) (omega (arith, q)) ∙ l .inv .2)
+    (omega arith, omega arith, run-on (s .args .sums .now) (l .i) (s .args .end) (s .args .kw) (omega arith) (omega (arith, q)) ∙ l .inv .2)
 
 returns-2 : tie.Need-returns-2 Inv-loop μ-loop
 returns-2 c =
     let s = c .before .before in
     let l = c .before .loop in
-    (sym (end-none (quantityAt (s .args .sums .now)) (s .args .kw) (l .i) (48 - l .i) (omega arith)) ∙ l .inv .2, l .inv .0, l .inv .1)
+    (sym (end-none (quantityAt (s .args .sums .now)) (s .args .kw) (l .i) (s .args .end - l .i) (omega arith)) ∙ l .inv .2, l .inv .0, l .inv .1)
 
 pub run-end-spec : {M : Type 1} → statement M
 run-end-spec =

@@ -3,8 +3,6 @@ use native.Mathlib.Omega.{arith}
 use Rattle.validation.specs.Kept.{acting}
 use Rattle.effects.proofs.acting_second.Statement.{statement}
 use Rattle.effects.proofs.acting_second.Tie as tie
-use Rattle.effects.proofs.acting_second.Reads as reads
-use Rattle.effects.proofs.acting_second.Lts as lts
 
 add-result : tie.Need-add-result
 unfolding acting

@@ -4,11 +4,6 @@ use Rattle.profile.specs.Effects.{courseFrom}
 use borrow.Author.Needs.{needs}
 use Rattle.effects.proofs.course_from.Statement.{statement}
 use Rattle.effects.proofs.course_from.Tie as tie
-use Rattle.effects.proofs.course_from.Reads as reads
-use Rattle.effects.proofs.course_from.Lts as lts
-use Rattle.effects.proofs.step_up.Reads as step-up-reads
-use Rattle.level.proofs.Level.from_kw.Reads as from-kw-reads
-use Rattle.rates.proofs.column_for.Reads as column-for-reads
 
 column-for-requires : tie.Need-column-for-requires
 column-for-requires c κs = search needs

@@ -3,8 +3,6 @@ use Rattle.effects.proofs.Laws.{heat-hot, heat-warm, heat-cold}
 use borrow.Author.Needs.{needs}
 use Rattle.effects.proofs.heat_by.Statement.{statement}
 use Rattle.effects.proofs.heat_by.Tie as tie
-use Rattle.effects.proofs.heat_by.Reads as reads
-use Rattle.effects.proofs.heat_by.Lts as lts
 
 cast-hot : tie.Need-cast-hot
 cast-hot c = search needs

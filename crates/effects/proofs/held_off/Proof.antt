@@ -3,8 +3,6 @@ use Rattle.effects.proofs.Laws.{held-low, held-high}
 use borrow.Author.Needs.{needs}
 use Rattle.effects.proofs.held_off.Statement.{statement}
 use Rattle.effects.proofs.held_off.Tie as tie
-use Rattle.effects.proofs.held_off.Reads as reads
-use Rattle.effects.proofs.held_off.Lts as lts
 
 add-sum : tie.Need-add-sum
 add-sum c = search needs

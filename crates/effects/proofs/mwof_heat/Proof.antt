@@ -1,8 +1,6 @@
 use borrow.Author.Tests.{eq-eqb, ne-eqb}
 use Rattle.effects.proofs.mwof_heat.Statement.{statement}
 use Rattle.effects.proofs.mwof_heat.Tie as tie
-use Rattle.effects.proofs.mwof_heat.Reads as reads
-use Rattle.effects.proofs.mwof_heat.Lts as lts
 
 returns : tie.Need-returns
 returns c = simp (eq-eqb _ _ (c .if1 .taken))

@@ -4,9 +4,6 @@ use Rattle.effects.proofs.Laws.{between-from, between-to, between-off}
 use borrow.Author.Needs.{needs}
 use Rattle.effects.proofs.off_between.Statement.{statement}
 use Rattle.effects.proofs.off_between.Tie as tie
-use Rattle.effects.proofs.off_between.Reads as reads
-use Rattle.effects.proofs.off_between.Lts as lts
-use Rattle.effects.proofs.held_off.Reads as held-off-reads
 
 returns : tie.Need-returns
 returns c = between-from _ _ _ (c .if1 .taken)

@@ -3,9 +3,6 @@ use Rattle.effects.proofs.Laws.{starting-off, starting-on}
 use borrow.Author.Needs.{needs}
 use Rattle.effects.proofs.off_starting.Statement.{statement}
 use Rattle.effects.proofs.off_starting.Tie as tie
-use Rattle.effects.proofs.off_starting.Reads as reads
-use Rattle.effects.proofs.off_starting.Lts as lts
-use Rattle.effects.proofs.held_off.Reads as held-off-reads
 
 held-off-requires : tie.Need-held-off-requires
 held-off-requires c κs = search needs

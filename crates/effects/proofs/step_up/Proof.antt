@@ -2,8 +2,6 @@ use native.Mathlib.Omega.{arith}
 use Rattle.effects.proofs.Laws.{step-stays, step-no-target, step-block, step-target}
 use Rattle.effects.proofs.step_up.Statement.{statement}
 use Rattle.effects.proofs.step_up.Tie as tie
-use Rattle.effects.proofs.step_up.Reads as reads
-use Rattle.effects.proofs.step_up.Lts as lts
 
 returns : tie.Need-returns
 returns c = step-stays _ _ _ (c .if1 .taken)

@@ -2,9 +2,6 @@ use Rattle.profile.specs.Effects.{underWay}
 use borrow.Author.Needs.{needs}
 use Rattle.effects.proofs.under_way.Statement.{statement}
 use Rattle.effects.proofs.under_way.Tie as tie
-use Rattle.effects.proofs.under_way.Reads as reads
-use Rattle.effects.proofs.under_way.Lts as lts
-use Rattle.effects.proofs.course_from.Reads as course-from-reads
 
 course-from-requires : tie.Need-course-from-requires
 course-from-requires c κs = search needs

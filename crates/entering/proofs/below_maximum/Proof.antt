@@ -2,10 +2,6 @@ use Rattle.entering.proofs.Laws.{opening-high, opening-low}
 use borrow.Author.Needs.{needs}
 use Rattle.entering.proofs.below_maximum.Statement.{statement}
 use Rattle.entering.proofs.below_maximum.Tie as tie
-use Rattle.entering.proofs.below_maximum.Reads as reads
-use Rattle.entering.proofs.below_maximum.Lts as lts
-use Rattle.entering.proofs.too_high.Reads as too-high-reads
-use Rattle.records.proofs.is_accepted.Reads as is-accepted-reads
 
 is-accepted-requires : tie.Need-is-accepted-requires
 is-accepted-requires c κs = search needs

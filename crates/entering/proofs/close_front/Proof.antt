@@ -1,8 +1,6 @@
 use Rattle.entering.specs.Fronts.{closeFront}
 use Rattle.entering.proofs.close_front.Statement.{statement}
 use Rattle.entering.proofs.close_front.Tie as tie
-use Rattle.entering.proofs.close_front.Reads as reads
-use Rattle.entering.proofs.close_front.Lts as lts
 
 returns : tie.Need-returns
 unfolding closeFront

@@ -4,10 +4,6 @@ use Rattle.entering.specs.Fronts.{instructionFront}
 use borrow.Author.Needs.{needs}
 use Rattle.entering.proofs.instruction_front.Statement.{statement}
 use Rattle.entering.proofs.instruction_front.Tie as tie
-use Rattle.entering.proofs.instruction_front.Reads as reads
-use Rattle.entering.proofs.instruction_front.Lts as lts
-use Rattle.entering.proofs.refuse_instruction.Reads as refuse-instruction-reads
-use Rattle.fields.proofs.read_instruction.Reads as read-instruction-reads
 
 refuse-instruction-requires : tie.Need-refuse-instruction-requires
 refuse-instruction-requires c κs = search needs

@@ -4,11 +4,6 @@ use Rattle.entering.specs.Fronts.{belowMaximum, openingFront}
 use borrow.Author.Needs.{needs}
 use Rattle.entering.proofs.opening_front.Statement.{statement}
 use Rattle.entering.proofs.opening_front.Tie as tie
-use Rattle.entering.proofs.opening_front.Reads as reads
-use Rattle.entering.proofs.opening_front.Lts as lts
-use Rattle.entering.proofs.below_maximum.Reads as below-maximum-reads
-use Rattle.entering.proofs.refuse_opening.Reads as refuse-opening-reads
-use Rattle.fields.proofs.read_opening.Reads as read-opening-reads
 
 refuse-opening-requires : tie.Need-refuse-opening-requires
 refuse-opening-requires c κs = search needs

@@ -1,9 +1,6 @@
 use borrow.Author.Needs.{needs}
 use Rattle.entering.proofs.refuse_instruction.Statement.{statement}
 use Rattle.entering.proofs.refuse_instruction.Tie as tie
-use Rattle.entering.proofs.refuse_instruction.Reads as reads
-use Rattle.entering.proofs.refuse_instruction.Lts as lts
-use Rattle.records.proofs.no_instruction.Reads as no-instruction-reads
 
 no-instruction-requires : tie.Need-no-instruction-requires
 no-instruction-requires c κs = search needs

@@ -3,9 +3,6 @@ use Rattle.day.specs.Step.{tooHigh}
 use borrow.Author.Needs.{needs}
 use Rattle.entering.proofs.too_high.Statement.{statement}
 use Rattle.entering.proofs.too_high.Tie as tie
-use Rattle.entering.proofs.too_high.Reads as reads
-use Rattle.entering.proofs.too_high.Lts as lts
-use Rattle.level.proofs.Level.from_kw.Reads as from-kw-reads
 
 from-kw-requires : tie.Need-from-kw-requires
 from-kw-requires c κs = search needs

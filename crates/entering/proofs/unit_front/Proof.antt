@@ -4,10 +4,6 @@ use Rattle.entering.specs.Fronts.{unitFront}
 use borrow.Author.Needs.{needs}
 use Rattle.entering.proofs.unit_front.Statement.{statement}
 use Rattle.entering.proofs.unit_front.Tie as tie
-use Rattle.entering.proofs.unit_front.Reads as reads
-use Rattle.entering.proofs.unit_front.Lts as lts
-use Rattle.entering.proofs.refuse_unit.Reads as refuse-unit-reads
-use Rattle.units.proofs.read_unit.Reads as read-unit-reads
 
 refuse-unit-requires : tie.Need-refuse-unit-requires
 refuse-unit-requires c κs = search needs

@@ -1,13 +1,19 @@
+use mathlib.Core.Path.{sym, _∙_}
+use borrow.Author.Needs.{needs}
+use Rattle.records.specs.Fields.{figuresFit}
 use Rattle.fields.proofs.figures_fit.Statement.{statement}
 use Rattle.fields.proofs.figures_fit.Tie as tie
-use Rattle.fields.proofs.figures_fit.Reads as reads
-use Rattle.fields.proofs.figures_fit.Lts as lts
+
+same-code-requires : tie.Need-same-code-requires
+same-code-requires c κs = search needs
 
 returns : tie.Need-returns
-returns c = rw (c .before .before .before .if1 .taken)
+unfolding figuresFit
+returns c = rw (sym (c .before .before .before .before .same-code .ensures) ∙ c .before .before .before .if1 .taken)
 
 returns-2 : tie.Need-returns-2
-returns-2 c = rw (c .before .before .before .if1 .left)
+unfolding figuresFit
+returns-2 c = rw (sym (c .before .before .before .before .same-code .ensures) ∙ c .before .before .before .if1 .left)
 
 pub figures-fit-spec : {M : Type 1} → statement M
-figures-fit-spec = tie.close (tie.spec returns returns-2)
+figures-fit-spec = tie.close (tie.spec same-code-requires returns returns-2)

@@ -1,34 +1,31 @@
 use native.Mathlib.Omega.{arith}
 use Rattle.fields.proofs.Laws.{effective-late, issue-out, figures-out, instruction-taken}
-use Rattle.fields.specs.Decoded.{answerFor}
+use Rattle.fields.specs.Decoded.{instructionAnswerFor}
 use borrow.Author.Needs.{needs}
 use Rattle.fields.proofs.instruction_answer.Statement.{statement}
 use Rattle.fields.proofs.instruction_answer.Tie as tie
-use Rattle.fields.proofs.instruction_answer.Reads as reads
-use Rattle.fields.proofs.instruction_answer.Lts as lts
-use Rattle.fields.proofs.figures_fit.Reads as figures-fit-reads
 
 returns : tie.Need-returns
-unfolding answerFor
+unfolding instructionAnswerFor
 returns c = rw (c .if1 .taken)
 
 returns-2 : tie.Need-returns-2
-returns-2 c = effective-late _ _ _ _ (c .before .before .if1 .left) (omega arith)
+returns-2 c = effective-late _ _ _ (c .before .before .if1 .left) (omega arith)
 
 mul-if3 : tie.Need-mul-if3
 mul-if3 c = search needs
 
 returns-3 : tie.Need-returns-3
-returns-3 c = issue-out _ _ _ _ (c .before .before .before .before .if1 .left) (omega arith) (omega arith)
+returns-3 c = issue-out _ _ _ (c .before .before .before .before .if1 .left) (omega arith) (omega arith)
 
 figures-fit-requires : tie.Need-figures-fit-requires
 figures-fit-requires c κs = search needs
 
 returns-4 : tie.Need-returns-4
-returns-4 c = instruction-taken _ _ _ _ (c .before .before .before .before .before .before .if1 .left) (omega arith) (omega arith) _ (c .before .figures-fit .ensures) (c .if4 .taken)
+returns-4 c = instruction-taken _ _ _ (c .before .before .before .before .before .before .if1 .left) (omega arith) (omega arith) _ (c .before .figures-fit .ensures) (c .if4 .taken)
 
 returns-5 : tie.Need-returns-5
-returns-5 c = figures-out _ _ _ _ (c .before .before .before .before .before .before .if1 .left) (omega arith) (omega arith) _ (c .before .figures-fit .ensures) (c .if4 .left)
+returns-5 c = figures-out _ _ _ (c .before .before .before .before .before .before .if1 .left) (omega arith) (omega arith) _ (c .before .figures-fit .ensures) (c .if4 .left)
 
 pub instruction-answer-spec : {M : Type 1} → statement M
 instruction-answer-spec =

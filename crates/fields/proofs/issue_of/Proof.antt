@@ -3,8 +3,6 @@ use borrow.Author.Needs.{needs}
 use Rattle.records.specs.Records.{issueOf}
 use Rattle.fields.proofs.issue_of.Statement.{statement}
 use Rattle.fields.proofs.issue_of.Tie as tie
-use Rattle.fields.proofs.issue_of.Reads as reads
-use Rattle.fields.proofs.issue_of.Lts as lts
 
 cast-sum : tie.Need-cast-sum
 cast-sum c = search needs

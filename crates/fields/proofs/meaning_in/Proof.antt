@@ -1,8 +1,6 @@
 use borrow.Author.Needs.{needs}
 use Rattle.fields.proofs.meaning_in.Statement.{statement}
 use Rattle.fields.proofs.meaning_in.Tie as tie
-use Rattle.fields.proofs.meaning_in.Reads as reads
-use Rattle.fields.proofs.meaning_in.Lts as lts
 
 enum-known-coded : tie.Need-enum-known-coded
 enum-known-coded c = search needs

@@ -2,8 +2,6 @@ use Rattle.records.specs.Fields.{openingFits}
 use borrow.Author.Needs.{needs}
 use Rattle.fields.proofs.opening_answer.Statement.{statement}
 use Rattle.fields.proofs.opening_answer.Tie as tie
-use Rattle.fields.proofs.opening_answer.Reads as reads
-use Rattle.fields.proofs.opening_answer.Lts as lts
 
 cast-wide : tie.Need-cast-wide
 cast-wide c = search needs

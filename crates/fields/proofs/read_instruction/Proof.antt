@@ -6,15 +6,6 @@ use Rattle.fields.proofs.Laws.{read-is}
 use borrow.Author.Needs.{needs}
 use Rattle.fields.proofs.read_instruction.Statement.{statement}
 use Rattle.fields.proofs.read_instruction.Tie as tie
-use Rattle.fields.proofs.read_instruction.Reads as reads
-use Rattle.fields.proofs.read_instruction.Lts as lts
-use Rattle.fields.proofs.instruction_answer.Reads as instruction-answer-reads
-use Rattle.fields.proofs.is_unknown.Reads as is-unknown-reads
-use Rattle.fields.proofs.issue_of.Reads as issue-of-reads
-use Rattle.fields.proofs.meaning_in.Reads as meaning-in-reads
-use Rattle.records.proofs.byte.Reads as byte-reads
-use Rattle.records.proofs.decode.Reads as decode-reads
-use Rattle.records.proofs.number.Reads as number-reads
 
 byte-requires : tie.Need-byte-requires
 byte-requires c κs = search needs
@@ -64,7 +55,7 @@ returns c =
     let up : c .before .before .number4 .result ≡ numberAt body 13 = c .before .before .number4 .ensures in
     let down : c .before .number5 .result ≡ numberAt body 17 = c .before .number5 .ensures in
     let unknown : issued .before .before .before .is-unknown .result ≡ isUnknown (meaningOf (getD body 8 0)) = issued .before .before .before .is-unknown .ensures ∙ ap isUnknown coded in
-    read-is _ body _ _ _ _ code unknown (λ i. record { effective = effective i; issue = issue i; meaning = meaning i; level = level i; up = up i; down = down i }) (c .instruction-answer .ensures)
+    read-is _ body _ _ _ unknown (λ i. record { effective = effective i; issue = issue i; meaning = meaning i; level = level i; up = up i; down = down i }) (c .instruction-answer .ensures)
 
 pub read-instruction-spec : {M : Type 1} → statement M
 read-instruction-spec =

@@ -8,10 +8,6 @@ use Rattle.records.specs.Fields.{openingFits, openingAnswer}
 use borrow.Author.Needs.{needs}
 use Rattle.fields.proofs.read_opening.Statement.{statement}
 use Rattle.fields.proofs.read_opening.Tie as tie
-use Rattle.fields.proofs.read_opening.Reads as reads
-use Rattle.fields.proofs.read_opening.Lts as lts
-use Rattle.fields.proofs.opening_answer.Reads as opening-answer-reads
-use Rattle.records.proofs.number.Reads as number-reads
 
 number-requires : tie.Need-number-requires
 number-requires c κs = search needs

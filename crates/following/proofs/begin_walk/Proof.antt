@@ -4,9 +4,6 @@ use Rattle.level.specs.Lists.{filled}
 use borrow.Author.Needs.{needs}
 use Rattle.following.proofs.begin_walk.Statement.{statement}
 use Rattle.following.proofs.begin_walk.Tie as tie
-use Rattle.following.proofs.begin_walk.Reads as reads
-use Rattle.following.proofs.begin_walk.Lts as lts
-use Rattle.day.proofs.no_course.Reads as no-course-reads
 
 no-course-requires : tie.Need-no-course-requires
 no-course-requires c κs = search needs

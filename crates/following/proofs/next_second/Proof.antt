@@ -1,9 +1,6 @@
 use borrow.Author.Needs.{needs}
 use Rattle.following.proofs.next_second.Statement.{statement}
 use Rattle.following.proofs.next_second.Tie as tie
-use Rattle.following.proofs.next_second.Reads as reads
-use Rattle.following.proofs.next_second.Lts as lts
-use Rattle.effects.proofs.acting_second.Reads as acting-second-reads
 
 acting-second-requires : tie.Need-acting-second-requires
 acting-second-requires c κs = c .before .pre (c .if1 .taken)

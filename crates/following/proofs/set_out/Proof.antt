@@ -3,10 +3,6 @@ use Rattle.following.specs.Following.{setOut}
 use borrow.Author.Needs.{needs}
 use Rattle.following.proofs.set_out.Statement.{statement}
 use Rattle.following.proofs.set_out.Tie as tie
-use Rattle.following.proofs.set_out.Reads as reads
-use Rattle.following.proofs.set_out.Lts as lts
-use Rattle.effects.proofs.off_starting.Reads as off-starting-reads
-use Rattle.trajectory.proofs.begin_at.Reads as begin-at-reads
 
 begin-at-requires : tie.Need-begin-at-requires
 begin-at-requires c κs = search needs

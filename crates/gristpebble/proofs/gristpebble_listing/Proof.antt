@@ -1,6 +1,5 @@
 use Prim.Native.Nat.{ℕ, _-_, _≤_, _<_}
 use mathlib.Core.Path.{_≡_, refl, ap, sym, _∙_, subst}
-use mathlib.Core.Bool.{false}
 use mathlib.Core.List.{List}
 use native.Mathlib.Omega.{arith}
 use lib.ListN.{length, getD, take, drop}
@@ -8,39 +7,41 @@ use borrow.Author.Needs.{needs}
 use Rattle.records.specs.declared.Answer.the-variants.{Refused}
 use Rattle.records.specs.declared.Refusal.the-variants.{TooFewBytes}
 use Rattle.profile.specs.Profile.{paper}
-use Rattle.day.specs.Day.{empty, foundIn, withUnit, withOpening, withInstruction}
+use Rattle.level.specs.Numbers.{instructionPlaces}
+use Rattle.records.specs.Records.{unitSize, openingSize, instructionSize, numbers, unitOf, openingOf, instructionOf}
+use Rattle.profile.specs.declared.Taken.{Taken}
+use Rattle.profile.specs.Taken.{takenWith}
+use Rattle.day.specs.declared.Day.{Day}
+use Rattle.day.specs.Day.{empty, foundIn, dayWith}
 use Rattle.contract.specs.Program.{ranBy}
-use Rattle.entering.proofs.Laws.{is-refused, is-taken, instruction-room}
-use Rattle.running.specs.Ended.{endedBy}
-use Rattle.running.proofs.Runs.{from, stops, fits, goes-on, by-unit, by-opening, by-instruction, by-other, run-first, run-none}
+use Rattle.day.proofs.Answers.{is-refused, is-taken}
+use Rattle.entering.specs.Fronts.{body}
+use Rattle.entering.proofs.Laws.{unit-step, unit-says, opening-step, opening-says, instruction-step, instruction-says, instruction-room}
+use Rattle.running.specs.Ended.{openDay, endedBy}
+use Rattle.running.proofs.Runs.{from, stops, fits, goes-on, by-other, run-first, run-none}
 use Rattle.closing.specs.Result.{ranResult, ranLent}
 use Rattle.gristpebble.specs.Listed.{listedResult, listedLent}
 use Rattle.gristpebble.proofs.Laws.{ran-listed, ran-refused}
 use Rattle.running.proofs.Room.{run-fits}
 use Rattle.gristpebble.proofs.gristpebble_listing.Statement.{statement}
 use Rattle.gristpebble.proofs.gristpebble_listing.Tie as tie
-use Rattle.gristpebble.proofs.gristpebble_listing.Reads as reads
-use Rattle.gristpebble.proofs.gristpebble_listing.Lts as lts
-use Rattle.day.proofs.empty_day.Reads as empty-day-reads
-use Rattle.entering.proofs.instruction_front.Reads as instruction-front-reads
-use Rattle.entering.proofs.opening_front.Reads as opening-front-reads
-use Rattle.entering.proofs.unit_front.Reads as unit-front-reads
-use Rattle.closing.proofs.answer_result.Reads as answer-result-reads
-use Rattle.closing.proofs.close_run.Reads as close-run-reads
-use Rattle.records.proofs.is_accepted.Reads as is-accepted-reads
+
+-- the day with the record at the front of s, of the kind k
+abbrev next : ℕ → ℕ → Taken → List ℕ → Day
+next k size t s = dayWith (foundIn paper) (openDay t) k (body size s)
 
 abbrev Inv-loop : tie.InvT-loop
-Inv-loop input out₀ d₀ rest₀ out d rest = (out ≡ out₀) × (d .closed ≡ false) × (from d rest ≡ ranBy (foundIn paper) input)
+Inv-loop input out₀ t₀ rest₀ out t rest = (out ≡ out₀) × (from (openDay t) rest ≡ ranBy (foundIn paper) input)
 
 abbrev μ-loop : tie.MeasureT-loop
-μ-loop input out₀ d₀ rest₀ out d rest = length rest
+μ-loop input out₀ t₀ rest₀ out t rest = length rest
 
-empty-day-requires : tie.Need-empty-day-requires Inv-loop μ-loop
-empty-day-requires c κs = search needs
+no-taken-requires : tie.Need-no-taken-requires Inv-loop μ-loop
+no-taken-requires c κs = search needs
 
 loop-holds : tie.Need-loop-holds Inv-loop μ-loop
 unfolding empty
-loop-holds c = (refl, rw (c .empty-day .ensures) refl, run-first _ _ (c .empty-day .ensures))
+loop-holds c = (refl, run-first (openDay (c .no-taken .result)) _ (ap openDay (c .no-taken .ensures)))
 
 shared-slice-read-match : tie.Need-shared-slice-read-match Inv-loop μ-loop
 shared-slice-read-match c = search needs
@@ -63,25 +64,25 @@ returns c =
     let more = c .before .before .before .before .before .before .before .loop-test .taken in
     let read = c .before .before .before .before .unit-front in
     let no = is-refused (read .result .answer) _ (c .before .before .is-accepted .ensures) (c .before .if1 .taken) in
-    let step = by-unit (l .d) (l .rest .now) more (read .result) (read .ensures) (omega (arith, c .before .before .before .before .before .match)) in
+    let step = unit-step (foundIn paper) (openDay (l .t)) (l .rest .now) (read .result) (read .ensures) (omega (arith, c .before .before .before .before .before .match)) in
     let s = c .before .before .before .before .before .before .before .before .before .before .before .before in
-    let e = ran-refused (s .args .input .now) (s .args .out .now) (record { answer = read .result .answer; day = l .d }) (stops (l .d) (l .rest .now) more (read .result .answer) (withUnit (l .d) (read .result .unit)) 249 step no ∙ l .inv .2) no in
+    let e = ran-refused (s .args .input .now) (s .args .out .now) (record { answer = read .result .answer; day = openDay (l .t) }) (stops (openDay (l .t)) (l .rest .now) more (read .result .answer) (next 1 unitSize (l .t) (l .rest .now)) unitSize step no ∙ l .inv .1) no in
     (c .answer-result .ensures ∙ e .0, l .inv .0 ∙ e .1)
 
 -- a unit is taken
 unit-in : (c : tie.Else1 Inv-loop μ-loop) →
     let l = c .before .before .before .before .before .before .before .loop in
     let r = c .before .before .before .unit-front .result in
-    (249 ≤ length (l .rest .now)) × (from (l .d) (l .rest .now) ≡ from (withUnit (l .d) (r .unit)) (take (length (l .rest .now) - 249) (drop 249 (l .rest .now))))
-unfolding withUnit
+    (unitSize ≤ length (l .rest .now)) × (from (openDay (l .t)) (l .rest .now) ≡ from (next 1 unitSize (l .t) (l .rest .now)) (take (length (l .rest .now) - unitSize) (drop unitSize (l .rest .now)))) × (r .unit ≡ unitOf (numbers (body unitSize (l .rest .now)) 62))
+unfolding dayWith takenWith
 unit-in c =
     let l = c .before .before .before .before .before .before .before .loop in
     let more = c .before .before .before .before .before .before .loop-test .taken in
     let read = c .before .before .before .unit-front in
     let yes = is-taken (read .result .answer) _ (c .before .is-accepted .ensures) (c .if1 .left) in
-    let step = by-unit (l .d) (l .rest .now) more (read .result) (read .ensures) (omega (arith, c .before .before .before .before .match)) in
-    let e = withUnit (l .d) (read .result .unit) in
-    (fits (l .d) (l .rest .now) more (read .result .answer) e 249 step yes, goes-on (l .d) (l .rest .now) more (read .result .answer) e 249 step yes (omega arith) (l .inv .1))
+    let step = unit-step (foundIn paper) (openDay (l .t)) (l .rest .now) (read .result) (read .ensures) (omega (arith, c .before .before .before .before .match)) in
+    let e = next 1 unitSize (l .t) (l .rest .now) in
+    (fits (openDay (l .t)) (l .rest .now) more (read .result .answer) e unitSize step yes, goes-on (openDay (l .t)) (l .rest .now) more (read .result .answer) e unitSize step yes (omega arith) refl, unit-says (foundIn paper) (openDay (l .t)) (l .rest .now) (read .result) (read .ensures) yes)
 
 sub-rest : tie.Need-sub-rest Inv-loop μ-loop
 sub-rest c = omega (arith, unit-in (c) .0)
@@ -96,10 +97,10 @@ loop-less : tie.Need-loop-less Inv-loop μ-loop
 loop-less c = omega (arith, unit-in (c .before) .0)
 
 loop-again : tie.Need-loop-again Inv-loop μ-loop
-unfolding withUnit
+unfolding dayWith takenWith
 loop-again c =
     let l = c .before .before .before .before .before .before .before .before .loop in
-    (l .inv .0, l .inv .1, sym (unit-in (c .before) .1) ∙ l .inv .2)
+    (l .inv .0, rw (unit-in (c .before) .2) (sym (unit-in (c .before) .1) ∙ l .inv .1))
 
 opening-front-requires : tie.Need-opening-front-requires Inv-loop μ-loop
 opening-front-requires c κs = search needs
@@ -119,25 +120,28 @@ returns-2 c =
     let more = c .before .before .before .before .before .before .before .loop-test .taken in
     let read = c .before .before .before .opening-front in
     let no = is-refused (read .result .answer) _ (c .before .before .is-accepted2 .ensures) (c .before .if2 .taken) in
-    let step = by-opening (l .d) (l .rest .now) more (read .result) (read .ensures) (omega (arith, c .before .before .before .before .before .match)) in
+    let step = opening-step (foundIn paper) (openDay (l .t)) (l .rest .now) (read .result) (read .ensures) (omega (arith, c .before .before .before .before .before .match)) in
     let s = c .before .before .before .before .before .before .before .before .before .before .before .before in
-    let e = ran-refused (s .args .input .now) (s .args .out .now) (record { answer = read .result .answer; day = l .d }) (stops (l .d) (l .rest .now) more (read .result .answer) (withOpening (l .d) (read .result .opening)) 17 step no ∙ l .inv .2) no in
+    let e = ran-refused (s .args .input .now) (s .args .out .now) (record { answer = read .result .answer; day = openDay (l .t) }) (stops (openDay (l .t)) (l .rest .now) more (read .result .answer) (next 2 openingSize (l .t) (l .rest .now)) openingSize step no ∙ l .inv .1) no in
     (c .answer-result2 .ensures ∙ e .0, l .inv .0 ∙ e .1)
 
 -- an opening is taken
 opening-in : (c : tie.Else2 Inv-loop μ-loop) →
     let l = c .before .before .before .before .before .before .before .loop in
     let r = c .before .before .opening-front .result in
-    (17 ≤ length (l .rest .now)) × (from (l .d) (l .rest .now) ≡ from (withOpening (l .d) (r .opening)) (take (length (l .rest .now) - 17) (drop 17 (l .rest .now))))
-unfolding withOpening
+    (openingSize ≤ length (l .rest .now)) × (from (openDay (l .t)) (l .rest .now) ≡ from (next 2 openingSize (l .t) (l .rest .now)) (take (length (l .rest .now) - openingSize) (drop openingSize (l .rest .now)))) × (r .opening ≡ openingOf (body openingSize (l .rest .now)))
+unfolding dayWith takenWith
 opening-in c =
     let l = c .before .before .before .before .before .before .before .loop in
     let more = c .before .before .before .before .before .before .loop-test .taken in
     let read = c .before .before .opening-front in
     let yes = is-taken (read .result .answer) _ (c .before .is-accepted2 .ensures) (c .if2 .left) in
-    let step = by-opening (l .d) (l .rest .now) more (read .result) (read .ensures) (omega (arith, c .before .before .before .before .match)) in
-    let e = withOpening (l .d) (read .result .opening) in
-    (fits (l .d) (l .rest .now) more (read .result .answer) e 17 step yes, goes-on (l .d) (l .rest .now) more (read .result .answer) e 17 step yes (omega arith) (l .inv .1))
+    let step = opening-step (foundIn paper) (openDay (l .t)) (l .rest .now) (read .result) (read .ensures) (omega (arith, c .before .before .before .before .match)) in
+    let e = next 2 openingSize (l .t) (l .rest .now) in
+    (fits (openDay (l .t)) (l .rest .now) more (read .result .answer) e openingSize step yes, goes-on (openDay (l .t)) (l .rest .now) more (read .result .answer) e openingSize step yes (omega arith) refl, opening-says (foundIn paper) (openDay (l .t)) (l .rest .now) (read .result) (read .ensures) yes)
+
+start-of-requires : tie.Need-start-of-requires Inv-loop μ-loop
+start-of-requires c κs = search needs
 
 sub-rest-2 : tie.Need-sub-rest-2 Inv-loop μ-loop
 sub-rest-2 c = omega (arith, opening-in (c .before) .0)
@@ -152,10 +156,10 @@ loop-less-2 : tie.Need-loop-less-2 Inv-loop μ-loop
 loop-less-2 c = omega (arith, opening-in (c .before .before) .0)
 
 loop-again-2 : tie.Need-loop-again-2 Inv-loop μ-loop
-unfolding withOpening
+unfolding dayWith takenWith
 loop-again-2 c =
     let l = c .before .before .before .before .before .before .before .before .before .loop in
-    (l .inv .0, l .inv .1, sym (opening-in (c .before .before) .1) ∙ l .inv .2)
+    (l .inv .0, rw (c .before .start-of .ensures, opening-in (c .before .before) .2) (sym (opening-in (c .before .before) .1) ∙ l .inv .1))
 
 instruction-front-requires : tie.Need-instruction-front-requires Inv-loop μ-loop
 instruction-front-requires c κs = search needs
@@ -175,25 +179,25 @@ returns-3 c =
     let more = c .before .before .before .before .before .before .loop-test .taken in
     let read = c .before .before .before .instruction-front in
     let no = is-refused (read .result .answer) _ (c .before .before .is-accepted3 .ensures) (c .before .if3 .taken) in
-    let step = by-instruction (l .d) (l .rest .now) more (read .result) (read .ensures) (omega (arith, c .before .before .before .before .match)) in
+    let step = instruction-step (foundIn paper) (openDay (l .t)) (l .rest .now) (read .result) (read .ensures) (omega (arith, c .before .before .before .before .match)) in
     let s = c .before .before .before .before .before .before .before .before .before .before .before in
-    let e = ran-refused (s .args .input .now) (s .args .out .now) (record { answer = read .result .answer; day = l .d }) (stops (l .d) (l .rest .now) more (read .result .answer) (withInstruction (l .d) (read .result .instruction)) 22 step no ∙ l .inv .2) no in
+    let e = ran-refused (s .args .input .now) (s .args .out .now) (record { answer = read .result .answer; day = openDay (l .t) }) (stops (openDay (l .t)) (l .rest .now) more (read .result .answer) (next 3 instructionSize (l .t) (l .rest .now)) instructionSize step no ∙ l .inv .1) no in
     (c .answer-result3 .ensures ∙ e .0, l .inv .0 ∙ e .1)
 
 -- an instruction is taken
 instruction-in : (c : tie.Else3 Inv-loop μ-loop) →
     let l = c .before .before .before .before .before .before .loop in
     let r = c .before .before .instruction-front .result in
-    (l .d .count < 40) × (22 ≤ length (l .rest .now)) × (from (l .d) (l .rest .now) ≡ from (withInstruction (l .d) (r .instruction)) (take (length (l .rest .now) - 22) (drop 22 (l .rest .now))))
-unfolding withInstruction
+    (l .t .count < instructionPlaces) × (instructionSize ≤ length (l .rest .now)) × (from (openDay (l .t)) (l .rest .now) ≡ from (next 3 instructionSize (l .t) (l .rest .now)) (take (length (l .rest .now) - instructionSize) (drop instructionSize (l .rest .now)))) × (r .instruction ≡ instructionOf (body instructionSize (l .rest .now)))
+unfolding dayWith takenWith
 instruction-in c =
     let l = c .before .before .before .before .before .before .loop in
     let more = c .before .before .before .before .before .loop-test .taken in
     let read = c .before .before .instruction-front in
     let yes = is-taken (read .result .answer) _ (c .before .is-accepted3 .ensures) (c .if3 .left) in
-    let step = by-instruction (l .d) (l .rest .now) more (read .result) (read .ensures) (omega (arith, c .before .before .before .match)) in
-    let e = withInstruction (l .d) (read .result .instruction) in
-    (instruction-room _ _ _ _ (read .result) (read .ensures) yes, fits (l .d) (l .rest .now) more (read .result .answer) e 22 step yes, goes-on (l .d) (l .rest .now) more (read .result .answer) e 22 step yes (omega arith) (l .inv .1))
+    let step = instruction-step (foundIn paper) (openDay (l .t)) (l .rest .now) (read .result) (read .ensures) (omega (arith, c .before .before .before .match)) in
+    let e = next 3 instructionSize (l .t) (l .rest .now) in
+    (instruction-room (foundIn paper) (openDay (l .t)) (l .rest .now) (read .result) (read .ensures) yes, fits (openDay (l .t)) (l .rest .now) more (read .result .answer) e instructionSize step yes, goes-on (openDay (l .t)) (l .rest .now) more (read .result .answer) e instructionSize step yes (omega arith) refl, instruction-says (foundIn paper) (openDay (l .t)) (l .rest .now) (read .result) (read .ensures) yes)
 
 mul-instruction : tie.Need-mul-instruction Inv-loop μ-loop
 mul-instruction c = omega (arith, instruction-in (c .before) .0)
@@ -201,8 +205,8 @@ mul-instruction c = omega (arith, instruction-in (c .before) .0)
 element-set-from-instruction : tie.Need-element-set-from-instruction Inv-loop μ-loop
 element-set-from-instruction c = omega (arith, instruction-in (c .before) .0)
 
-add-d : tie.Need-add-d Inv-loop μ-loop
-add-d c = omega (arith, instruction-in (c .before) .0)
+add-t : tie.Need-add-t Inv-loop μ-loop
+add-t c = omega (arith, instruction-in (c .before) .0)
 
 sub-rest-3 : tie.Need-sub-rest-3 Inv-loop μ-loop
 sub-rest-3 c = omega (arith, instruction-in (c .before) .1)
@@ -217,17 +221,17 @@ loop-less-3 : tie.Need-loop-less-3 Inv-loop μ-loop
 loop-less-3 c = omega (arith, instruction-in (c .before .before) .1)
 
 loop-again-3 : tie.Need-loop-again-3 Inv-loop μ-loop
-unfolding withInstruction
+unfolding dayWith takenWith
 loop-again-3 c =
     let l = c .before .before .before .before .before .before .before .before .loop in
-    (l .inv .0, l .inv .1, sym (instruction-in (c .before .before) .2) ∙ l .inv .2)
+    (l .inv .0, rw (instruction-in (c .before .before) .3) (sym (instruction-in (c .before .before) .2) ∙ l .inv .1))
 
 -- the records end here
-ends-here : (c : tie.After-close-run-arg Inv-loop μ-loop) → let l = c .before .before .before .before .loop in endedBy (l .d) (getD (l .rest .now) 0 0) ≡ ranBy (foundIn paper) (c .before .before .before .before .before .before .before .before .args .input .now)
+ends-here : (c : tie.After-close-run-arg Inv-loop μ-loop) → let l = c .before .before .before .before .loop in endedBy (openDay (l .t)) (getD (l .rest .now) 0 0) ≡ ranBy (foundIn paper) (c .before .before .before .before .before .before .before .before .args .input .now)
 ends-here c =
     let l = c .before .before .before .before .loop in
     let k = c .before .match .rest in
-    by-other (l .d) (l .rest .now) (c .before .before .before .loop-test .taken) (k .0 .0 .1) (k .0 .1) (k .1) ∙ l .inv .2
+    by-other (openDay (l .t)) (l .rest .now) (c .before .before .before .loop-test .taken) (λ four least most. omega (arith, k)) ∙ l .inv .1
 
 close-run-requires : tie.Need-close-run-requires Inv-loop μ-loop
 close-run-requires c κs = λ a. run-fits (c .before .before .before .before .before .before .before .before .args .input .now) _ (ends-here c) a .1
@@ -241,7 +245,7 @@ returns-4 c =
     let s = c .before .before .before .before .before .before .before .before .before .before .before in
     let r = c .before .before .close-run in
     let e = ran-listed (s .args .input .now) (s .args .out .now) _ (ends-here (c .before .before .before)) in
-    subst (λ (o : List ℕ). (r .result ≡ ranResult (endedBy (l .d) (getD (l .rest .now) 0 0)) o) × (r .last .1 .1 .0 ≡ ranLent (endedBy (l .d) (getD (l .rest .now) 0 0)) o) → (r .result ≡ listedResult (s .args .input .now) (s .args .out .now)) × (r .last .1 .1 .0 ≡ listedLent (s .args .input .now) (s .args .out .now)))
+    subst (λ (o : List ℕ). (r .result ≡ ranResult (endedBy (openDay (l .t)) (getD (l .rest .now) 0 0)) o) × (r .last .1 .1 .0 ≡ ranLent (endedBy (openDay (l .t)) (getD (l .rest .now) 0 0)) o) → (r .result ≡ listedResult (s .args .input .now) (s .args .out .now)) × (r .last .1 .1 .0 ≡ listedLent (s .args .input .now) (s .args .out .now)))
     (sym (l .inv .0)) (λ f. (f .0 ∙ e .0, f .1 ∙ e .1)) (r .ensures)
 
 answer-result-requires-4 : tie.Need-answer-result-requires-4 Inv-loop μ-loop
@@ -254,7 +258,7 @@ returns-5 : tie.Need-returns-5 Inv-loop μ-loop
 returns-5 c =
     let l = c .before .before .loop in
     let s = c .before .before .before .before .before .before in
-    let e = ran-refused (s .args .input .now) (s .args .out .now) (record { answer = Refused TooFewBytes; day = l .d }) (run-none (l .d) (l .rest .now) (omega arith) ∙ l .inv .2) refl in
+    let e = ran-refused (s .args .input .now) (s .args .out .now) (record { answer = Refused TooFewBytes; day = openDay (l .t) }) (run-none (openDay (l .t)) (l .rest .now) (omega arith) ∙ l .inv .1) refl in
     (c .answer-result4 .ensures ∙ e .0, l .inv .0 ∙ e .1)
 
 pub gristpebble-listing-spec : {M : Type 1} → statement M
@@ -263,7 +267,7 @@ gristpebble-listing-spec =
     (tie.spec
     Inv-loop
     μ-loop
-    empty-day-requires
+    no-taken-requires
     loop-holds
     shared-slice-read-match
     unit-front-requires
@@ -281,6 +285,7 @@ gristpebble-listing-spec =
     answer-result-requires-2
     same-length-2
     returns-2
+    start-of-requires
     sub-rest-2
     part-rest-start-2
     part-rest-end-2
@@ -293,7 +298,7 @@ gristpebble-listing-spec =
     returns-3
     mul-instruction
     element-set-from-instruction
-    add-d
+    add-t
     sub-rest-3
     part-rest-start-3
     part-rest-end-3

@@ -2,12 +2,13 @@ use Prim.Native.Nat.{ℕ, _≤_, _-_, _+_}
 use mathlib.Core.Path.{_≡_, refl, sym, _∙_}
 use mathlib.Core.List.{_∷_}
 use lib.ListN.{length, take, drop, getD}
+use Rattle.level.specs.Numbers.{instructionPlaces}
 use Rattle.level.specs.Lists.{filled}
 use Rattle.validation.specs.Kept.{actors}
 use Rattle.choosing.specs.Working.{noNumbered}
 use Rattle.keeping.specs.Late.{LateFates}
-use Rattle.level.proofs.Lists.{left-none}
-use Rattle.choosing.proofs.Laws.{Begun, map-length, begun-none, begun-store, begun-all}
+use Rattle.level.proofs.Lists.{map-length, left-none}
+use Rattle.choosing.proofs.Laws.{Begun, begun-none, begun-store, begun-all}
 use Rattle.keeping.proofs.Late.{actors-skip, actors-keep, actors-none}
 use native.Mathlib.Omega.{arith}
 use borrow.Author.Needs.{needs}
@@ -24,7 +25,7 @@ no-one-requires : tie.Need-no-one-requires Inv-loop μ-loop
 no-one-requires c κs = search needs
 
 -- forty places
-kept-long : (s : tie.Start Inv-loop μ-loop) → length (s .args .t1 .items) ≡ 40
+kept-long : (s : tie.Start Inv-loop μ-loop) → length (s .args .t1 .items) ≡ instructionPlaces
 kept-long s = simp map-length at (s .good .0 .1 .1 .0 .1 .0 .1)
 
 loop-holds : tie.Need-loop-holds Inv-loop μ-loop

@@ -3,6 +3,7 @@ use mathlib.Core.Path.{_≡_, refl, ap, _∙_}
 use lib.Dec.{ltb}
 use lib.ListN.{set, take, getD}
 use Rattle.level.specs.Choice.{pick}
+use Rattle.level.specs.Numbers.{instructionPlaces}
 use Rattle.level.specs.Lists.{filled}
 use Rattle.choosing.specs.Working.{latestAt}
 use Rattle.keeping.specs.Late.{fatesTo}
@@ -14,7 +15,7 @@ use Rattle.keeping.proofs.fates_of.Tie as tie
 
 abbrev Inv-loop : tie.InvT-loop
 Inv-loop times issues n ordered later out₀ latest₀ i₀ out latest i =
-    (i ≤ n) × (out ≡ filled 40 0 (fatesTo (take n times) (take n issues) later i)) × (0 < i → latest ≡ latestAt (take n times) (take n issues) (getD times (i - 1) 0))
+    (i ≤ n) × (out ≡ filled instructionPlaces 0 (fatesTo (take n times) (take n issues) later i)) × (0 < i → latest ≡ latestAt (take n times) (take n issues) (getD times (i - 1) 0))
 
 abbrev μ-loop : tie.MeasureT-loop
 μ-loop times issues n ordered later out₀ latest₀ i₀ out latest i = n - i

@@ -1,4 +1,4 @@
-use Rattle.keeping.specs.Late.{lateAt}
+use Rattle.keeping.specs.Late.{lateFateBy}
 use borrow.Author.Needs.{needs}
 use Rattle.keeping.proofs.late_fate.Statement.{statement}
 use Rattle.keeping.proofs.late_fate.Tie as tie
@@ -7,7 +7,7 @@ first-fate-requires : tie.Need-first-fate-requires
 first-fate-requires c κs = search needs
 
 returns : tie.Need-returns
-unfolding lateAt
+unfolding lateFateBy
 returns c = c .first-fate .ensures
 
 pub late-fate-spec : {M : Type 1} → statement M

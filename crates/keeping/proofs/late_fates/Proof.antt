@@ -4,6 +4,7 @@ use mathlib.Core.List.{List}
 use native.Mathlib.Decide.{ℕ-discrete}
 use lib.ListN.{length, take, drop, getD, set, length-set}
 use lib.Seq.{getD-set-same, getD-set-other}
+use Rattle.level.specs.Numbers.{instructionPlaces}
 use Rattle.validation.specs.declared.Numbered.{Numbered}
 use Rattle.validation.specs.Kept.{acting, lateFate}
 use Rattle.choosing.specs.Working.{noNumbered}
@@ -17,7 +18,7 @@ use Rattle.keeping.proofs.late_fates.Statement.{statement}
 use Rattle.keeping.proofs.late_fates.Tie as tie
 
 abbrev Inv-loop : tie.InvT-loop
-Inv-loop times n end out₀ earliest₀ i₀ out earliest i = (i ≤ n) × (length out ≡ 40) × ((ks : List Numbered) → n ≤ length ks → Noted acting times ks n → (earliest ≡ earliestActing (drop i (take n ks))) × ((j : ℕ) → i ≤ j → j < n → getD out j 0 ≡ lateFate end (getD ks j noNumbered) (drop (j + 1) (take n ks))))
+Inv-loop times n end out₀ earliest₀ i₀ out earliest i = (i ≤ n) × (length out ≡ instructionPlaces) × ((ks : List Numbered) → n ≤ length ks → Noted acting times ks n → (earliest ≡ earliestActing (drop i (take n ks))) × ((j : ℕ) → i ≤ j → j < n → getD out j 0 ≡ lateFate end (getD ks j noNumbered) (drop (j + 1) (take n ks))))
 
 abbrev μ-loop : tie.MeasureT-loop
 μ-loop times n end out₀ earliest₀ i₀ out earliest i = i
@@ -42,8 +43,8 @@ late-fate-requires c κs = search needs
 array-write-out : tie.Need-array-write-out Inv-loop μ-loop
 array-write-out c = omega arith
 
-least-requires : tie.Need-least-requires Inv-loop μ-loop
-least-requires c κs = search needs
+smaller-long-requires : tie.Need-smaller-long-requires Inv-loop μ-loop
+smaller-long-requires c κs = search needs
 
 loop-less : tie.Need-loop-less Inv-loop μ-loop
 loop-less c = omega arith
@@ -65,8 +66,8 @@ loop-again c =
     let e : i + 1 ≡ l .i = omega arith in
     let own = getD (s .args .times .now) i 0 in
     let k : (ks : List Numbered) → n ≤ length ks → Noted acting (s .args .times .now) ks n → l .earliest ≡ earliestActing (drop (i + 1) (take n ks)) = λ ks g t. rw e (l .inv .2 ks g t .0) in
-    let m : (ks : List Numbered) → n ≤ length ks → Noted acting (s .args .times .now) ks n → c .least .result ≡ earliestActing (drop i (take n ks)) =
-    λ ks g t. c .least .ensures ∙ ((λ q. min (k ks g t q) (t i (omega arith) q)) ∙ acting-more ks n g i (omega arith)) in
+    let m : (ks : List Numbered) → n ≤ length ks → Noted acting (s .args .times .now) ks n → c .smaller-long .result ≡ earliestActing (drop i (take n ks)) =
+    λ ks g t. c .smaller-long .ensures ∙ ((λ q. min (k ks g t q) (t i (omega arith) q)) ∙ acting-more ks n g i (omega arith)) in
     let f : (ks : List Numbered) → n ≤ length ks → Noted acting (s .args .times .now) ks n → c .before .late-fate .result ≡ lateFate end (getD ks i noNumbered) (drop (i + 1) (take n ks)) =
     λ ks g t. c .before .late-fate .ensures ∙ late-is end own (l .earliest) (getD ks i noNumbered) (drop (i + 1) (take n ks)) (t i (omega arith)) (s .pre .1 i (omega arith)) (k ks g t) in (
       omega arith,
@@ -91,7 +92,7 @@ late-fates-spec =
     element-copy-out-own
     late-fate-requires
     array-write-out
-    least-requires
+    smaller-long-requires
     loop-less
     loop-again
     returns)

@@ -2,18 +2,20 @@ use Prim.Native.Nat.{ℕ, _≤_, _-_, _+_}
 use mathlib.Core.Path.{_≡_, refl, sym, ap, _∙_}
 use mathlib.Core.List.{List}
 use lib.ListN.{length, take, drop, getD, length-set}
+use Rattle.level.specs.Numbers.{instructionPlaces}
 use Rattle.validation.specs.declared.Numbered.{Numbered}
 use Rattle.validation.specs.Kept.{lateMarks}
 use Rattle.keeping.specs.Late.{settleFate, settled, LateFates}
-use Rattle.checking.specs.Working.{numberOf, Noted}
+use Rattle.checking.specs.Working.{entryNumber, Noted}
 use Rattle.level.proofs.Lists.{left-none}
 use Rattle.keeping.proofs.Late.{settle-zero, settle-large, settle-done, settle-some, settled-more, settled-none}
 use native.Mathlib.Omega.{arith}
+use borrow.Author.Needs.{needs}
 use Rattle.keeping.proofs.settle_late.Statement.{statement}
 use Rattle.keeping.proofs.settle_late.Tie as tie
 
 abbrev Inv-loop : tie.InvT-loop
-Inv-loop numbers n late out₀ i₀ out i = (i ≤ n) × (length out ≡ 40) × ((end : ℕ) (ks : List Numbered) → n ≤ length ks → Noted numberOf numbers ks n → LateFates end ks n late → settled out (lateMarks end (drop i (take n ks))) ≡ settled out₀ (lateMarks end (take n ks)))
+Inv-loop numbers n late out₀ i₀ out i = (i ≤ n) × (length out ≡ instructionPlaces) × ((end : ℕ) (ks : List Numbered) → n ≤ length ks → Noted entryNumber numbers ks n → LateFates end ks n late → settled out (lateMarks end (drop i (take n ks))) ≡ settled out₀ (lateMarks end (take n ks)))
 
 abbrev μ-loop : tie.MeasureT-loop
 μ-loop numbers n late out₀ i₀ out i = n - i
@@ -38,7 +40,7 @@ loop-less c = omega arith
 
 -- the one at the place i has its fate
 more : (x : tie.In-loop Inv-loop μ-loop) (next : List ℕ) → next ≡ settleFate (x .before .loop .out) (getD (x .before .before .args .numbers .now) (x .before .loop .i) 0) (getD (x .before .before .args .t3) (x .before .loop .i) 0) →
-    (end : ℕ) (ks : List Numbered) → x .before .before .args .n ≤ length ks → Noted numberOf (x .before .before .args .numbers .now) ks (x .before .before .args .n) → LateFates end ks (x .before .before .args .n) (x .before .before .args .t3) →
+    (end : ℕ) (ks : List Numbered) → x .before .before .args .n ≤ length ks → Noted entryNumber (x .before .before .args .numbers .now) ks (x .before .before .args .n) → LateFates end ks (x .before .before .args .n) (x .before .before .args .t3) →
     settled next (lateMarks end (drop (x .before .loop .i + 1) (take (x .before .before .args .n) ks))) ≡ settled (x .before .before .args .before) (lateMarks end (take (x .before .before .args .n) ks))
 more x next q end ks g k f =
     let s = x .before .before in
@@ -50,18 +52,17 @@ loop-again : tie.Need-loop-again Inv-loop μ-loop
 loop-again c =
     (omega arith, c .before .before .before .loop .inv .1, more (c .before .before) _ (settle-zero _ _ _ (c .if1 .taken)))
 
+place-of-requires : tie.Need-place-of-requires Inv-loop μ-loop
+place-of-requires c κs = search needs
+
 loop-less-2 : tie.Need-loop-less-2 Inv-loop μ-loop
 loop-less-2 c = omega arith
 
 loop-again-2 : tie.Need-loop-again-2 Inv-loop μ-loop
 loop-again-2 c =
-    (omega arith, c .before .before .before .before .loop .inv .1, more (c .before .before .before) _ (settle-large _ _ _ (c .before .before .before .before .loop .inv .1) (c .if2 .taken)))
-
-sub-at : tie.Need-sub-at Inv-loop μ-loop
-sub-at c = omega arith
-
-cast-at : tie.Need-cast-at Inv-loop μ-loop
-cast-at c = omega arith
+    let x = c .before .before .before .before in
+    let long = x .before .loop .inv .1 in
+    (omega arith, long, more x _ (settle-large _ _ _ long (omega arith)))
 
 array-read-if3 : tie.Need-array-read-if3 Inv-loop μ-loop
 array-read-if3 c = omega arith
@@ -71,7 +72,9 @@ loop-less-3 c = omega arith
 
 loop-again-3 : tie.Need-loop-again-3 Inv-loop μ-loop
 loop-again-3 c =
-    (omega arith, c .before .before .before .before .before .loop .inv .1, more (c .before .before .before .before) _ (settle-done _ _ _ (omega arith) (c .if3 .taken)))
+    let x = c .before .before .before .before .before in
+    let place = c .before .before .place-of .ensures in
+    (omega arith, x .before .loop .inv .1, more x _ (settle-done _ _ _ (omega arith) (rw place at (c .if3 .taken))))
 
 array-write-out : tie.Need-array-write-out Inv-loop μ-loop
 array-write-out c = omega arith
@@ -81,8 +84,10 @@ loop-less-4 c = omega arith
 
 loop-again-4 : tie.Need-loop-again-4 Inv-loop μ-loop
 loop-again-4 c =
-    let l = c .before .before .before .before .before .loop in
-    (omega arith, length-set (l .out) _ _ ∙ l .inv .1, more (c .before .before .before .before) _ (settle-some _ _ _ (omega arith) (c .if3 .left)))
+    let x = c .before .before .before .before .before in
+    let l = x .before .loop in
+    let place = c .before .before .place-of .ensures in
+    (omega arith, length-set (l .out) _ _ ∙ l .inv .1, more x _ (rw place (settle-some _ _ _ (omega arith) (rw place at (c .if3 .left)))))
 
 returns : tie.Need-returns Inv-loop μ-loop
 returns c =
@@ -103,10 +108,9 @@ settle-late-spec =
     add-i
     loop-less
     loop-again
+    place-of-requires
     loop-less-2
     loop-again-2
-    sub-at
-    cast-at
     array-read-if3
     loop-less-3
     loop-again-3

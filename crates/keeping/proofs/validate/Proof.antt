@@ -3,11 +3,12 @@ use mathlib.Core.List.{List}
 use Prim.Native.Nat.{ℕ, _≤_}
 use native.Mathlib.Omega.{arith}
 use lib.ListN.{length, take}
+use Rattle.level.specs.Numbers.{instructionPlaces}
 use Rattle.level.specs.Lists.{filled}
 use Rattle.validation.specs.Kept.{actors}
 use Rattle.keeping.specs.Late.{fatesTo, actingWith}
 use Rattle.checking.specs.Working.{checking}
-use Rattle.choosing.proofs.Laws.{map-length}
+use Rattle.level.proofs.Lists.{map-length}
 use Rattle.keeping.proofs.Whole.{validation-is, none-entered as nothing-entered}
 use borrow.Author.Needs.{needs}
 use Rattle.keeping.proofs.validate.Statement.{statement}
@@ -22,8 +23,8 @@ returns c =
     let a = c .before .before .args in
     c .none-entered .ensures ∙ nothing-entered (a .instructions) (a .count) (a .end) (c .before .if1 .taken)
 
-at-most-forty-requires : tie.Need-at-most-forty-requires
-at-most-forty-requires c κs = search needs
+smaller-count-requires : tie.Need-smaller-count-requires
+smaller-count-requires c κs = search needs
 
 time-all-requires : tie.Need-time-all-requires
 time-all-requires c κs = search needs
@@ -46,7 +47,7 @@ settle-late-requires c κs = search needs
 fates-of-requires : tie.Need-fates-of-requires
 fates-of-requires c κs =
     let q = c .before .before .before .before .before .before .before .before .before .before .before .before .before .before .before .time-all .ensures in
-    (omega (arith, c .before .before .before .before .before .before .before .before .before .before .before .before .before .before .before .before .before .before .at-most-forty .ensures), q .0, q .1, c .before .before .before .before .before .before .before .before .before .before .before .before .before .in-order .ensures)
+    (omega (arith, c .before .before .before .before .before .before .before .before .before .before .before .before .before .before .before .before .before .before .smaller-count .ensures), q .0, q .1, c .before .before .before .before .before .before .before .before .before .before .before .before .before .in-order .ensures)
 
 acts-of-requires : tie.Need-acts-of-requires
 acts-of-requires c κs = search needs
@@ -55,7 +56,7 @@ returns-2 : tie.Need-returns-2
 returns-2 c =
     let a = c .before .before .before .before .before .before .before .before .before .before .before .before .before .before .before .before .before .before .before .before .before .before in
     let end = a .args .end in
-    let n = c .before .before .before .before .before .before .before .before .before .before .before .before .before .before .before .before .before .before .before .before .at-most-forty in
+    let n = c .before .before .before .before .before .before .before .before .before .before .before .before .before .before .before .before .before .before .before .before .smaller-count in
     let q = c .before .before .before .before .before .before .before .before .before .before .before .before .before .before .before .before .before .time-all in
     let times = q .last .1 .1 .0 in
     let issues = q .last .1 .1 .1 .0 in
@@ -63,11 +64,11 @@ returns-2 c =
     let k = c .before .before .before .before .before .before .before .before .check-all in
     let kept = k .result in
     let step = k .ensures in
-    let g : length (kept .items) ≡ 40 = simp map-length at (k .ok .1 .1 .0 .1 .0 .1) in
+    let g : length (kept .items) ≡ instructionPlaces = simp map-length at (k .ok .1 .1 .0 .1 .0 .1) in
     let fits : kept .count ≤ length (kept .items) = omega (arith, step .few) in
     let late = c .before .before .before .before .before .before .late-fates .ensures (kept .items) fits (step .timed) in
     let later = c .before .before .before .before .settle-late .ensures end (kept .items) fits (step .named) late in
-    let f = c .before .fates-of .ensures ∙ ap (λ (l : List ℕ). filled 40 0 (fatesTo (take (n .result) times) (take (n .result) issues) l (n .result))) later in
+    let f = c .before .fates-of .ensures ∙ ap (λ (l : List ℕ). filled instructionPlaces 0 (fatesTo (take (n .result) times) (take (n .result) issues) l (n .result))) later in
     c .acts-of .ensures end late
     ∙ (ap (λ (l : List ℕ). actingWith l (actors end (take (kept .count) (kept .items)))) f
     ∙ validation-is (a .args .instructions) (a .args .count) end (n .result) (a .good .0 .1 .0 .1) (n .ensures) (take (n .result) times) (take (n .result) issues) (q .ensures .2) (u .result) (u .ensures .0) (u .ensures .1) (checking (kept .items) (kept .count) (k .last .1 .0)) (step .tracks) fits)
@@ -78,7 +79,7 @@ validate-spec =
     (tie.spec
     none-entered-requires
     returns
-    at-most-forty-requires
+    smaller-count-requires
     time-all-requires
     in-order-requires
     used-in-requires

@@ -1,8 +1,6 @@
 use native.Mathlib.Omega.{arith}
 use Rattle.level.proofs.larger.Statement.{statement}
 use Rattle.level.proofs.larger.Tie as tie
-use Rattle.level.proofs.larger.Reads as reads
-use Rattle.level.proofs.larger.Lts as lts
 
 returns : tie.Need-returns
 returns c = omega arith

@@ -1,8 +1,6 @@
 use native.Mathlib.Omega.{arith}
 use Rattle.level.proofs.smaller.Statement.{statement}
 use Rattle.level.proofs.smaller.Tie as tie
-use Rattle.level.proofs.smaller.Reads as reads
-use Rattle.level.proofs.smaller.Lts as lts
 
 returns : tie.Need-returns
 returns c = omega arith

@@ -5,9 +5,6 @@ use Rattle.lines.proofs.Widths.{f-length}
 use Rattle.text.proofs.Laws.{line-two}
 use Rattle.lines.proofs.put_f.Statement.{statement}
 use Rattle.lines.proofs.put_f.Tie as tie
-use Rattle.lines.proofs.put_f.Reads as reads
-use Rattle.lines.proofs.put_f.Lts as lts
-use Rattle.text.proofs.put_line.Reads as put-line-reads
 
 slice-aggregate-put-line : tie.Need-slice-aggregate-put-line
 slice-aggregate-put-line c = search needs

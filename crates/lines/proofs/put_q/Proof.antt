@@ -5,9 +5,6 @@ use Rattle.lines.proofs.Widths.{q-length}
 use Rattle.text.proofs.Laws.{line-three}
 use Rattle.lines.proofs.put_q.Statement.{statement}
 use Rattle.lines.proofs.put_q.Tie as tie
-use Rattle.lines.proofs.put_q.Reads as reads
-use Rattle.lines.proofs.put_q.Lts as lts
-use Rattle.text.proofs.put_line.Reads as put-line-reads
 
 slice-aggregate-put-line : tie.Need-slice-aggregate-put-line
 slice-aggregate-put-line c = search needs

@@ -5,9 +5,6 @@ use Rattle.lines.proofs.Widths.{x-length}
 use Rattle.text.proofs.Laws.{line-one}
 use Rattle.lines.proofs.put_x.Statement.{statement}
 use Rattle.lines.proofs.put_x.Tie as tie
-use Rattle.lines.proofs.put_x.Reads as reads
-use Rattle.lines.proofs.put_x.Lts as lts
-use Rattle.text.proofs.put_line.Reads as put-line-reads
 
 slice-aggregate-put-line : tie.Need-slice-aggregate-put-line
 slice-aggregate-put-line c = search needs

@@ -9,21 +9,17 @@ use Rattle.passing.proofs.Lines.{line-none, straight-low, piece-fits, p
 use borrow.Author.Needs.{needs}
 use Rattle.passing.proofs.note_piece.Statement.{statement}
 use Rattle.passing.proofs.note_piece.Tie as tie
-use Rattle.passing.proofs.note_piece.Reads as reads
-use Rattle.passing.proofs.note_piece.Lts as lts
-use Rattle.passing.proofs.note_line.Reads as note-line-reads
-use Rattle.stops.proofs.gap_between.Reads as gap-between-reads
 
 returns : tie.Need-returns
 returns c =
     let s = c .before .before .before in
     let p = s .args .p in
     let q = s .args .q in
-    let e : p .second ≡ q .second = omega (arith, s .pre .0 .1, c .if1 .taken) in
+    let e : p .second ≡ q .second = omega (arith, s .pre .later, c .if1 .taken) in
     subst (λ (i : ℕ). Adds (pieceFrom (headed (s .args .up)) p q) (summed (p .second) (s .args .sums .now) (s .args .total)) (summed i (s .args .sums .now) (s .args .total)) × Fits (summed i (s .args .sums .now) (s .args .total))) e (
       adds-none (pieceFrom (headed (s .args .up)) p q) (summed (p .second) (s .args .sums .now) (s .args .total))
           (λ i le. line-none (headed (s .args .up)) (p .level) (gap (p .level) (q .level) / (q .second - p .second)) (i - p .second) (omega arith)),
-      s .pre .1 .1,
+      s .pre .fits,
     )
 
 add-half : tie.Need-add-half
@@ -51,14 +47,13 @@ note-line-requires c κs =
     let p = s .args .p in
     let q = s .args .q in
     let d : ℕ = q .second - p .second in
-    let lt : p .second < q .second = omega (arith, c .before .before .before .before .before .before .before .if1 .left) in (
-      (
-        omega (arith, lt),
-        s .pre .1 .0 .0,
-        subst (λ (w : ℕ). StaysLow h (p .level) (d * (w / d))) (sym (c .before .gap-between .ensures)) (straight-low h p q lt (s .pre .0 .0 lt) (s .pre .1 .0 .1) (s .pre .1 .0 .2)),
-      ),
-      s .pre .1 .1,
-    )
+    let lt : p .second < q .second = omega (arith, c .before .before .before .before .before .before .before .if1 .left) in
+    record {
+      later = omega (arith, lt);
+      within = s .pre .within;
+      low = subst (λ (w : ℕ). StaysLow h (p .level) (d * (w / d))) (sym (c .before .gap-between .ensures)) (straight-low h p q lt (s .pre .straight lt) (s .pre .low) (s .pre .low-too));
+      fits = s .pre .fits;
+    }
 
 returns-2 : tie.Need-returns-2
 returns-2 c =
@@ -80,8 +75,8 @@ add-sum c = search needs
 fits : (c : tie.After-struct-known8) → let s = c .before .before .before .before .before .before .before .before .before .before in s .args .total + (s .args .q .second - s .args .p .second) * (s .args .p .level + s .args .q .level) < 18446744073709551616
 fits c =
     let s = c .before .before .before .before .before .before .before .before .before .before in
-    piece-fits (headed (s .args .up)) (s .args .p) (s .args .q) (omega (arith, c .before .before .before .before .before .before .before .if1 .left)) (s .pre .0 .0 (omega (arith, c .before .before .before .before .before .before .before .if1 .left))) (s .args .sums .now) (s .args .total) (s .pre .1 .0 .0) (s .pre .1 .0 .1) (s .pre .1 .0 .2)
-    (omega (arith, c .before .before .if2 .left)) (s .pre .1 .1)
+    piece-fits (headed (s .args .up)) (s .args .p) (s .args .q) (omega (arith, c .before .before .before .before .before .before .before .if1 .left)) (s .pre .straight (omega (arith, c .before .before .before .before .before .before .before .if1 .left))) (s .args .sums .now) (s .args .total) (s .pre .within) (s .pre .low) (s .pre .low-too)
+    (omega (arith, c .before .before .if2 .left)) (s .pre .fits)
 
 mul-sum : tie.Need-mul-sum
 mul-sum c = let f = fits c in omega (arith, f)
@@ -98,8 +93,8 @@ element-write-sums c = search needs
 returns-3 : tie.Need-returns-3
 returns-3 c =
     let s = c .before .before .before .before .before .before .before .before .before .before in
-    piece-adds (headed (s .args .up)) (s .args .p) (s .args .q) (omega (arith, c .before .before .before .before .before .before .before .if1 .left)) (s .pre .0 .0 (omega (arith, c .before .before .before .before .before .before .before .if1 .left))) (s .args .sums .now) (s .args .total) (s .pre .1 .0 .0) (s .pre .1 .0 .1) (s .pre .1 .0 .2)
-    (omega (arith, c .before .before .if2 .left)) (s .pre .1 .1)
+    piece-adds (headed (s .args .up)) (s .args .p) (s .args .q) (omega (arith, c .before .before .before .before .before .before .before .if1 .left)) (s .pre .straight (omega (arith, c .before .before .before .before .before .before .before .if1 .left))) (s .args .sums .now) (s .args .total) (s .pre .within) (s .pre .low) (s .pre .low-too)
+    (omega (arith, c .before .before .if2 .left)) (s .pre .fits)
 
 pub note-piece-spec : {M : Type 1} → statement M
 note-piece-spec =

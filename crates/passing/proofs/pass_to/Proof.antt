@@ -9,11 +9,6 @@ use Rattle.passing.proofs.Areas.{goes-straight}
 use Rattle.passing.proofs.Pass.{Sofar, sofar-none, sofar-end, sofar-goes, sofar-low, sofar-cut, sofar-more}
 use Rattle.passing.proofs.pass_to.Statement.{statement}
 use Rattle.passing.proofs.pass_to.Tie as tie
-use Rattle.passing.proofs.pass_to.Reads as reads
-use Rattle.passing.proofs.pass_to.Lts as lts
-use Rattle.effects.proofs.off_between.Reads as off-between-reads
-use Rattle.passing.proofs.note_piece.Reads as note-piece-reads
-use Rattle.trajectory.proofs.walk_on.Reads as walk-on-reads
 
 abbrev Inv-loop : tie.InvT-loop
 Inv-loop sums₀ before l c up begun n at₀ off₀ total₀ sums at off total = Sofar l c up (at₀ .place) begun n (summed (at₀ .place .second) sums₀ before) sums at off total
@@ -22,7 +17,7 @@ abbrev μ-loop : tie.MeasureT-loop
 μ-loop sums₀ before l c up begun n at₀ off₀ total₀ sums at off total = n - at .place .second
 
 loop-holds : tie.Need-loop-holds Inv-loop μ-loop
-loop-holds s = sofar-none (s .args .l) (s .args .c) (s .args .up) (s .args .from) (s .args .begun) (s .args .n) (summed (s .args .from .place .second) (s .args .sums .now) (s .args .before)) _ _ refl (s .pre .0 .0) (s .pre .0 .2) (s .pre .1 .0 .0) (s .pre .1 .0 .1) (s .pre .1 .1)
+loop-holds s = sofar-none (s .args .l) (s .args .c) (s .args .up) (s .args .from) (s .args .begun) (s .args .n) (summed (s .args .from .place .second) (s .args .sums .now) (s .args .before)) _ _ refl (s .pre .later) (s .pre .low) (s .pre .short) (s .pre .known) (s .pre .fits)
 
 walk-on-requires : tie.Need-walk-on-requires Inv-loop μ-loop
 walk-on-requires c κs = let l = c .before .before .before .loop in (c .before .if1 .taken, (l .inv .short, l .inv .known))
@@ -52,10 +47,15 @@ note-piece-requires c κs =
     let w = c .before .before .before .before .before in
     let s = w .before .before .before .before .before in
     let l = w .before .before .before .before .loop in
-    let g = gone w in (
-      (λ lt. goes-straight (headed (s .args .up)) (listsBy (s .args .l) (s .args .c)) (grains (s .args .c .target)) (s .args .n) (l .at .place) (w .walk-on .result .place) g, omega (arith, g .later)),
-      ((omega (arith, g .within, s .pre .0 .1), l .inv .low, sofar-low (s .args .l) (s .args .c) (s .args .up) (s .args .from) (s .args .begun) (s .args .n) (summed (s .args .from .place .second) (s .args .sums .now) (s .args .before)) (l .sums) (l .at) (l .off) (l .total) (l .inv) (w .walk-on .result) (target w) (w .before .before .if1 .taken) (w .walk-on .ensures .0)), l .inv .fits),
-    )
+    let g = gone w in
+    record {
+      straight = λ lt. goes-straight (headed (s .args .up)) (listsBy (s .args .l) (s .args .c)) (grains (s .args .c .target)) (s .args .n) (l .at .place) (w .walk-on .result .place) g;
+      later = omega (arith, g .later);
+      within = omega (arith, g .within, s .pre .within);
+      low = l .inv .low;
+      low-too = sofar-low (s .args .l) (s .args .c) (s .args .up) (s .args .from) (s .args .begun) (s .args .n) (summed (s .args .from .place .second) (s .args .sums .now) (s .args .before)) (l .sums) (l .at) (l .off) (l .total) (l .inv) (w .walk-on .result) (target w) (w .before .before .if1 .taken) (w .walk-on .ensures .0);
+      fits = l .inv .fits;
+    }
 
 loop-less : tie.Need-loop-less Inv-loop μ-loop
 loop-less c = let g = gone (c .before .before .before .before .before .before) in omega (arith, g .later, g .within)

@@ -1,14 +1,12 @@
+use mathlib.Core.Path.{ap}
 use native.Mathlib.Omega.{arith}
+use lib.ListN.{length}
+use Rattle.profile.specs.declared.Closing.{Closing}
+use Rattle.daylines.specs.Rest.{closingLine}
 use Rattle.printing.proofs.Whole.{day-length}
 use borrow.Author.Needs.{needs}
 use Rattle.printing.proofs.day_width.Statement.{statement}
 use Rattle.printing.proofs.day_width.Tie as tie
-use Rattle.printing.proofs.day_width.Reads as reads
-use Rattle.printing.proofs.day_width.Lts as lts
-use Rattle.daylines.proofs.closing_width.Reads as closing-width-reads
-use Rattle.daylines.proofs.courses_width.Reads as courses-width-reads
-use Rattle.daylines.proofs.fates_width.Reads as fates-width-reads
-use Rattle.daylines.proofs.quantities_width.Reads as quantities-width-reads
 
 fates-width-requires : tie.Need-fates-width-requires
 fates-width-requires c κs = search needs
@@ -18,6 +16,9 @@ courses-width-requires c κs = search needs
 
 quantities-width-requires : tie.Need-quantities-width-requires
 quantities-width-requires c κs = search needs
+
+closing-of-requires : tie.Need-closing-of-requires
+closing-of-requires c κs = search needs
 
 closing-width-requires : tie.Need-closing-width-requires
 closing-width-requires c κs = search needs
@@ -33,13 +34,15 @@ add-result-3 c = search needs
 
 returns : tie.Need-returns
 returns c =
+    let s = c .before .before .before .before .before .before .before .before .before .before .before .before in
     omega (
       arith,
-      day-length (c .before .before .before .before .before .before .before .before .before .before .args .t1),
-      c .before .before .before .before .before .before .before .before .fates-width .ensures .0,
-      c .before .before .before .before .before .courses-width .ensures .0,
-      c .before .before .quantities-width .ensures .0,
+      day-length (s .args .t1),
+      c .before .before .before .before .before .before .before .before .before .before .fates-width .ensures .0,
+      c .before .before .before .before .before .before .before .courses-width .ensures .0,
+      c .before .before .before .before .quantities-width .ensures .0,
       c .closing-width .ensures .0,
+      ap (λ (e : Closing). length (closingLine e)) (c .before .closing-of .ensures),
     )
 
 pub day-width-spec : {M : Type 1} → statement M
@@ -49,6 +52,7 @@ day-width-spec =
     fates-width-requires
     courses-width-requires
     quantities-width-requires
+    closing-of-requires
     closing-width-requires
     add-result
     add-result-2

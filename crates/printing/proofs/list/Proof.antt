@@ -1,13 +1,9 @@
 use mathlib.Core.Path.{_∙_}
 use borrow.Author.Needs.{needs}
-use Rattle.day.proofs.Passed.{never}
+use Rattle.day.proofs.Answers.{never}
 use Rattle.printing.proofs.Whole.{holds, ask-open}
 use Rattle.printing.proofs.list.Statement.{statement}
 use Rattle.printing.proofs.list.Tie as tie
-use Rattle.printing.proofs.list.Reads as reads
-use Rattle.printing.proofs.list.Lts as lts
-use Rattle.printing.proofs.list_closed.Reads as list-closed-reads
-use Rattle.printing.proofs.refused.Reads as refused-reads
 
 refused-requires : tie.Need-refused-requires
 refused-requires c κs = search needs

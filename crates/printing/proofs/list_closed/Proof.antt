@@ -9,12 +9,6 @@ use Rattle.printing.specs.Parts.{someListing}
 use Rattle.printing.proofs.Whole.{holds, ask-short, ask-room}
 use Rattle.printing.proofs.list_closed.Statement.{statement}
 use Rattle.printing.proofs.list_closed.Tie as tie
-use Rattle.printing.proofs.list_closed.Reads as reads
-use Rattle.printing.proofs.list_closed.Lts as lts
-use Rattle.printing.proofs.accepted.Reads as accepted-reads
-use Rattle.printing.proofs.day_width.Reads as day-width-reads
-use Rattle.printing.proofs.put_day.Reads as put-day-reads
-use Rattle.printing.proofs.refused.Reads as refused-reads
 
 -- measured or known, it fits
 fits : (c : tie.Joined1) → let a = c .before .before .args in length (printedDay (a .day)) ≤ length (a .out .now)

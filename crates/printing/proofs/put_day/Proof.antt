@@ -1,28 +1,23 @@
 use Prim.Native.Nat.{ℕ, _+_, _-_, _≤_}
-use mathlib.Core.Path.{_≡_, refl, sym}
+use mathlib.Core.Path.{_≡_, refl, sym, ap, _∙_}
 use mathlib.Core.List.{List, [], _++_, append-nil}
 use native.Mathlib.Omega.{arith}
 use borrow.Author.Needs.{needs}
 use lib.ListN.{length, take, drop}
+use Rattle.text.specs.Text.{laid}
 use Rattle.text.proofs.Laws.{part-length}
 use Rattle.day.specs.declared.Day.{Day}
 use Rattle.listing.specs.Listing.{printedDay}
-use Rattle.printing.specs.Parts.{linesF, linesS, linesQ}
-use Rattle.daylines.specs.Rest.{closingLine}
+use Rattle.printing.specs.Parts.{linesF, linesS, linesQ, lineE}
 use Rattle.daylines.proofs.Laws.{Laying, lay-none, lay-first, lay-next, lay-more, lay-all}
 use Rattle.printing.proofs.Whole.{in-parts}
 use Rattle.printing.proofs.put_day.Statement.{statement}
 use Rattle.printing.proofs.put_day.Tie as tie
-use Rattle.printing.proofs.put_day.Reads as reads
-use Rattle.printing.proofs.put_day.Lts as lts
-use Rattle.daylines.proofs.put_closing.Reads as put-closing-reads
-use Rattle.daylines.proofs.put_courses.Reads as put-courses-reads
-use Rattle.daylines.proofs.put_fates.Reads as put-fates-reads
-use Rattle.daylines.proofs.put_quantities.Reads as put-quantities-reads
+use Rattle.daylines.specs.Rest.{closingLine}
 
 -- what is left after the S, and after the F lines
 abbrev fromQ : Day → List ℕ
-fromQ d = linesQ d ++ closingLine (d .closing)
+fromQ d = linesQ d ++ lineE d
 
 abbrev fromS : Day → List ℕ
 fromS d = linesS d ++ fromQ d
@@ -31,62 +26,72 @@ fromS d = linesS d ++ fromQ d
 abbrev with-tail : List ℕ → ℕ → List ℕ → List ℕ
 with-tail out at q = take at out ++ (q ++ drop (length out - at) (drop at out))
 
+-- back from after the Q lines to after the S, the F lines, and the function's start
+abbrev at-courses : tie.After-slice-known4 → tie.After-slice-known3
+at-courses c = c .before .before .before .before .before .before
+
+abbrev at-fates : tie.After-slice-known3 → tie.After-slice-known2
+at-fates c = c .before .before .before .before .before .before
+
+abbrev start : tie.After-slice-known2 → tie.Start
+start c = c .before .before .before .before .before .before
+
 -- after the F, the S and the Q lines: what lies in the slice, and up to where
 abbrev out-f : (c : tie.After-slice-known2) → List ℕ
 out-f c = c .before .before .put-fates .last .0
 
-after-f : (c : tie.After-slice-known2) → let a = c .before .before .before .before .before .before .args in Laying (printedDay (a .t2)) (fromS (a .t2)) (a .out .now) (out-f c) (c .before .before .put-fates .result)
+after-f : (c : tie.After-slice-known2) → let a = start c .args in Laying (printedDay (a .t2)) (fromS (a .t2)) (a .out .now) (out-f c) (c .before .before .put-fates .result)
 after-f c =
-    let a = c .before .before .before .before .before .before .args in
+    let a = start c .args in
     let p = c .before .before .put-fates in
     lay-first (printedDay (a .t2)) (linesF (a .t2)) (fromS (a .t2)) (a .out .now) (out-f c) (p .result) (in-parts (a .t2)) (p .ensures .0) (p .ensures .1)
 
 abbrev out-s : (c : tie.After-slice-known3) → List ℕ
-out-s c = let b = c .before .before .before .before .before .before in with-tail (out-f b) (b .before .before .put-fates .result) (c .before .before .put-courses .last .0)
+out-s c = let b = at-fates c in with-tail (out-f b) (b .before .before .put-fates .result) (c .before .before .put-courses .last .0)
 
 abbrev at-s : (c : tie.After-slice-known3) → ℕ
-at-s c = c .before .before .before .before .before .before .before .before .put-fates .result + c .before .before .put-courses .result
+at-s c = at-fates c .before .before .put-fates .result + c .before .before .put-courses .result
 
-after-s : (c : tie.After-slice-known3) → let a = c .before .before .before .before .before .before .before .before .before .before .before .before .args in Laying (printedDay (a .t2)) (fromQ (a .t2)) (a .out .now) (out-s c) (at-s c)
+after-s : (c : tie.After-slice-known3) → let a = start (at-fates c) .args in Laying (printedDay (a .t2)) (fromQ (a .t2)) (a .out .now) (out-s c) (at-s c)
 after-s c =
-    let s = c .before .before .before .before .before .before .before .before .before .before .before .before in
+    let s = start (at-fates c) in
     let d = s .args .t2 in
-    let b = c .before .before .before .before .before .before in
+    let b = at-fates c in
     let p = c .before .before .put-courses in
     lay-more (printedDay d) (fromS d) (linesS d) (fromQ d) (s .args .out .now) (out-f b) (p .last .0) (b .before .before .put-fates .result) (p .result) (s .pre) refl (after-f b) (p .ensures .0) (p .ensures .1)
 
 abbrev out-q : (c : tie.After-slice-known4) → List ℕ
-out-q c = let b = c .before .before .before .before .before .before in with-tail (out-s b) (at-s b) (c .before .before .put-quantities .last .0)
+out-q c = let b = at-courses c in with-tail (out-s b) (at-s b) (c .before .before .put-quantities .last .0)
 
 abbrev at-q : (c : tie.After-slice-known4) → ℕ
-at-q c = at-s (c .before .before .before .before .before .before) + c .before .before .put-quantities .result
+at-q c = at-s (at-courses c) + c .before .before .put-quantities .result
 
-after-q : (c : tie.After-slice-known4) → let a = c .before .before .before .before .before .before .before .before .before .before .before .before .before .before .before .before .before .before .args in Laying (printedDay (a .t2)) (closingLine (a .t2 .closing)) (a .out .now) (out-q c) (at-q c)
+after-q : (c : tie.After-slice-known4) → let a = start (at-fates (at-courses c)) .args in Laying (printedDay (a .t2)) (lineE (a .t2)) (a .out .now) (out-q c) (at-q c)
 after-q c =
-    let s = c .before .before .before .before .before .before .before .before .before .before .before .before .before .before .before .before .before .before in
+    let s = start (at-fates (at-courses c)) in
     let d = s .args .t2 in
-    let b = c .before .before .before .before .before .before in
+    let b = at-courses c in
     let p = c .before .before .put-quantities in
-    lay-more (printedDay d) (fromQ d) (linesQ d) (closingLine (d .closing)) (s .args .out .now) (out-s b) (p .last .0) (at-s b) (p .result) (s .pre) refl (after-s b) (p .ensures .0) (p .ensures .1)
+    lay-more (printedDay d) (fromQ d) (linesQ d) (lineE d) (s .args .out .now) (out-s b) (p .last .0) (at-s b) (p .result) (s .pre) refl (after-s b) (p .ensures .0) (p .ensures .1)
 
 -- the room of the part that comes next
-room-s : (c : tie.After-slice-known2) → let a = c .before .before .before .before .before .before .args in (c .before .before .put-fates .result + length (linesS (a .t2)) ≤ length (out-f c)) × (length (out-f c) ≡ length (a .out .now))
+room-s : (c : tie.After-slice-known2) → let a = start c .args in (c .before .before .put-fates .result + length (linesS (a .t2)) ≤ length (out-f c)) × (length (out-f c) ≡ length (a .out .now))
 room-s c =
-    let s = c .before .before .before .before .before .before in
+    let s = start c in
     let d = s .args .t2 in
     lay-next (printedDay d) (fromS d) (linesS d) (fromQ d) (s .args .out .now) (out-f c) (c .before .before .put-fates .result) (s .pre) refl (after-f c)
 
-room-q : (c : tie.After-slice-known3) → let a = c .before .before .before .before .before .before .before .before .before .before .before .before .args in (at-s c + length (linesQ (a .t2)) ≤ length (out-s c)) × (length (out-s c) ≡ length (a .out .now))
+room-q : (c : tie.After-slice-known3) → let a = start (at-fates c) .args in (at-s c + length (linesQ (a .t2)) ≤ length (out-s c)) × (length (out-s c) ≡ length (a .out .now))
 room-q c =
-    let s = c .before .before .before .before .before .before .before .before .before .before .before .before in
+    let s = start (at-fates c) in
     let d = s .args .t2 in
-    lay-next (printedDay d) (fromQ d) (linesQ d) (closingLine (d .closing)) (s .args .out .now) (out-s c) (at-s c) (s .pre) refl (after-s c)
+    lay-next (printedDay d) (fromQ d) (linesQ d) (lineE d) (s .args .out .now) (out-s c) (at-s c) (s .pre) refl (after-s c)
 
-room-e : (c : tie.After-slice-known4) → let a = c .before .before .before .before .before .before .before .before .before .before .before .before .before .before .before .before .before .before .args in (at-q c + length (closingLine (a .t2 .closing)) ≤ length (out-q c)) × (length (out-q c) ≡ length (a .out .now))
+room-e : (c : tie.After-slice-known4) → let a = start (at-fates (at-courses c)) .args in (at-q c + length (lineE (a .t2)) ≤ length (out-q c)) × (length (out-q c) ≡ length (a .out .now))
 room-e c =
-    let s = c .before .before .before .before .before .before .before .before .before .before .before .before .before .before .before .before .before .before in
+    let s = start (at-fates (at-courses c)) in
     let d = s .args .t2 in
-    let e : List ℕ = closingLine (d .closing) in
+    let e : List ℕ = lineE d in
     lay-next (printedDay d) e e [] (s .args .out .now) (out-q c) (at-q c) (s .pre) (sym (append-nil e)) (after-q c)
 
 put-fates-requires : tie.Need-put-fates-requires
@@ -126,34 +131,43 @@ put-quantities-requires c κs = let b = c .before .before .before in omega (arit
 add-at-2 : tie.Need-add-at-2
 add-at-2 c = omega (arith, room-q (c .before .before .before .before .before .before), c .before .before .put-quantities .ensures .0)
 
+closing-of-requires : tie.Need-closing-of-requires
+closing-of-requires c κs = search needs
+
+-- the line that is written is the day's
+line-e : (c : tie.After-closing-of) → closingLine (c .closing-of .result) ≡ lineE (start (at-fates (at-courses (c .before .before .before))) .args .t2)
+line-e c = ap closingLine (c .closing-of .ensures)
+
 sub-put-closing : tie.Need-sub-put-closing
-sub-put-closing c = omega (arith, room-e (c .before))
+sub-put-closing c = omega (arith, room-e (c .before .before .before))
 
 part-put-closing-start : tie.Need-part-put-closing-start
-part-put-closing-start c = omega (arith, room-e (c .before))
+part-put-closing-start c = omega (arith, room-e (c .before .before .before))
 
 part-put-closing-end : tie.Need-part-put-closing-end
 part-put-closing-end c = search needs
 
 put-closing-requires : tie.Need-put-closing-requires
-put-closing-requires c κs = let b = c .before .before in omega (arith, part-length (at-q b) (out-q b), room-e b)
+put-closing-requires c κs = let b = c .before .before .before .before in omega (arith, part-length (at-q b) (out-q b), room-e b, ap length (line-e (c .before)))
 
 add-at-3 : tie.Need-add-at-3
-add-at-3 c = omega (arith, room-e (c .before .before .before .before .before), c .before .before .put-closing .ensures .0)
+add-at-3 c = omega (arith, room-e (c .before .before .before .before .before .before .before), c .before .before .put-closing .ensures .0, ap length (line-e (c .before .before .before .before)))
 
 same-length : tie.Need-same-length
 same-length c = search needs
 
 returns : tie.Need-returns
 returns c =
-    let s = c .before .before .before .before .before .before .before .before .before .before .before .before .before .before .before .before .before .before .before .before .before .before .before in
+    let b = c .before .before .before .before .before .before .before in
+    let s = start (at-fates (at-courses b)) in
     let d = s .args .t2 in
     let o = s .args .out .now in
-    let b = c .before .before .before .before .before in
     let p = c .before .before .put-closing in
-    let e : List ℕ = closingLine (d .closing) in
+    let e : List ℕ = lineE d in
+    let here = line-e (c .before .before .before .before) in
+    let free : List ℕ = take (length (out-q b) - at-q b) (drop (at-q b) (out-q b)) in
     lay-all (printedDay d) [] o (with-tail (out-q b) (at-q b) (p .last .0)) (at-q b + p .result) refl
-    (lay-more (printedDay d) e e [] o (out-q b) (p .last .0) (at-q b) (p .result) (s .pre) (sym (append-nil e)) (after-q b) (p .ensures .0) (p .ensures .1))
+    (lay-more (printedDay d) e e [] o (out-q b) (p .last .0) (at-q b) (p .result) (s .pre) (sym (append-nil e)) (after-q b) (p .ensures .0 ∙ ap length here) (p .ensures .1 ∙ ap (λ (x : List ℕ). laid x free) here))
 
 pub put-day-spec : {M : Type 1} → statement M
 put-day-spec =
@@ -170,6 +184,7 @@ put-day-spec =
     part-put-quantities-end
     put-quantities-requires
     add-at-2
+    closing-of-requires
     sub-put-closing
     part-put-closing-start
     part-put-closing-end

@@ -4,9 +4,6 @@ use lib.Seq.{length-take-le}
 use borrow.Author.Needs.{needs}
 use Rattle.profiler.proofs.list_first.Statement.{statement}
 use Rattle.profiler.proofs.list_first.Tie as tie
-use Rattle.profiler.proofs.list_first.Reads as reads
-use Rattle.profiler.proofs.list_first.Lts as lts
-use Rattle.gristpebble.proofs.gristpebble_listing.Reads as gristpebble-listing-reads
 
 returns : tie.Need-returns
 returns c = search needs

@@ -5,10 +5,6 @@ use lib.ListN.{length}
 use borrow.Author.Needs.{needs}
 use Rattle.profiler.proofs.list_input.Statement.{statement}
 use Rattle.profiler.proofs.list_input.Tie as tie
-use Rattle.profiler.proofs.list_input.Reads as reads
-use Rattle.profiler.proofs.list_input.Lts as lts
-use Rattle.profiler.proofs.list_first.Reads as list-first-reads
-use Rattle.profiler.proofs.read_on.Reads as read-on-reads
 
 abbrev Inv-loop : tie.InvT-loop
 Inv-loop buf₀ out₀ n₀ result₀ buf out n result = (length buf ≡ length buf₀) × (length out ≡ length out₀)

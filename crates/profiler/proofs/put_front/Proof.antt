@@ -4,9 +4,6 @@ use lib.Seq.{length-take-le}
 use borrow.Author.Needs.{needs}
 use Rattle.profiler.proofs.put_front.Statement.{statement}
 use Rattle.profiler.proofs.put_front.Tie as tie
-use Rattle.profiler.proofs.put_front.Reads as reads
-use Rattle.profiler.proofs.put_front.Lts as lts
-use Rattle.io.proofs.write_all.Reads as write-all-reads
 
 returns : tie.Need-returns
 returns c = search needs

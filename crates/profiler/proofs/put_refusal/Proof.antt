@@ -4,10 +4,6 @@ use Rattle.text.proofs.Laws.{word-width}
 use Rattle.lines.proofs.Widths.{x-length}
 use Rattle.profiler.proofs.put_refusal.Statement.{statement}
 use Rattle.profiler.proofs.put_refusal.Tie as tie
-use Rattle.profiler.proofs.put_refusal.Reads as reads
-use Rattle.profiler.proofs.put_refusal.Lts as lts
-use Rattle.lines.proofs.put_x.Reads as put-x-reads
-use Rattle.profiler.proofs.put_front.Reads as put-front-reads
 
 slice-aggregate-put-x : tie.Need-slice-aggregate-put-x
 slice-aggregate-put-x c = search needs

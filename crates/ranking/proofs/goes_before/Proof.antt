@@ -1,5 +1,6 @@
 use native.Mathlib.Omega.{arith}
 use mathlib.Core.Path.{sym, _∙_}
+use borrow.Author.Tests.{not-true, not-false}
 use Rattle.ranking.proofs.Ranks.{goes-rank, goes-other, goes-second, goes-level}
 use borrow.Author.Needs.{needs}
 use Rattle.ranking.proofs.goes_before.Statement.{statement}
@@ -8,21 +9,21 @@ use Rattle.ranking.proofs.goes_before.Tie as tie
 returns : tie.Need-returns
 returns c = goes-rank _ _ (omega arith)
 
-code-of-requires : tie.Need-code-of-requires
-code-of-requires c κs = search needs
+has-code-requires : tie.Need-has-code-requires
+has-code-requires c κs = search needs
 
 returns-2 : tie.Need-returns-2
-returns-2 c = goes-other _ _ (omega arith) (λ e. c .if2 .taken (c .before .code-of .ensures ∙ e))
+returns-2 c = goes-other _ _ (omega arith) (sym (c .before .has-code .ensures) ∙ not-true _ (c .if2 .taken))
 
-code-of-requires-2 : tie.Need-code-of-requires-2
-code-of-requires-2 c κs = search needs
+has-code-requires-2 : tie.Need-has-code-requires-2
+has-code-requires-2 c κs = search needs
 
 returns-3 : tie.Need-returns-3
-returns-3 c = goes-second _ _ (omega arith) (sym (c .before .before .before .code-of .ensures) ∙ c .before .before .if2 .left) (λ e. c .if3 .taken (c .before .code-of2 .ensures ∙ e))
+returns-3 c = goes-second _ _ (omega arith) (sym (c .before .before .before .has-code .ensures) ∙ not-false _ (c .before .before .if2 .left)) (sym (c .before .has-code2 .ensures) ∙ not-true _ (c .if3 .taken))
 
 returns-4 : tie.Need-returns-4
-returns-4 c = goes-level _ _ (omega arith) (sym (c .before .before .before .before .before .code-of .ensures) ∙ c .before .before .before .before .if2 .left) (sym (c .before .before .before .code-of2 .ensures) ∙ c .before .before .if3 .left)
+returns-4 c = goes-level _ _ (omega arith) (sym (c .before .before .before .before .before .has-code .ensures) ∙ not-false _ (c .before .before .before .before .if2 .left)) (sym (c .before .before .before .has-code2 .ensures) ∙ not-false _ (c .before .before .if3 .left))
 
 pub goes-before-spec : {M : Type 1} → statement M
 goes-before-spec =
-    tie.close (tie.spec returns code-of-requires returns-2 code-of-requires-2 returns-3 returns-4)
+    tie.close (tie.spec returns has-code-requires returns-2 has-code-requires-2 returns-3 returns-4)

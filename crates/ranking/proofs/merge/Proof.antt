@@ -1,16 +1,17 @@
 use mathlib.Core.Path.{sym, ap, _∙_}
 use mathlib.Core.List.{[], _∷_}
 use Rattle.validation.specs.declared.Numbered.{Numbered}
+use borrow.Author.Tests.{not-true, not-false}
 use Rattle.ranking.proofs.Ranks.{merged-other, merged-into, merged-alone}
 use borrow.Author.Needs.{needs}
 use Rattle.ranking.proofs.merge.Statement.{statement}
 use Rattle.ranking.proofs.merge.Tie as tie
 
-code-of-requires : tie.Need-code-of-requires
-code-of-requires c κs = search needs
+has-code-requires : tie.Need-has-code-requires
+has-code-requires c κs = search needs
 
 returns : tie.Need-returns
-returns c = λ g e. merged-other _ _ (λ q. c .if1 .taken (c .before .code-of .ensures ∙ q))
+returns c = λ g e. merged-other _ _ (sym (c .before .has-code .ensures) ∙ not-true _ (c .if1 .taken))
 
 enum-known-carrier : tie.Need-enum-known-carrier
 enum-known-carrier c = search needs
@@ -24,18 +25,18 @@ enum-told c = search needs
 returns-2 : tie.Need-returns-2
 returns-2 c =
     let a = c .before .before .before .before .before .before .args in
-    λ g e. ap (λ (o : Numbered). o ∷ []) (c .carry .ensures) ∙ merged-into g (a .highest) (a .carrier) _ (sym (c .before .before .before .before .before .code-of .ensures) ∙ c .before .before .before .before .if1 .left) e (c .before .before .carrier .given .1)
+    λ g e. ap (λ (o : Numbered). o ∷ []) (c .carry .ensures) ∙ merged-into g (a .highest) (a .carrier) _ (sym (c .before .before .before .before .before .has-code .ensures) ∙ not-false _ (c .before .before .before .before .if1 .left)) e (c .before .before .carrier .given .1)
 
 returns-3 : tie.Need-returns-3
 returns-3 c =
     let a = c .before .before .before .before .args in
-    λ g e. merged-alone g (a .highest) (a .carrier) (sym (c .before .before .before .code-of .ensures) ∙ c .before .before .if1 .left) e (c .enum-told .given .1)
+    λ g e. merged-alone g (a .highest) (a .carrier) (sym (c .before .before .before .has-code .ensures) ∙ not-false _ (c .before .before .if1 .left)) e (c .enum-told .given .1)
 
 pub merge-spec : {M : Type 1} → statement M
 merge-spec =
     tie.close
     (tie.spec
-    code-of-requires
+    has-code-requires
     returns
     enum-known-carrier
     carry-requires

@@ -1,6 +1,6 @@
 use mathlib.Core.Path.{sym, ap, _∙_}
-use Rattle.validation.specs.Kept.{orElse, present}
-use Rattle.ranking.specs.Found.{foundList, earliest}
+use Rattle.validation.specs.Kept.{orElse}
+use Rattle.ranking.specs.Found.{foundList}
 use Rattle.ranking.proofs.Ranks.{used-best, used-none}
 use borrow.Author.Needs.{needs}
 use Rattle.ranking.proofs.used_of.Statement.{statement}
@@ -19,7 +19,6 @@ enum-told : tie.Need-enum-told
 enum-told c = search needs
 
 returns : tie.Need-returns
-unfolding earliest present
 returns c =
     λ g p q r. c .merge .ensures g (c .before .or-else .ensures ∙ (λ j. orElse (q j) (r j))) ∙ used-best g _ (sym (ap foundList (c .before .before .before .best .given .1)) ∙ p)
 

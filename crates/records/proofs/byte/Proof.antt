@@ -4,8 +4,6 @@ use lib.ListN.{List·getD-eq-default}
 use borrow.Author.Needs.{needs}
 use Rattle.records.proofs.byte.Statement.{statement}
 use Rattle.records.proofs.byte.Tie as tie
-use Rattle.records.proofs.byte.Reads as reads
-use Rattle.records.proofs.byte.Lts as lts
 
 shared-slice-read-result : tie.Need-shared-slice-read-result
 shared-slice-read-result c = search needs

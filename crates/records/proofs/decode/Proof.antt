@@ -3,9 +3,6 @@ use borrow.Author.Needs.{needs}
 use Rattle.records.specs.Codes.{meaningOf}
 use Rattle.records.proofs.decode.Statement.{statement}
 use Rattle.records.proofs.decode.Tie as tie
-use Rattle.records.proofs.decode.Reads as reads
-use Rattle.records.proofs.decode.Lts as lts
-use Rattle.records.proofs.means.Reads as means-reads
 
 means-requires : tie.Need-means-requires
 means-requires c κs = search needs

@@ -1,8 +1,6 @@
 use borrow.Author.Needs.{needs}
 use Rattle.records.proofs.refusal_number.Statement.{statement}
 use Rattle.records.proofs.refusal_number.Tie as tie
-use Rattle.records.proofs.refusal_number.Reads as reads
-use Rattle.records.proofs.refusal_number.Lts as lts
 
 enum-told : tie.Need-enum-told
 enum-told c = search needs

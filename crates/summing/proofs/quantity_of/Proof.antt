@@ -3,8 +3,6 @@ use Rattle.profile.specs.Profile.{rounded}
 use borrow.Author.Needs.{needs}
 use Rattle.summing.proofs.quantity_of.Statement.{statement}
 use Rattle.summing.proofs.quantity_of.Tie as tie
-use Rattle.summing.proofs.quantity_of.Reads as reads
-use Rattle.summing.proofs.quantity_of.Lts as lts
 
 returns : tie.Need-returns
 unfolding rounded

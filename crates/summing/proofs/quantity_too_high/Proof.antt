@@ -1,4 +1,4 @@
-use mathlib.Core.Path.{_≡_, refl, sym, _∙_}
+use mathlib.Core.Path.{_≡_, refl, ap, sym, _∙_}
 use native.Mathlib.Omega.{arith}
 use Prim.Native.Nat.{ℕ, _+_, _*_, _-_, _≤_}
 use borrow.Author.Needs.{needs}
@@ -6,14 +6,12 @@ use Rattle.summing.specs.Summing.{someAbove}
 use Rattle.summing.proofs.Above.{above-here, above-next, above-none}
 use Rattle.summing.proofs.quantity_too_high.Statement.{statement}
 use Rattle.summing.proofs.quantity_too_high.Tie as tie
-use Rattle.summing.proofs.quantity_too_high.Reads as reads
-use Rattle.summing.proofs.quantity_too_high.Lts as lts
 
 abbrev Inv-loop : tie.InvT-loop
-Inv-loop sums limit i₀ i = (i ≤ 48) × ((most : ℕ) → limit ≡ most * 216000 + 108000 → someAbove most sums i (48 - i) ≡ someAbove most sums 0 48)
+Inv-loop halves sums limit end i₀ i = (i ≤ halves) × ((most : ℕ) → limit ≡ most * 216000 + 108000 → someAbove most sums i (halves - i) ≡ someAbove most sums 0 halves)
 
 abbrev μ-loop : tie.MeasureT-loop
-μ-loop sums limit i₀ i = 48 - i
+μ-loop halves sums limit end i₀ i = halves - i
 
 cast-limit : tie.Need-cast-limit Inv-loop μ-loop
 cast-limit c = search needs
@@ -25,7 +23,7 @@ add-limit : tie.Need-add-limit Inv-loop μ-loop
 add-limit c = omega arith
 
 loop-holds : tie.Need-loop-holds Inv-loop μ-loop
-loop-holds c = (omega arith, λ m e. refl)
+loop-holds c = (omega arith, λ m e. ap (someAbove m (c .before .args .t2) 0) {x = c .before .args .halves - 0} {y = c .before .args .halves} (omega arith))
 
 mul-before : tie.Need-mul-before Inv-loop μ-loop
 mul-before c = omega arith
@@ -49,13 +47,13 @@ loop-again : tie.Need-loop-again Inv-loop μ-loop
 loop-again c =
     let s = c .before .before .before .before in
     let l = c .before .before .loop in
-    (omega arith, λ m e. sym (above-next m (s .args .t2) (l .i) (omega arith) (omega arith)) ∙ l .inv .1 m e)
+    (omega arith, λ m e. sym (above-next m (s .args .t2) (s .args .halves) (l .i) (omega arith) (omega arith)) ∙ l .inv .1 m e)
 
 returns : tie.Need-returns Inv-loop μ-loop
 returns c =
     let s = c .before .before .before .before .before in
     let l = c .before .before .before .loop in
-    sym (above-here (s .args .u .maximum) (s .args .t2) (l .i) (omega arith) (omega arith)) ∙ l .inv .1 (s .args .u .maximum) refl
+    sym (above-here (s .args .u .maximum) (s .args .t2) (s .args .halves) (l .i) (omega arith) (omega arith)) ∙ l .inv .1 (s .args .u .maximum) refl
 
 loop-less-2 : tie.Need-loop-less-2 Inv-loop μ-loop
 loop-less-2 c = omega arith
@@ -64,13 +62,13 @@ loop-again-2 : tie.Need-loop-again-2 Inv-loop μ-loop
 loop-again-2 c =
     let s = c .before .before .before .before .before in
     let l = c .before .before .before .loop in
-    (omega arith, λ m e. sym (above-next m (s .args .t2) (l .i) (omega arith) (omega arith)) ∙ l .inv .1 m e)
+    (omega arith, λ m e. sym (above-next m (s .args .t2) (s .args .halves) (l .i) (omega arith) (omega arith)) ∙ l .inv .1 m e)
 
 returns-2 : tie.Need-returns-2 Inv-loop μ-loop
 returns-2 c =
     let s = c .before .before .before in
     let l = c .before .loop in
-    sym (above-none (s .args .u .maximum) (s .args .t2) (l .i) (omega arith)) ∙ l .inv .1 (s .args .u .maximum) refl
+    sym (above-none (s .args .u .maximum) (s .args .t2) (s .args .halves) (l .i) (omega arith)) ∙ l .inv .1 (s .args .u .maximum) refl
 
 pub quantity-too-high-spec : {M : Type 1} → statement M
 quantity-too-high-spec =

@@ -156,16 +156,16 @@ module _ {M : Type 1} (𝓤 : URA M) (H : Heap 𝓤) (A : Atoms 𝓤) (W : Given
         pass1 ! (init ! 6 refl (LL.lawful N L 𝓤 H A W .typed t _ pt .0)) $
         pass1 ! (init ! 4 refl (shr-slice-lawful 𝓤 H A W (named 0) κ u8 .typed s (v ∷ []) ps .0)) $ pass0 ! $
         -- [room for _4; …; room for _3; …; _2; …; _1; …; room for _0; …; entry]
-        assigns ! (of-opd ! (load ! (from ! (fld ! {τ = τ₀} {d = 0} refl (stop !))) (look-in ! 6 (sub ! {ν = shape N .name} {τs = toTys (mirs (rows (N .parts)))} 0 {τ = τ₀} {d = 0} refl (whole !))))) (from ! (stop !)) (init ! 2 refl (LL.lawful S.the-type S′.the-laws 𝓤 H A W .typed (t .stepped) _ (LL.owed N L t _ pt .0) .0)) $
-        assigns ! (of-opd ! (load ! (from ! (fld ! {τ = τ₁} {d = 3200} refl (stop !))) (look-in ! 6 (sub ! {ν = shape N .name} {τs = toTys (mirs (rows (N .parts)))} 1 {τ = τ₁} {d = 3200} refl (whole !))))) (from ! (stop !)) (init ! 0 refl (shr-slice-lawful 𝓤 H A W erased κ u8 .typed (t .rest) (w ∷ []) (LL.owed N L t _ pt .1 .0) .0)) $
+        assigns ! (of-opd ! (load ! (from ! (fld ! {τ = τ₀} {d = 0} refl (stop !))) (look-in ! 6 (sub ! {ν = shape N .name} {τs = toTys (mirs (rows (N .parts)))} 0 {τ = τ₀} {d = 0} refl (whole !))))) (from ! (stop !)) (init ! 2 {τ = τ₀} refl (LL.lawful S.the-type S′.the-laws 𝓤 H A W .typed (t .stepped) _ (LL.owed N L t _ pt .0) .0)) $
+        assigns ! (of-opd ! (load ! (from ! (fld ! {τ = τ₁} {d = 3256} refl (stop !))) (look-in ! 6 (sub ! {ν = shape N .name} {τs = toTys (mirs (rows (N .parts)))} 1 {τ = τ₁} {d = 3256} refl (whole !))))) (from ! (stop !)) (init ! 0 refl (shr-slice-lawful 𝓤 H A W erased κ u8 .typed (t .rest) (w ∷ []) (LL.owed N L t _ pt .1 .0) .0)) $
         move ! (10 ∷ []) $ use1 W (raw (Cnt 𝓤 H A mem run .pre to) ⊛ (‵ OwnT ⊛ ‵ OwnS)) goes $ split ! $
-        calls-at ! fm (Cnt 𝓤 H A mem run) known to (and-then ! (load ! (from ! (stop !)) (look ! 4 refl)) (and-then ! (load ! (from ! (stop !)) (look ! 2 refl)) (and-then ! (load ! (from ! (stop !)) (look ! 6 refl)) (no-more !)))) (λ u.
+        calls-at ! fm (Cnt 𝓤 H A mem run) known to (and-then ! (load ! (from ! (stop !)) (look ! 4 {τ = τ₀} refl)) (and-then ! (load ! (from ! (stop !)) (look ! 2 refl)) (and-then ! (load ! (from ! (stop !)) (look ! 6 refl)) (no-more !)))) (λ u.
         use1 W (later (some (λ (r : Stepped). ((‵ (flft κ q) ⊛ ‵ ftrue) ⊛ ‵ (S.the-row .own r (u ∷ []))) ⊛ raw (ensured 𝓤 H A counted.ended (counted.clauses 𝓤 H A mem run) (κ, tt) (t .stepped, (t .rest, (s, tt))) tt r)))) (id⊢ 𝓤 _) $ await ! tt $ pick ! (λ r.
         split ! $ move ! (1 ∷ []) $ use1 W (raw (fact 𝓤 (r ≡ found))) (said r) $ heard ! (r ≡ found) (λ e. split ! $ move ! (1 ∷ []) $
         -- [result; token; struct and slice; _4; …; _3; …; _2; …; _1; …; room for _0; …]
         peeks ! S.the-row (Is S.the-row) (shows 𝓤 H A S.the-row) r (u ∷ []) (λ is.
-        land ! (from ! (stop !)) (init ! 11 refl (LL.lawful S.the-type S′.the-laws 𝓤 H A W .typed r _ is .0)) $
-        returns ! (look ! 11 refl) $ forget ! 3 refl $ forget ! 5 refl $ forget ! 7 refl $ forget ! 9 refl $ forget ! 11 refl $
+        land ! (from ! (stop !)) (init ! 11 {τ = τ₀} refl (LL.lawful S.the-type S′.the-laws 𝓤 H A W .typed r _ is .0)) $
+        returns ! (look ! 11 {τ = τ₀} refl) $ forget ! 3 refl $ forget ! 5 refl $ forget ! 7 refl $ forget ! 9 refl $ forget ! 11 refl $
         move ! (11 ∷ 12 ∷ []) $ free1 ! $ move ! (9 ∷ 10 ∷ []) $ free1 ! $ move ! (7 ∷ 8 ∷ []) $ free1 ! $ move ! (5 ∷ 6 ∷ []) $ free1 ! $ move ! (3 ∷ 4 ∷ []) $ free1 ! $ free0 ! $
         move ! (2 ∷ []) $ split ! $ move ! (2 ∷ 3 ∷ []) $ by ! (exits r u e))))))))))
 

@@ -3,8 +3,6 @@ use Rattle.level.proofs.Lists.{tail-is}
 use borrow.Author.Needs.{needs}
 use Rattle.taker.proofs.rest_after.Statement.{statement}
 use Rattle.taker.proofs.rest_after.Tie as tie
-use Rattle.taker.proofs.rest_after.Reads as reads
-use Rattle.taker.proofs.rest_after.Lts as lts
 
 sub-result : tie.Need-sub-result
 sub-result c = search needs

@@ -1,19 +1,12 @@
 use mathlib.Core.Path.{ap, _∙_}
+use Rattle.records.specs.Records.{closeSize}
 use Rattle.day.specs.declared.Day.{Day}
-use Rattle.entering.specs.Fronts.{accept}
-use Rattle.entering.proofs.Laws.{is-refused, is-taken}
+use Rattle.day.specs.Step.{accept}
+use Rattle.day.proofs.Answers.{is-refused, is-taken}
 use Rattle.taking.proofs.Closed.{close-early, close-refused, close-taken}
 use borrow.Author.Needs.{needs}
 use Rattle.taking.proofs.close_step.Statement.{statement}
 use Rattle.taking.proofs.close_step.Tie as tie
-use Rattle.taking.proofs.close_step.Reads as reads
-use Rattle.taking.proofs.close_step.Lts as lts
-use Rattle.entering.proofs.close_front.Reads as close-front-reads
-use Rattle.records.proofs.is_accepted.Reads as is-accepted-reads
-use Rattle.taking.proofs.accepted.Reads as accepted-reads
-use Rattle.taking.proofs.closed_with.Reads as closed-with-reads
-use Rattle.taking.proofs.find_close.Reads as find-close-reads
-use Rattle.taking.proofs.refused.Reads as refused-reads
 
 close-front-requires : tie.Need-close-front-requires
 close-front-requires c κs = search needs
@@ -26,8 +19,8 @@ refused-requires c κs = search needs
 
 returns : tie.Need-returns
 returns c =
-    let early = c .before .before .before .close-front in
-    c .refused .ensures ∙ close-early _ (early .result) (early .ensures) (is-refused (early .result) _ (c .before .before .is-accepted .ensures) (c .before .if1 .taken))
+    let first = c .before .before .before .close-front in
+    c .refused .ensures ∙ close-early _ (first .result) (first .ensures) (is-refused (first .result) _ (c .before .before .is-accepted .ensures) (c .before .if1 .taken))
 
 find-close-requires : tie.Need-find-close-requires
 find-close-requires c κs = search needs
@@ -40,28 +33,24 @@ refused-requires-2 c κs = search needs
 
 returns-2 : tie.Need-returns-2
 returns-2 c =
-    let s = c .before .before .before .before .before .before .before .before in
-    let early = s .before .before .close-front in
+    let s = c .before .before .before .before .before in
+    let first = s .before .before .close-front in
     let read = c .before .before .before .before .find-close in
-    let first = is-taken (early .result) _ (s .before .is-accepted .ensures) (s .if1 .left) in
+    let begins = is-taken (first .result) _ (s .before .is-accepted .ensures) (s .if1 .left) in
     c .refused2 .ensures
-    ∙ close-refused _ (early .result) (early .ensures) first (read .result) (read .ensures) (is-refused (read .result .answer) _ (c .before .before .is-accepted2 .ensures) (c .before .if2 .taken))
+    ∙ close-refused _ (first .result) (first .ensures) begins (read .result) (read .ensures) (is-refused (read .result .answer) _ (c .before .before .is-accepted2 .ensures) (c .before .if2 .taken))
 
-closed-with-requires : tie.Need-closed-with-requires
-closed-with-requires c κs = search needs
-
-accepted-requires : tie.Need-accepted-requires
-accepted-requires c κs = search needs
+closed-day-requires : tie.Need-closed-day-requires
+closed-day-requires c κs = search needs
 
 returns-3 : tie.Need-returns-3
 returns-3 c =
-    let s = c .before .before .before .before .before .before .before .before .before in
-    let early = s .before .before .close-front in
-    let read = c .before .before .before .before .before .find-close in
-    let first = is-taken (early .result) _ (s .before .is-accepted .ensures) (s .if1 .left) in
-    c .accepted .ensures
-    ∙ (ap (λ (d : Day). accept d 1) (c .before .closed-with .ensures)
-    ∙ close-taken _ (early .result) (early .ensures) first (read .result) (read .ensures) (is-taken (read .result .answer) _ (c .before .before .before .is-accepted2 .ensures) (c .before .before .if2 .left)))
+    let s = c .before .before .before .before .before in
+    let first = s .before .before .close-front in
+    let read = c .before .before .before .before .find-close in
+    let begins = is-taken (first .result) _ (s .before .is-accepted .ensures) (s .if1 .left) in
+    ap (λ (d : Day). accept d closeSize) (c .closed-day .ensures)
+    ∙ close-taken _ (first .result) (first .ensures) begins (read .result) (read .ensures) (is-taken (read .result .answer) _ (c .before .before .is-accepted2 .ensures) (c .before .if2 .left))
 
 pub close-step-spec : {M : Type 1} → statement M
 close-step-spec =
@@ -75,6 +64,5 @@ close-step-spec =
     is-accepted-requires-2
     refused-requires-2
     returns-2
-    closed-with-requires
-    accepted-requires
+    closed-day-requires
     returns-3)

@@ -1,17 +1,15 @@
 use mathlib.Core.Path.{ap, _∙_}
-use Rattle.day.specs.declared.Day.{Day}
-use Rattle.entering.specs.Fronts.{accept, openingTaken}
-use Rattle.entering.proofs.Laws.{is-refused, is-taken, settle-refused, settle-taken}
+use Rattle.records.specs.Records.{openingSize}
+use Rattle.profile.specs.Taken.{startOf, takenWith}
+use Rattle.profile.specs.Profile.{paper}
+use Rattle.day.specs.Day.{foundIn, dayWith}
+use Rattle.day.specs.Step.{accept}
+use Rattle.day.proofs.Answers.{is-refused, is-taken, settle-refused, settle-taken}
+use Rattle.entering.specs.Fronts.{body}
+use Rattle.entering.proofs.Laws.{opening-step, opening-says}
 use borrow.Author.Needs.{needs}
 use Rattle.taking.proofs.opening_step.Statement.{statement}
 use Rattle.taking.proofs.opening_step.Tie as tie
-use Rattle.taking.proofs.opening_step.Reads as reads
-use Rattle.taking.proofs.opening_step.Lts as lts
-use Rattle.day.proofs.with_opening.Reads as with-opening-reads
-use Rattle.entering.proofs.opening_front.Reads as opening-front-reads
-use Rattle.records.proofs.is_accepted.Reads as is-accepted-reads
-use Rattle.taking.proofs.accepted.Reads as accepted-reads
-use Rattle.taking.proofs.refused.Reads as refused-reads
 
 opening-front-requires : tie.Need-opening-front-requires
 opening-front-requires c κs = search needs
@@ -24,23 +22,27 @@ refused-requires c κs = search needs
 
 returns : tie.Need-returns
 returns c =
+    let s = c .before .before .before .before .before .before .before in
     let read = c .before .before .before .opening-front in
     let no = is-refused (read .result .answer) _ (c .before .before .is-accepted .ensures) (c .before .if1 .taken) in
-    c .refused .ensures ∙ (settle-refused (read .result .answer) _ _ no ∙ ap (openingTaken _) (read .ensures))
+    c .refused .ensures ∙ (settle-refused (read .result .answer) _ _ no ∙ opening-step (foundIn paper) (s .args .day) (s .args .input .now) (read .result) (read .ensures) (s .pre))
 
-with-opening-requires : tie.Need-with-opening-requires
-with-opening-requires c κs = search needs
+start-of-requires : tie.Need-start-of-requires
+start-of-requires c κs = search needs
 
 accepted-requires : tie.Need-accepted-requires
 accepted-requires c κs = search needs
 
 returns-2 : tie.Need-returns-2
+unfolding dayWith takenWith
 returns-2 c =
-    let read = c .before .before .before .before .before .opening-front in
-    let yes = is-taken (read .result .answer) _ (c .before .before .before .before .is-accepted .ensures) (c .before .before .before .if1 .left) in
+    let s = c .before .before .before .before .before .before .before .before in
+    let read = c .before .before .before .before .opening-front in
+    let yes = is-taken (read .result .answer) _ (c .before .before .before .is-accepted .ensures) (c .before .before .if1 .left) in
+    let says = c .before .start-of .ensures ∙ ap startOf (opening-says (foundIn paper) (s .args .day) (s .args .input .now) (read .result) (read .ensures) yes) in
     c .accepted .ensures
-    ∙ (ap (λ (d : Day). accept d 17) (c .before .with-opening .ensures)
-    ∙ (settle-taken (read .result .answer) _ _ yes ∙ ap (openingTaken _) (read .ensures)))
+    ∙ (rw says (settle-taken (read .result .answer) _ (accept (dayWith (foundIn paper) (s .args .day) 2 (body openingSize (s .args .input .now))) openingSize) yes)
+    ∙ opening-step (foundIn paper) (s .args .day) (s .args .input .now) (read .result) (read .ensures) (s .pre))
 
 pub opening-step-spec : {M : Type 1} → statement M
 opening-step-spec =
@@ -50,6 +52,6 @@ opening-step-spec =
     is-accepted-requires
     refused-requires
     returns
-    with-opening-requires
+    start-of-requires
     accepted-requires
     returns-2)

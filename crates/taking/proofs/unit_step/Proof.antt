@@ -1,17 +1,15 @@
-use mathlib.Core.Path.{ap, _∙_}
-use Rattle.day.specs.declared.Day.{Day}
-use Rattle.entering.specs.Fronts.{accept, unitTaken}
-use Rattle.entering.proofs.Laws.{is-refused, is-taken, settle-refused, settle-taken}
+use mathlib.Core.Path.{_∙_}
+use Rattle.records.specs.Records.{unitSize}
+use Rattle.profile.specs.Taken.{takenWith}
+use Rattle.profile.specs.Profile.{paper}
+use Rattle.day.specs.Day.{foundIn, dayWith}
+use Rattle.day.specs.Step.{accept}
+use Rattle.day.proofs.Answers.{is-refused, is-taken, settle-refused, settle-taken}
+use Rattle.entering.specs.Fronts.{body}
+use Rattle.entering.proofs.Laws.{unit-step, unit-says}
 use borrow.Author.Needs.{needs}
 use Rattle.taking.proofs.unit_step.Statement.{statement}
 use Rattle.taking.proofs.unit_step.Tie as tie
-use Rattle.taking.proofs.unit_step.Reads as reads
-use Rattle.taking.proofs.unit_step.Lts as lts
-use Rattle.day.proofs.with_unit.Reads as with-unit-reads
-use Rattle.entering.proofs.unit_front.Reads as unit-front-reads
-use Rattle.records.proofs.is_accepted.Reads as is-accepted-reads
-use Rattle.taking.proofs.accepted.Reads as accepted-reads
-use Rattle.taking.proofs.refused.Reads as refused-reads
 
 unit-front-requires : tie.Need-unit-front-requires
 unit-front-requires c κs = search needs
@@ -24,23 +22,24 @@ refused-requires c κs = search needs
 
 returns : tie.Need-returns
 returns c =
+    let s = c .before .before .before .before .before .before .before in
     let read = c .before .before .before .before .unit-front in
     let no = is-refused (read .result .answer) _ (c .before .before .is-accepted .ensures) (c .before .if1 .taken) in
-    c .refused .ensures ∙ (settle-refused (read .result .answer) _ _ no ∙ ap (unitTaken _) (read .ensures))
-
-with-unit-requires : tie.Need-with-unit-requires
-with-unit-requires c κs = search needs
+    c .refused .ensures ∙ (settle-refused (read .result .answer) _ _ no ∙ unit-step (foundIn paper) (s .args .day) (s .args .input .now) (read .result) (read .ensures) (s .pre))
 
 accepted-requires : tie.Need-accepted-requires
 accepted-requires c κs = search needs
 
 returns-2 : tie.Need-returns-2
+unfolding dayWith takenWith
 returns-2 c =
-    let read = c .before .before .before .before .before .unit-front in
-    let yes = is-taken (read .result .answer) _ (c .before .before .before .is-accepted .ensures) (c .before .before .if1 .left) in
+    let s = c .before .before .before .before .before .before .before in
+    let read = c .before .before .before .before .unit-front in
+    let yes = is-taken (read .result .answer) _ (c .before .before .is-accepted .ensures) (c .before .if1 .left) in
+    let says = unit-says (foundIn paper) (s .args .day) (s .args .input .now) (read .result) (read .ensures) yes in
     c .accepted .ensures
-    ∙ (ap (λ (d : Day). accept d 249) (c .before .with-unit .ensures)
-    ∙ (settle-taken (read .result .answer) _ _ yes ∙ ap (unitTaken _) (read .ensures)))
+    ∙ (rw says (settle-taken (read .result .answer) _ (accept (dayWith (foundIn paper) (s .args .day) 1 (body unitSize (s .args .input .now))) unitSize) yes)
+    ∙ unit-step (foundIn paper) (s .args .day) (s .args .input .now) (read .result) (read .ensures) (s .pre))
 
 pub unit-step-spec : {M : Type 1} → statement M
 unit-step-spec =
@@ -50,6 +49,5 @@ unit-step-spec =
     is-accepted-requires
     refused-requires
     returns
-    with-unit-requires
     accepted-requires
     returns-2)

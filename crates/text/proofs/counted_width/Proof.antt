@@ -6,8 +6,6 @@ use Rattle.text.specs.Text.{decimal}
 use Rattle.text.proofs.Laws.{low-length, high-length, word-width}
 use Rattle.text.proofs.counted_width.Statement.{statement}
 use Rattle.text.proofs.counted_width.Tie as tie
-use Rattle.text.proofs.counted_width.Reads as reads
-use Rattle.text.proofs.counted_width.Lts as lts
 
 abbrev Inv-loop : tie.InvT-loop
 Inv-loop v left₀ width₀ left width = width + length (decimal left) ≡ length (decimal v) + 1

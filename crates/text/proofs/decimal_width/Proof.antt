@@ -4,9 +4,6 @@ use borrow.Author.Needs.{needs}
 use Rattle.text.proofs.Laws.{low-length, width-between}
 use Rattle.text.proofs.decimal_width.Statement.{statement}
 use Rattle.text.proofs.decimal_width.Tie as tie
-use Rattle.text.proofs.decimal_width.Reads as reads
-use Rattle.text.proofs.decimal_width.Lts as lts
-use Rattle.text.proofs.counted_width.Reads as counted-width-reads
 
 returns : tie.Need-returns
 returns c = (sym (low-length _ (omega arith)), omega arith)

@@ -8,9 +8,6 @@ use Rattle.text.specs.Text.{decimal, laid}
 use Rattle.text.proofs.Laws.{lastDigits, last-all, last-put, last-two, laid-length}
 use Rattle.text.proofs.put_decimal.Statement.{statement}
 use Rattle.text.proofs.put_decimal.Tie as tie
-use Rattle.text.proofs.put_decimal.Reads as reads
-use Rattle.text.proofs.put_decimal.Lts as lts
-use Rattle.text.proofs.decimal_width.Reads as decimal-width-reads
 
 abbrev Inv-loop : tie.InvT-loop
 Inv-loop out₀ v width left₀ i₀ out left i = (i ≤ 20) × (i ≤ length out) × (laid (lastDigits i left) out ≡ laid (decimal v) out₀)

@@ -8,9 +8,6 @@ use Rattle.text.specs.Text.{field, fields, line, laid}
 use Rattle.text.proofs.Laws.{begun, begun-more, begun-length, begun-all, line-length, room, room-more, start, over, laid-part, laid-length, laid-set, part-length}
 use Rattle.text.proofs.put_line.Statement.{statement}
 use Rattle.text.proofs.put_line.Tie as tie
-use Rattle.text.proofs.put_line.Reads as reads
-use Rattle.text.proofs.put_line.Lts as lts
-use Rattle.text.proofs.put_field.Reads as put-field-reads
 
 abbrev Inv-loop : tie.InvT-loop
 Inv-loop out₀ letter vs at₀ i₀ out at i = (i ≤ length vs) × (at ≡ length (begun letter vs i)) × (out ≡ laid (begun letter vs i) out₀)

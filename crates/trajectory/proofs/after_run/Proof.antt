@@ -7,10 +7,6 @@ use Rattle.trajectory.proofs.Rest.{left-is}
 use borrow.Author.Needs.{needs}
 use Rattle.trajectory.proofs.after_run.Statement.{statement}
 use Rattle.trajectory.proofs.after_run.Tie as tie
-use Rattle.trajectory.proofs.after_run.Reads as reads
-use Rattle.trajectory.proofs.after_run.Lts as lts
-use Rattle.trajectory.proofs.hold_from.Reads as hold-from-reads
-use Rattle.trajectory.proofs.moved.Reads as moved-reads
 
 mul-m : tie.Need-mul-m
 mul-m c = search needs

@@ -7,13 +7,6 @@ use Rattle.trajectory.proofs.Rest.{rest-stuck, rest-short, rest-run}
 use borrow.Author.Needs.{needs}
 use Rattle.trajectory.proofs.along_segment.Statement.{statement}
 use Rattle.trajectory.proofs.along_segment.Tie as tie
-use Rattle.trajectory.proofs.along_segment.Reads as reads
-use Rattle.trajectory.proofs.along_segment.Lts as lts
-use Rattle.trajectory.proofs.after_rest.Reads as after-rest-reads
-use Rattle.trajectory.proofs.after_run.Reads as after-run-reads
-use Rattle.trajectory.proofs.after_short.Reads as after-short-reads
-use Rattle.trajectory.proofs.arrived.Reads as arrived-reads
-use Rattle.trajectory.proofs.run_seconds.Reads as run-seconds-reads
 
 after-rest-requires : tie.Need-after-rest-requires
 after-rest-requires c κs = search needs

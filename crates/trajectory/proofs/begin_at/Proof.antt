@@ -9,11 +9,6 @@ use Rattle.trajectory.proofs.Rest.{reached-none, reached-found}
 use borrow.Author.Needs.{needs}
 use Rattle.trajectory.proofs.begin_at.Statement.{statement}
 use Rattle.trajectory.proofs.begin_at.Tie as tie
-use Rattle.trajectory.proofs.begin_at.Reads as reads
-use Rattle.trajectory.proofs.begin_at.Lts as lts
-use Rattle.rates.proofs.grains_of.Reads as grains-of-reads
-use Rattle.stops.proofs.segment_from.Reads as segment-from-reads
-use Rattle.trajectory.proofs.arrived.Reads as arrived-reads
 
 grains-of-requires : tie.Need-grains-of-requires
 grains-of-requires c κs = search needs

@@ -7,18 +7,11 @@ use Rattle.rates.specs.Ways.{headed, listsBy}
 use Rattle.trajectory.specs.declared.Reached.{Reached}
 use Rattle.trajectory.specs.Walk.{Reaches, Known, along, restAlong}
 use Rattle.trajectory.proofs.Onward.{onward-hold, onward-rest, onward-along, reaches-stop}
-use Rattle.trajectory.proofs.Rest.{past-apart, along-known}
+use Rattle.course.proofs.Rule.{past-not}
+use Rattle.trajectory.proofs.Rest.{along-known}
 use borrow.Author.Needs.{needs}
 use Rattle.trajectory.proofs.walk_on.Statement.{statement}
 use Rattle.trajectory.proofs.walk_on.Tie as tie
-use Rattle.trajectory.proofs.walk_on.Reads as reads
-use Rattle.trajectory.proofs.walk_on.Lts as lts
-use Rattle.rates.proofs.grains_of.Reads as grains-of-reads
-use Rattle.stops.proofs.segment_from.Reads as segment-from-reads
-use Rattle.trajectory.proofs.after_hold.Reads as after-hold-reads
-use Rattle.trajectory.proofs.after_rest.Reads as after-rest-reads
-use Rattle.trajectory.proofs.along_segment.Reads as along-segment-reads
-use Rattle.trajectory.proofs.arrived.Reads as arrived-reads
 
 along-segment-requires : tie.Need-along-segment-requires
 unfolding grains
@@ -33,7 +26,7 @@ returns c =
     let p = s .args .from .place in
     let k = s .pre .1 .1 (c .before .if1 .taken) in
     let e = c .along-segment .ensures ∙ ap (λ (x : Segment). record { place = along (headed (s .args .up)) (s .args .n) p x; rest = restAlong (s .args .n) p x }) (k .2) in (
-      ap (λ (r : Reached). r .place) e ∙ onward-along (headed (s .args .up)) (listsBy (s .args .l) (s .args .c)) (grains (s .args .c .target)) (s .args .n) p (omega (arith, k .0)) (past-apart (headed (s .args .up)) _ _ (k .1)),
+      ap (λ (r : Reached). r .place) e ∙ onward-along (headed (s .args .up)) (listsBy (s .args .l) (s .args .c)) (grains (s .args .c .target)) (s .args .n) p (omega (arith, k .0)) (past-not (headed (s .args .up)) _ _ (k .1)),
       subst (Known (headed (s .args .up)) (listsBy (s .args .l) (s .args .c)) (grains (s .args .c .target))) (sym e) (along-known (headed (s .args .up)) (listsBy (s .args .l) (s .args .c)) (grains (s .args .c .target)) (s .args .n) p (k .1)),
     )
 
@@ -88,7 +81,7 @@ returns-4 c =
     let p = s .args .from .place in
     let far = ahead-of (c .before .before) in
     let e = c .along-segment2 .ensures ∙ ap (λ (x : Segment). record { place = along (headed (s .args .up)) (s .args .n) p x; rest = restAlong (s .args .n) p x }) (c .before .segment-from .ensures) in (
-      ap (λ (r : Reached). r .place) e ∙ onward-along (headed (s .args .up)) (listsBy (s .args .l) (s .args .c)) (grains (s .args .c .target)) (s .args .n) p (c .before .before .before .before .before .if2 .left) (past-apart (headed (s .args .up)) _ _ far),
+      ap (λ (r : Reached). r .place) e ∙ onward-along (headed (s .args .up)) (listsBy (s .args .l) (s .args .c)) (grains (s .args .c .target)) (s .args .n) p (c .before .before .before .before .before .if2 .left) (past-not (headed (s .args .up)) _ _ far),
       subst (Known (headed (s .args .up)) (listsBy (s .args .l) (s .args .c)) (grains (s .args .c .target))) (sym e) (along-known (headed (s .args .up)) (listsBy (s .args .l) (s .args .c)) (grains (s .args .c .target)) (s .args .n) p far),
     )
 

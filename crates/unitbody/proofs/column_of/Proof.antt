@@ -2,9 +2,6 @@ use borrow.Author.Needs.{needs}
 use Rattle.records.specs.Records.{columnOf}
 use Rattle.unitbody.proofs.column_of.Statement.{statement}
 use Rattle.unitbody.proofs.column_of.Tie as tie
-use Rattle.unitbody.proofs.column_of.Reads as reads
-use Rattle.unitbody.proofs.column_of.Lts as lts
-use Rattle.unitbody.proofs.trigger_of.Reads as trigger-of-reads
 
 add-t9 : tie.Need-add-t9
 add-t9 c = search needs

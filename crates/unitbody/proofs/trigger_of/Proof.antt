@@ -3,8 +3,6 @@ use borrow.Author.Needs.{needs}
 use Rattle.records.specs.Records.{triggerOf}
 use Rattle.unitbody.proofs.trigger_of.Statement.{statement}
 use Rattle.unitbody.proofs.trigger_of.Tie as tie
-use Rattle.unitbody.proofs.trigger_of.Reads as reads
-use Rattle.unitbody.proofs.trigger_of.Lts as lts
 
 mul-t5 : tie.Need-mul-t5
 mul-t5 c = search needs

@@ -11,9 +11,6 @@ use lib.Seq.{take-suc-set, take-all}
 use Rattle.records.specs.Records.{numberAt, numbers}
 use Rattle.unitbody.proofs.unit_numbers.Statement.{statement}
 use Rattle.unitbody.proofs.unit_numbers.Tie as tie
-use Rattle.unitbody.proofs.unit_numbers.Reads as reads
-use Rattle.unitbody.proofs.unit_numbers.Lts as lts
-use Rattle.records.proofs.number.Reads as number-reads
 
 abbrev Inv-loop : tie.InvT-loop
 Inv-loop s out₀ i₀ out i = (i ≤ 62) × (length out ≡ 62) × (take i out ≡ numbers s i)

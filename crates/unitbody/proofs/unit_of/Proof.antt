@@ -5,11 +5,6 @@ use borrow.Author.Needs.{needs}
 use Rattle.records.specs.Records.{triggerOf, columnOf, unitOf}
 use Rattle.unitbody.proofs.unit_of.Statement.{statement}
 use Rattle.unitbody.proofs.unit_of.Tie as tie
-use Rattle.unitbody.proofs.unit_of.Reads as reads
-use Rattle.unitbody.proofs.unit_of.Lts as lts
-use Rattle.unitbody.proofs.column_of.Reads as column-of-reads
-use Rattle.unitbody.proofs.ramp_of.Reads as ramp-of-reads
-use Rattle.unitbody.proofs.trigger_of.Reads as trigger-of-reads
 
 column-of-requires : tie.Need-column-of-requires
 column-of-requires c κs = search needs
@@ -20,8 +15,8 @@ column-of-requires-2 c κs = search needs
 column-of-requires-3 : tie.Need-column-of-requires-3
 column-of-requires-3 c κs = search needs
 
-ramp-of-requires : tie.Need-ramp-of-requires
-ramp-of-requires c κs = search needs
+ramp-at-requires : tie.Need-ramp-at-requires
+ramp-at-requires c κs = search needs
 
 trigger-of-requires : tie.Need-trigger-of-requires
 trigger-of-requires c κs = search needs
@@ -32,8 +27,8 @@ trigger-of-requires-2 c κs = search needs
 trigger-of-requires-3 : tie.Need-trigger-of-requires-3
 trigger-of-requires-3 c κs = search needs
 
-ramp-of-requires-2 : tie.Need-ramp-of-requires-2
-ramp-of-requires-2 c κs = search needs
+ramp-at-requires-2 : tie.Need-ramp-at-requires-2
+ramp-at-requires-2 c κs = search needs
 
 array-read-t19 : tie.Need-array-read-t19
 array-read-t19 c = search needs
@@ -70,8 +65,8 @@ returns c =
     let first : c .before .before .before .trigger-of .result ≡ triggerOf ns 44 47 = c .before .before .before .trigger-of .ensures in
     let second : c .before .before .trigger-of2 .result ≡ triggerOf ns 45 48 = c .before .before .trigger-of2 .ensures in
     let third : c .before .trigger-of3 .result ≡ triggerOf ns 46 49 = c .before .trigger-of3 .ensures in
-    let ramp-up = s .ramp-of .ensures in
-    let ramp-down = c .ramp-of2 .ensures in
+    let ramp-up = s .ramp-at .ensures in
+    let ramp-down = c .ramp-at2 .ensures in
     λ i. record {
       capacity = getD ns 0 0;
       maximum = getD ns 1 0;
@@ -92,11 +87,11 @@ unit-of-spec =
     column-of-requires
     column-of-requires-2
     column-of-requires-3
-    ramp-of-requires
+    ramp-at-requires
     trigger-of-requires
     trigger-of-requires-2
     trigger-of-requires-3
-    ramp-of-requires-2
+    ramp-at-requires-2
     array-read-t19
     array-read-t22
     array-read-t19-2

@@ -8,8 +8,6 @@ use Rattle.records.specs.Fields.{aLevel, aMaximum, aRate, aHold, aBoundary, col
 use Rattle.units.proofs.Laws.{lowsOf, highsOf, fit-more, and-true}
 use Rattle.units.proofs.all_fit.Statement.{statement}
 use Rattle.units.proofs.all_fit.Tie as tie
-use Rattle.units.proofs.all_fit.Reads as reads
-use Rattle.units.proofs.all_fit.Lts as lts
 
 -- what was looked at and what is left say what the whole says
 abbrev Inv-loop : tie.InvT-loop

@@ -7,8 +7,6 @@ use Rattle.records.specs.Fields.{falls, fallsBelow}
 use Rattle.units.proofs.Laws.{fall-here, fall-next, fall-none}
 use Rattle.units.proofs.breaks_fall.Statement.{statement}
 use Rattle.units.proofs.breaks_fall.Tie as tie
-use Rattle.units.proofs.breaks_fall.Reads as reads
-use Rattle.units.proofs.breaks_fall.Lts as lts
 
 -- what is left to look at says what the whole says
 abbrev Inv-loop : tie.InvT-loop

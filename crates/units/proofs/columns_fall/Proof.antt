@@ -2,9 +2,6 @@ use borrow.Author.Needs.{needs}
 use Rattle.units.proofs.Laws.{some-three}
 use Rattle.units.proofs.columns_fall.Statement.{statement}
 use Rattle.units.proofs.columns_fall.Tie as tie
-use Rattle.units.proofs.columns_fall.Reads as reads
-use Rattle.units.proofs.columns_fall.Lts as lts
-use Rattle.units.proofs.breaks_fall.Reads as breaks-fall-reads
 
 array-copy-out-hot : tie.Need-array-copy-out-hot
 array-copy-out-hot c = search needs

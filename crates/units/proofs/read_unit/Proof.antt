@@ -1,15 +1,10 @@
 use mathlib.Core.Path.{ap, _∙_}
 use Rattle.records.specs.Records.{unitOf}
 use Rattle.records.specs.Fields.{unitAnswer}
-use Rattle.units.specs.Decoded.{answerFor}
+use Rattle.units.specs.Decoded.{unitAnswerFor}
 use borrow.Author.Needs.{needs}
 use Rattle.units.proofs.read_unit.Statement.{statement}
 use Rattle.units.proofs.read_unit.Tie as tie
-use Rattle.units.proofs.read_unit.Reads as reads
-use Rattle.units.proofs.read_unit.Lts as lts
-use Rattle.unitbody.proofs.unit_numbers.Reads as unit-numbers-reads
-use Rattle.unitbody.proofs.unit_of.Reads as unit-of-reads
-use Rattle.units.proofs.unit_answer.Reads as unit-answer-reads
 
 unit-numbers-requires : tie.Need-unit-numbers-requires
 unit-numbers-requires c κs = search needs
@@ -25,7 +20,7 @@ unfolding unitAnswer
 returns c =
     let ns = c .before .before .unit-numbers .ensures in
     let unit = c .before .unit-of .ensures ∙ ap unitOf ns in
-    let answer = c .unit-answer .ensures ∙ (λ i. answerFor (ns i) (unit i)) in
+    let answer = c .unit-answer .ensures ∙ (λ i. unitAnswerFor (ns i) (unit i)) in
     λ i. record { answer = answer i; unit = unit i }
 
 pub read-unit-spec : {M : Type 1} → statement M

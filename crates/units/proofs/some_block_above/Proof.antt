@@ -2,8 +2,6 @@ use borrow.Author.Needs.{needs}
 use Rattle.units.proofs.Laws.{some-three}
 use Rattle.units.proofs.some_block_above.Statement.{statement}
 use Rattle.units.proofs.some_block_above.Tie as tie
-use Rattle.units.proofs.some_block_above.Reads as reads
-use Rattle.units.proofs.some_block_above.Lts as lts
 
 element-copy-out-a : tie.Need-element-copy-out-a
 element-copy-out-a c = search needs

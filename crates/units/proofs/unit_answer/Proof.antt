@@ -2,10 +2,6 @@ use mathlib.Core.Path.{sym}
 use borrow.Author.Needs.{needs}
 use Rattle.units.proofs.unit_answer.Statement.{statement}
 use Rattle.units.proofs.unit_answer.Tie as tie
-use Rattle.units.proofs.unit_answer.Reads as reads
-use Rattle.units.proofs.unit_answer.Lts as lts
-use Rattle.units.proofs.all_fit.Reads as all-fit-reads
-use Rattle.units.proofs.unit_disagrees.Reads as unit-disagrees-reads
 
 all-fit-requires : tie.Need-all-fit-requires
 all-fit-requires c κs = search needs

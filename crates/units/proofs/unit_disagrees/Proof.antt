@@ -2,11 +2,6 @@ use borrow.Author.Needs.{needs}
 use Rattle.records.specs.Fields.{disagrees}
 use Rattle.units.proofs.unit_disagrees.Statement.{statement}
 use Rattle.units.proofs.unit_disagrees.Tie as tie
-use Rattle.units.proofs.unit_disagrees.Reads as reads
-use Rattle.units.proofs.unit_disagrees.Lts as lts
-use Rattle.units.proofs.breaks_fall.Reads as breaks-fall-reads
-use Rattle.units.proofs.columns_fall.Reads as columns-fall-reads
-use Rattle.units.proofs.some_block_above.Reads as some-block-above-reads
 
 columns-fall-requires : tie.Need-columns-fall-requires
 columns-fall-requires c κs = search needs

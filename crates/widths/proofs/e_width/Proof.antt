@@ -3,50 +3,15 @@ use borrow.Author.Needs.{needs}
 use Rattle.lines.proofs.Widths.{e-length}
 use Rattle.widths.proofs.e_width.Statement.{statement}
 use Rattle.widths.proofs.e_width.Tie as tie
-use Rattle.widths.proofs.e_width.Reads as reads
-use Rattle.widths.proofs.e_width.Lts as lts
-use Rattle.text.proofs.decimal_width.Reads as decimal-width-reads
 
-decimal-width-requires : tie.Need-decimal-width-requires
-decimal-width-requires c κs = search needs
-
-decimal-width-requires-2 : tie.Need-decimal-width-requires-2
-decimal-width-requires-2 c κs = search needs
-
-add-result : tie.Need-add-result
-add-result c = search needs
-
-decimal-width-requires-3 : tie.Need-decimal-width-requires-3
-decimal-width-requires-3 c κs = search needs
-
-add-result-2 : tie.Need-add-result-2
-add-result-2 c = search needs
-
-decimal-width-requires-4 : tie.Need-decimal-width-requires-4
-decimal-width-requires-4 c κs = search needs
-
-add-result-3 : tie.Need-add-result-3
-add-result-3 c = search needs
-
-add-result-4 : tie.Need-add-result-4
-add-result-4 c = search needs
+four-width-requires : tie.Need-four-width-requires
+four-width-requires c κs = search needs
 
 returns : tie.Need-returns
 returns c =
-    let a = c .before .before .before .before .args in
-    let e = e-length (a .level) (a .target) (a .heat) (a .off) in
-    (omega arith, omega arith)
+    let a = c .before .args in
+    (omega (arith, e-length (a .level) (a .target) (a .heat) (a .off)), c .four-width .ensures .1)
 
 pub e-width-spec : {M : Type 1} → statement M
 e-width-spec =
-    tie.close
-    (tie.spec
-    decimal-width-requires
-    decimal-width-requires-2
-    add-result
-    decimal-width-requires-3
-    add-result-2
-    decimal-width-requires-4
-    add-result-3
-    add-result-4
-    returns)
+    tie.close (tie.spec four-width-requires returns)

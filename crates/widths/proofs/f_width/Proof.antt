@@ -3,9 +3,6 @@ use borrow.Author.Needs.{needs}
 use Rattle.lines.proofs.Widths.{f-length}
 use Rattle.widths.proofs.f_width.Statement.{statement}
 use Rattle.widths.proofs.f_width.Tie as tie
-use Rattle.widths.proofs.f_width.Reads as reads
-use Rattle.widths.proofs.f_width.Lts as lts
-use Rattle.text.proofs.decimal_width.Reads as decimal-width-reads
 
 decimal-width-requires : tie.Need-decimal-width-requires
 decimal-width-requires c κs = search needs

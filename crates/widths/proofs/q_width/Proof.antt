@@ -3,9 +3,6 @@ use borrow.Author.Needs.{needs}
 use Rattle.lines.proofs.Widths.{q-length}
 use Rattle.widths.proofs.q_width.Statement.{statement}
 use Rattle.widths.proofs.q_width.Tie as tie
-use Rattle.widths.proofs.q_width.Reads as reads
-use Rattle.widths.proofs.q_width.Lts as lts
-use Rattle.text.proofs.decimal_width.Reads as decimal-width-reads
 
 decimal-width-requires : tie.Need-decimal-width-requires
 decimal-width-requires c κs = search needs

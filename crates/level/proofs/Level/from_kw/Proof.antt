@@ -3,8 +3,6 @@ use borrow.Author.Needs.{needs}
 use Rattle.level.specs.Level.{grains, fromKw}
 use Rattle.level.proofs.Level.from_kw.Statement.{statement}
 use Rattle.level.proofs.Level.from_kw.Tie as tie
-use Rattle.level.proofs.Level.from_kw.Reads as reads
-use Rattle.level.proofs.Level.from_kw.Lts as lts
 
 mul-t3 : tie.Need-mul-t3
 mul-t3 c = search needs
