@@ -25,16 +25,12 @@ use Rattle.day.specs.declared.Day.{Day}
 use Rattle.day.specs.Day.{foundIn, empty, dayWith}
 use Rattle.day.specs.Step.{kindOf, bodyOf}
 use Rattle.day.proofs.Answers.{never}
-use Rattle.day.proofs.ByKind.{Passed}
+use Rattle.day.proofs.ByKind.{Passed, some-size}
 use Rattle.contract.specs.LetIn.{ofKind, hasKind, bodyOfKind, unitIn, openingIn, instructionsIn, takenIn, foundFrom}
 use Rattle.contract.proofs.Low.{start-low}
 use Rattle.level.proofs.Arrays.{filled-push}
 
 -- ---- a record at the front of a slice
-
-some-size : (k : ℕ) → 1 ≤ sizeOf k
-unfolding sizeOf
-some-size k = by-bool (eqb k 1) (λ e. simp e (omega arith)) (λ e. by-bool (eqb k 2) (λ t. simp (e, t) (omega arith)) (λ t. by-bool (eqb k 3) (λ v. simp (e, t, v) (omega arith)) (λ v. simp (e, t, v) (omega arith))))
 
 abbrev pub front : List ℕ → List ℕ
 front s = take (sizeOf (kindOf s)) s

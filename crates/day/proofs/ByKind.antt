@@ -9,6 +9,7 @@ use native.Mathlib.Omega.{arith}
 use lib.Dec.{leb, ltb, eqb}
 use lib.ListN.{length, getD, take, drop}
 use borrow.Author.Tests.{eqb-false, leb-true, leb-false, ltb-false, le-leb, lt-leb, eq-eqb, ne-eqb}
+use Rattle.level.specs.Lists.{some}
 use Rattle.level.specs.Numbers.{instructionPlaces}
 use Rattle.level.proofs.Lists.{by-bool}
 use Rattle.records.specs.declared.Answer.{Answer}
@@ -21,7 +22,7 @@ use Rattle.profile.specs.declared.Taken.{Taken}
 use Rattle.profile.specs.Profile.{Found}
 use Rattle.day.specs.declared.Day.{Day}
 use Rattle.day.specs.Day.{daySeconds, dayWith}
-use Rattle.day.specs.Step.{kindOf, bodyOf, noBytes, unknownKind, tooFew, secondOne, beforeUnit, tooMany, notReady, fieldAnswer, tooHigh, quantityTooHigh, accept, settle, answerBy, stepBy}
+use Rattle.day.specs.Step.{kindOf, bodyOf, aKind, noBytes, unknownKind, tooFew, secondOne, beforeUnit, tooMany, notReady, fieldAnswer, tooHigh, quantityTooHigh, accept, settle, answerBy, stepBy}
 use Rattle.day.specs.ByKind.{unitRefusals, openingRefusals, instructionRefusals, closeRefusals, kindRefusals}
 use Rattle.day.proofs.Answers.{never, is-accepted, all-accepted, not-met, met-not}
 
@@ -121,16 +122,19 @@ not-zero : (n : ℕ) → eqb n 0 ≡ false → 1 ≤ n
 not-zero zero e = absurd (eqb-false 0 0 e refl)
 not-zero (suc n) e = omega arith
 
-both : (a b : Bool) → not (a && b) ≡ false → (a ≡ true) × (b ≡ true)
-both true true e = (refl, refl)
-both true false e = never (sym e)
-both false b e = never (sym e)
+-- none of the kinds
+pub no-kinds : (k : ℕ) → (k ≡ 1 → ⊥) → (k ≡ 2 → ⊥) → (k ≡ 3 → ⊥) → (k ≡ 4 → ⊥) → aKind k ≡ false
+unfolding aKind some
+no-kinds k n1 n2 n3 n4 = simp (ne-eqb k 1 n1, ne-eqb k 2 n2, ne-eqb k 3 n3, ne-eqb k 4 n4)
+
+-- a record has a byte of kind
+pub some-size : (k : ℕ) → 1 ≤ sizeOf k
+unfolding sizeOf
+some-size k = by-bool (eqb k 1) (λ e. simp e (omega arith)) (λ e. by-bool (eqb k 2) (λ t. simp (e, t) (omega arith)) (λ t. by-bool (eqb k 3) (λ v. simp (e, t, v) (omega arith)) (λ v. simp (e, t, v) (omega arith))))
 
 module _ (find : Taken → Found) (d : Day) (s : List ℕ) where
   pub record Passed : Type 0 where
     pub some : 1 ≤ length s
-    pub least : 1 ≤ kindOf s
-    pub most : kindOf s ≤ 4
     pub long : sizeOf (kindOf s) ≤ length s
     pub not-closed : d .closed ≡ false
     pub unit : kindOf s ≡ 1 → UnitPasses (d .taken) (bodyOf s)
@@ -139,17 +143,14 @@ module _ (find : Taken → Found) (d : Day) (s : List ℕ) where
     pub close : kindOf s ≡ 4 → ClosePasses (d .taken) (find (d .taken))
 
   pub passed : answerBy find d s ≡ Accepted → Passed
-  unfolding noBytes unknownKind tooFew kindRefusals
+  unfolding noBytes tooFew kindRefusals
   passed e =
       let k : ℕ = kindOf s in
       let a = all-accepted (refusing (noBytes s) TooFewBytes ∷ refusing (unknownKind s) UnknownKind ∷ refusing (tooFew s) TooFewBytes ∷ refusing (d .closed) AfterClose ∷ firstRefusal (kindRefusals find (d .taken) k (bodyOf s)) ∷ [])
       (last ∙ (sym (by-kind find d s) ∙ e)) in
-      let kinds = both (leb 1 k) (leb k 4) (not-met (unknownKind s) UnknownKind (a .1 .0)) in
       let own : firstRefusal (kindRefusals find (d .taken) k (bodyOf s)) ≡ Accepted = a .1 .1 .1 .1 .0 in
       record {
         some = not-zero (length s) (not-met (noBytes s) TooFewBytes (a .0));
-        least = leb-true 1 k (kinds .0);
-        most = leb-true k 4 (kinds .1);
         long = ltb-false (length s) (sizeOf k) (not-met (tooFew s) TooFewBytes (a .1 .1 .0));
         not-closed = not-met (d .closed) AfterClose (a .1 .1 .1 .0);
         unit = λ h. unit-passes (d .taken) (bodyOf s) (kind-is k 1 h own);
@@ -185,28 +186,21 @@ module _ (find : Taken → Found) (d : Day) (s : List ℕ) where
     unfolding stepBy answerBy
     strange u = simp (has, u)
 
-    -- no kind of 1 to 4
-    pub no-kind : (1 ≤ getD s 0 0 → getD s 0 0 ≤ 4 → ⊥) → record { answer = Refused UnknownKind; day = d; used = 0 } ≡ stepBy find d s
+    pub no-kind : aKind (getD s 0 0) ≡ false → record { answer = Refused UnknownKind; day = d; used = 0 } ≡ stepBy find d s
     unfolding kindOf unknownKind
-    no-kind out = elim (decLe 1 (getD s 0 0)) [
-      | yes h ↦ elim (decLe (getD s 0 0) 4) [
-        | yes i ↦ absurd (out h i)
-        | no i ↦ strange (simp (le-leb 1 (getD s 0 0) h, lt-leb (getD s 0 0) 4 (omega arith)))
-      ]
-      | no h ↦ strange (simp (lt-leb 1 (getD s 0 0) (omega arith)))
-    ]
+    no-kind out = strange (ap not out)
 
-    known : (k : ℕ) → getD s 0 0 ≡ k → 1 ≤ k → k ≤ 4 → unknownKind s ≡ false
+    known : (k : ℕ) → getD s 0 0 ≡ k → aKind k ≡ true → unknownKind s ≡ false
     unfolding unknownKind kindOf
-    known k e least most = simp (le-leb 1 (getD s 0 0) (omega (arith, e)), le-leb (getD s 0 0) 4 (omega (arith, e)))
+    known k e is = ap (λ (n : ℕ). not (aKind n)) e ∙ ap not is
 
     -- of the kind k: 2, 24, then those of the kind
-    pub kind-step : (k : ℕ) → getD s 0 0 ≡ k → 1 ≤ k → k ≤ 4 →
+    pub kind-step : (k : ℕ) → getD s 0 0 ≡ k → aKind k ≡ true →
         let b : List ℕ = take (sizeOf k - 1) (drop 1 s) in
         settle (firstRefusal (refusing (ltb (length s) (sizeOf k)) TooFewBytes ∷ refusing (d .closed) AfterClose ∷ kindRefusals find (d .taken) k b)) d (accept (dayWith find d k b) (sizeOf k))
         ≡ stepBy find d s
     unfolding stepBy tooFew bodyOf kindOf
-    kind-step k e least most = rw (sym e, by-kind find d s, has, known k e least most) refl
+    kind-step k e is = rw (sym e, by-kind find d s, has, known k e is) refl
 
 -- a step uses no more than there is
 pub step-used : (find : Taken → Found) (d : Day) (s : List ℕ) → stepBy find d s .used ≤ length s

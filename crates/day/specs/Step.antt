@@ -37,8 +37,14 @@ unfoldable pub noBytes : List ℕ → Bool
 noBytes s = eqb (length s) 0
 
 -- "1 kind not 1 to 4"
+abbrev pub kinds : List ℕ
+kinds = 1 ∷ 2 ∷ 3 ∷ 4 ∷ []
+
+unfoldable pub aKind : ℕ → Bool
+aKind k = some (eqb k) kinds
+
 unfoldable pub unknownKind : List ℕ → Bool
-unknownKind s = not (leb 1 (kindOf s) && leb (kindOf s) 4)
+unknownKind s = not (aKind (kindOf s))
 
 unfoldable pub tooFew : List ℕ → Bool
 tooFew s = ltb (length s) (sizeOf (kindOf s))

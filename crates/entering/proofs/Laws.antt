@@ -8,7 +8,7 @@ use native.Mathlib.Omega.{arith}
 use lib.Dec.{leb, ltb}
 use lib.ListN.{length, getD}
 use borrow.Author.Tests.{le-ltb}
-use Rattle.level.specs.Lists.{All}
+use Rattle.level.specs.Lists.{All, some}
 use Rattle.level.specs.Numbers.{instructionPlaces}
 use Rattle.records.specs.declared.UnitData.{UnitData}
 use Rattle.records.specs.declared.Answer.{Answer}
@@ -27,7 +27,7 @@ use Rattle.profile.specs.Profile.{Found}
 use Rattle.day.specs.declared.Day.{Day}
 use Rattle.day.specs.declared.Stepped.{Stepped}
 use Rattle.day.specs.Day.{daySeconds, dayWith}
-use Rattle.day.specs.Step.{tooHigh, quantityTooHigh, accept, settle, stepBy}
+use Rattle.day.specs.Step.{aKind, tooHigh, quantityTooHigh, accept, settle, stepBy}
 use Rattle.day.specs.ByKind.{instructionRefusals, closeRefusals, kindRefusals}
 use Rattle.day.proofs.Answers.{never, is-accepted, all-accepted}
 use Rattle.day.proofs.ByKind.{instruction-passes, kind-step}
@@ -104,11 +104,11 @@ module _ (find : Taken → Found) (d : Day) (s : List ℕ) where
     unit-early = early unitSize (d .closed) s unit-state
 
     pub unit-step : getD s 0 0 ≡ 1 → taken 1 unitSize (r .answer) ≡ stepBy find d s
-    unfolding unitFront kindRefusals sizeOf
+    unfolding unitFront kindRefusals sizeOf aKind some
     unit-step k =
         ap (λ (x : UnitRead). taken 1 unitSize (x .answer)) e
         ∙ (ap (taken 1 unitSize) (unit-answer unit-early unit-body ∙ (ap (before unit-early) (last-is (unit-body .answer)) ∙ in-two unitSize unit-state (unit-body .answer ∷ [])))
-        ∙ kind-step find d s (first-some s 0 k) 1 k (omega arith) (omega arith))
+        ∙ kind-step find d s (first-some s 0 k) 1 k refl)
 
     pub unit-says : accepted (r .answer) ≡ true → r .unit ≡ unitOf (numbers (body unitSize s) 62)
     unfolding unitFront
@@ -125,13 +125,13 @@ module _ (find : Taken → Found) (d : Day) (s : List ℕ) where
     opening-early = early openingSize (d .closed) s opening-state
 
     pub opening-step : getD s 0 0 ≡ 2 → taken 2 openingSize (r .answer) ≡ stepBy find d s
-    unfolding openingFront belowMaximum kindRefusals sizeOf
+    unfolding openingFront belowMaximum kindRefusals sizeOf aKind some
     opening-step k =
         let a : Answer = openingAnswer (body openingSize s) in
         let b : Answer = refusing (tooHigh (t .unit) (openingOf (body openingSize s))) OpeningTooHigh in
         ap (λ (x : OpeningRead). taken 2 openingSize (x .answer)) e
         ∙ (ap (taken 2 openingSize) (opening-answer opening-early opening-body ∙ (ap (λ (x : Answer). before opening-early (before a x)) (last-is b) ∙ in-two openingSize opening-state (a ∷ b ∷ [])))
-        ∙ kind-step find d s (first-some s 1 k) 2 k (omega arith) (omega arith))
+        ∙ kind-step find d s (first-some s 1 k) 2 k refl)
 
     pub opening-says : accepted (r .answer) ≡ true → r .opening ≡ openingOf (body openingSize s)
     unfolding openingFront belowMaximum
@@ -154,8 +154,8 @@ module _ (find : Taken → Found) (d : Day) (s : List ℕ) where
         ∙ (instruction-answer instruction-early instruction-body ∙ (ap (before instruction-early) (last-is (instruction-body .answer)) ∙ in-two instructionSize instruction-state (instruction-body .answer ∷ [])))
 
     pub instruction-step : getD s 0 0 ≡ 3 → taken 3 instructionSize (r .answer) ≡ stepBy find d s
-    unfolding kindRefusals sizeOf
-    instruction-step k = ap (taken 3 instructionSize) answer-is ∙ kind-step find d s (first-some s 2 k) 3 k (omega arith) (omega arith)
+    unfolding kindRefusals sizeOf aKind some
+    instruction-step k = ap (taken 3 instructionSize) answer-is ∙ kind-step find d s (first-some s 2 k) 3 k refl
 
     pub instruction-says : accepted (r .answer) ≡ true → r .instruction ≡ instructionOf (body instructionSize s)
     unfolding instructionFront
@@ -173,10 +173,10 @@ module _ (find : Taken → Found) (d : Day) (s : List ℕ) where
         again (x ∷ xs) h = ap (λ (y : Answer). before y (firstRefusal xs)) (h .0) ∙ again xs (h .1)
 
   pub close-step : 1 ≤ length s → getD s 0 0 ≡ 4 → closeTaken find d ≡ stepBy find d s
-  unfolding kindRefusals sizeOf dayWith
+  unfolding kindRefusals sizeOf aKind some dayWith
   close-step some k =
       ap (λ (b : Bool). settle (before (refusing b TooFewBytes) (firstRefusal (refusing (d .closed) AfterClose ∷ closeRefusals t (find t)))) d (accept (dayWith find d 4 (body closeSize s)) closeSize)) (sym (le-ltb (length s) closeSize some))
-      ∙ kind-step find d s some 4 k (omega arith) (omega arith)
+      ∙ kind-step find d s some 4 k refl
 
 -- ---- a close, by what comes before anything is found, and by what is found
 module _ (find : Taken → Found) (d : Day) (a : Answer) (e : a ≡ closeFront (d .taken .hasStart) (d .closed)) where

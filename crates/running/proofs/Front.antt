@@ -21,7 +21,7 @@ use Rattle.day.specs.declared.Day.{Day}
 use Rattle.day.specs.declared.Stepped.{Stepped}
 use Rattle.day.specs.declared.Ran.{Ran}
 use Rattle.day.specs.Day.{empty, dayWith}
-use Rattle.day.specs.Step.{kindOf, bodyOf, noBytes, unknownKind, tooFew, accept, settle, answerBy, stepBy}
+use Rattle.day.specs.Step.{kindOf, bodyOf, aKind, noBytes, unknownKind, tooFew, accept, settle, answerBy, stepBy}
 use Rattle.day.specs.ByKind.{kindRefusals}
 use Rattle.level.proofs.Lists.{by-bool}
 use Rattle.day.proofs.Answers.{never}
@@ -61,7 +61,7 @@ module _ (find : Taken → Found) (d : Day) where
 
     unknown-is : unknownKind (s ++ t) ≡ unknownKind s
     unfolding unknownKind
-    unknown-is = ap (λ (k : ℕ). not (leb 1 k && leb k 4)) kind-is
+    unknown-is = ap (λ (k : ℕ). not (aKind k)) kind-is
 
     enough-is : tooFew s ≡ false → (sizeOf (kindOf s) ≤ length s) × (tooFew (s ++ t) ≡ false)
     unfolding tooFew

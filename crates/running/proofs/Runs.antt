@@ -21,10 +21,10 @@ use Rattle.day.specs.declared.Day.{Day}
 use Rattle.day.specs.declared.Stepped.{Stepped}
 use Rattle.day.specs.declared.Ran.{Ran}
 use Rattle.day.specs.Day.{empty, foundIn, dayWith}
-use Rattle.day.specs.Step.{kindOf, bodyOf, noBytes, accept, settle, answerBy, stepBy, stepOf}
+use Rattle.day.specs.Step.{aKind, kindOf, bodyOf, noBytes, accept, settle, answerBy, stepBy, stepOf}
 use Rattle.day.specs.ByKind.{closeRefusals}
 use Rattle.day.proofs.Answers.{never, settle-refused, settle-taken}
-use Rattle.day.proofs.ByKind.{step-used, no-kind}
+use Rattle.day.proofs.ByKind.{some-size, step-used, no-kind}
 use Rattle.entering.specs.Fronts.{closeTaken}
 use Rattle.entering.proofs.Laws.{close-step}
 use Rattle.contract.specs.Program.{runBy, ranBy}
@@ -32,16 +32,6 @@ use Rattle.running.specs.Ended.{afterStep, endedBy}
 use Rattle.running.proofs.Front.{onward, run-onward}
 
 -- ---- as many records as bytes are enough
-size-some : (k : ℕ) → 1 ≤ sizeOf k
-unfolding sizeOf
-size-some k = go (eqb k 1) (eqb k 2) (eqb k 3)
-  where
-    go : (a b c : Bool) → 1 ≤ pick a 249 (pick b 17 (pick c 22 1))
-    go true b c = omega arith
-    go false true c = omega arith
-    go false false true = omega arith
-    go false false false = omega arith
-
 module _ (find : Taken → Found) where
   used-some : (d : Day) (s : List ℕ) → accepted (stepBy find d s .answer) ≡ true → 1 ≤ stepBy find d s .used
   unfolding stepBy
@@ -50,7 +40,7 @@ module _ (find : Taken → Found) where
       go : (a : Answer) (x : Day) →
           let t : Stepped = settle a d (accept x (sizeOf (kindOf s))) in
           accepted (t .answer) ≡ true → 1 ≤ t .used
-      go Accepted x h = size-some (kindOf s)
+      go Accepted x h = some-size (kindOf s)
       go (Refused r) x h = never h
 
   enough : (n m : ℕ) (d : Day) (s : List ℕ) → length s ≤ n → length s ≤ m → runBy find n d s ≡ runBy find m d s
@@ -125,8 +115,8 @@ module _ (d : Day) (s : List ℕ) (some : 1 ≤ length s) where
       go (Refused r) e c h = never h
       go Accepted e c h = c
 
-  -- at a close, or at no kind of 1 to 4
-  pub by-other : ((getD s 0 0 ≡ 4 → ⊥) → 1 ≤ getD s 0 0 → getD s 0 0 ≤ 4 → ⊥) → endedBy d (getD s 0 0) ≡ from d s
+  -- at a close, or at no kind
+  pub by-other : ((getD s 0 0 ≡ 4 → ⊥) → aKind (getD s 0 0) ≡ false) → endedBy d (getD s 0 0) ≡ from d s
   unfolding endedBy
   by-other out = go (eqb (getD s 0 0) 4) refl
     where

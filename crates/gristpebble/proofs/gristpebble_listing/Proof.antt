@@ -15,6 +15,7 @@ use Rattle.day.specs.declared.Day.{Day}
 use Rattle.day.specs.Day.{empty, foundIn, dayWith}
 use Rattle.contract.specs.Program.{ranBy}
 use Rattle.day.proofs.Answers.{is-refused, is-taken}
+use Rattle.day.proofs.ByKind.{no-kinds}
 use Rattle.entering.specs.Fronts.{body}
 use Rattle.entering.proofs.Laws.{unit-step, unit-says, opening-step, opening-says, instruction-step, instruction-says, instruction-room}
 use Rattle.running.specs.Ended.{openDay, endedBy}
@@ -231,7 +232,7 @@ ends-here : (c : tie.After-close-run-arg Inv-loop μ-loop) → let l = c .before
 ends-here c =
     let l = c .before .before .before .before .loop in
     let k = c .before .match .rest in
-    by-other (openDay (l .t)) (l .rest .now) (c .before .before .before .loop-test .taken) (λ four least most. omega (arith, k)) ∙ l .inv .1
+    by-other (openDay (l .t)) (l .rest .now) (c .before .before .before .loop-test .taken) (λ four. no-kinds _ (k .0 .0 .1) (k .0 .1) (k .1) four) ∙ l .inv .1
 
 close-run-requires : tie.Need-close-run-requires Inv-loop μ-loop
 close-run-requires c κs = λ a. run-fits (c .before .before .before .before .before .before .before .before .args .input .now) _ (ends-here c) a .1
