@@ -40,10 +40,10 @@ fn malformed(day: Day) -> Turn {
 
 // `A answer number`
 fn put_answer(answer: records::Answer, number: usize) -> bool {
-    let n = records::answer_number(answer);
+    let n = records_bytes::answer_number(answer);
     let mut line = [0u8; 44];
     let vs = [n as u64, number as u64];
-    let count = text::put_line(&mut line, b'A', &vs);
+    let count = lines_text::put_line(&mut line, b'A', &vs);
     put_front(&line, count)
 }
 
@@ -52,7 +52,7 @@ fn take_read(day: Day, buf: &[u8], n: usize) -> Turn {
     if buf.len() < n {
         return malformed(day);
     }
-    let s = taker::take_front(day, &buf[..n]);
+    let s = day_take::take_front(day, &buf[..n]);
     let answer = s.answer;
     let next = s.day;
     let more = put_answer(answer, s.used);
@@ -108,9 +108,9 @@ fn take_record(day: Day, n: usize) -> Turn {
 
 fn list_into(day: Day, out: &mut [u8], n: usize) -> listing::Listed {
     if out.len() < n {
-        return printing::list(day, out);
+        return listing_print::list(day, out);
     }
-    printing::list(day, &mut out[..n])
+    listing_print::list(day, &mut out[..n])
 }
 
 fn list_day(day: Day, n: usize) -> Turn {
@@ -138,7 +138,7 @@ fn serve_one(day: Day) -> Turn {
     if got.at < 5 {
         return malformed(day);
     }
-    let n = records::number(&head, 1);
+    let n = records_bytes::number(&head, 1);
     if 65536 < n {
         return malformed(day);
     }
@@ -153,7 +153,7 @@ fn serve_one(day: Day) -> Turn {
 // A proved loop has to end, and nothing says that the input does: the loop counts its turns down, from a number that no
 // run uses up.
 fn serve() {
-    let mut day = day::empty_day();
+    let mut day = day_enter::empty_day();
     let mut turns = u64::MAX;
     while 0 < turns {
         let t = serve_one(day);

@@ -1,5 +1,4 @@
 -- What lies ahead on the way to the next stop: the stop stays the same, and so does the rate.
--- Assumes nothing.
 use mathlib.Core.Path.{_≡_, refl, ap, sym, _∙_}
 use mathlib.Core.List.{List, _∷_, _++_, map}
 use Prim.Native.Nat.{ℕ, suc, _<_}

@@ -1,9 +1,8 @@
 -- The level of a course stays between start and target and never turns.
--- Assumes nothing.
-use Prim.Native.Nat.{ℕ, suc, _-_, _≤_, _<_}
+use Prim.Native.Nat.{ℕ, suc, _≤_, _<_}
 use native.Mathlib.Decide.{decLe}
 use native.Mathlib.Omega.{arith}
-use Rattle.segments.proofs.Segments.{recorded-mono, recorded-top}
+use Rattle.course.proofs.Segments.{recorded-mono, recorded-top}
 use Rattle.course.specs.Course.{Trajectory, gap, levelAt, distance, segments}
 use Rattle.course.proofs.Whole.{level-up, level-down, ways-within}
 

@@ -1,17 +1,16 @@
 -- Over any bound-of-seconds seconds of a course, twice the area recorded and twice the exact area differ by at most 2 times stops times distance.
--- Assumes nothing.
 use mathlib.Core.Path.{_≡_, refl, ap}
-use Prim.Native.Nat.{ℕ, zero, suc, _+_, _*_, _-_, _≤_, _<_}
+use Prim.Native.Nat.{ℕ, zero, suc, _+_, _*_, _≤_, _<_}
 use native.Mathlib.Nat.{mul-le-mul-right, dvd-refl}
 use native.Mathlib.Omega.{arith}
 use lib.ListN.{length}
 use Rattle.level.specs.Lists.{sum}
-use Rattle.segments.specs.Segments.{Ok, recorded, exact, area, rateProduct, wholeWay}
-use Rattle.segments.proofs.Segments.{exact-top, recorded-top}
-use Rattle.segments.proofs.Bound.{bound-of-seconds}
-use Rattle.segments.proofs.Product.{product-ok, product-pos}
+use Rattle.course.specs.Recorded.{Ok, recorded, area, wholeWay}
+use Rattle.course.specs.Exact.{exact, rateProduct, ticksOf, exactAt}
+use Rattle.course.proofs.Segments.{exact-top, recorded-top}
+use Rattle.course.proofs.Bound.{bound-of-seconds}
+use Rattle.course.proofs.Product.{product-ok, product-pos}
 use Rattle.course.specs.Course.{Heading, rising, falling, heading, Trajectory, toward, gap, levelAt, stops, distance, segments}
-use Rattle.course.specs.Exact.{ticksOf, exactAt}
 use Rattle.course.proofs.Whole.{Driven, short-start, level-segments, as-many, ways-whole, ways-within, segments-valid}
 
 area-up : (f g : ℕ → ℕ) (s : ℕ) → ((j : ℕ) → g j ≡ s + f j) → (a n : ℕ) → area g a n ≡ 2 * (s * n) + area f a n

@@ -1,13 +1,11 @@
 -- The definitions on literals.
--- Assumes nothing.
 use mathlib.Core.Path.{_≡_, refl}
 use mathlib.Core.List.{[], _∷_}
 use Prim.Native.Nat.{ℕ, _*_}
-use Rattle.segments.specs.Segments.{seconds}
+use Rattle.course.specs.Pieces.{seconds, piece, piecesOf, piecesIn}
 use Rattle.level.specs.Lists.{those}
 use Rattle.course.specs.Lists.{Rates, Lists}
 use Rattle.course.specs.Course.{Trajectory, heading, counting, toward, gap, inUse, passed, breaksInUse, triggers, nearest, holding, rateAt, candidates, nextStop, holdAt, arrived, second, after, stopsFrom, segmentsOf, momentAt, levelAt, stops, segments}
-use Rattle.course.specs.Pieces.{piece, piecesOf, piecesIn}
 
 abbrev flat : Rates
 flat = record { rates = 1 ∷ 1 ∷ 1 ∷ []; breaks = 0 ∷ 0 ∷ [] }

@@ -1,5 +1,4 @@
 -- A course has at most 32 pieces: two for each stop, one for each hold, one for the rest.
--- Assumes nothing.
 use mathlib.Core.Path.{_≡_, refl, ap}
 use mathlib.Core.List.{List, [], _∷_}
 use mathlib.Core.Bool.{Bool, true, false, _||_}
@@ -11,13 +10,12 @@ use lib.ListN.{length, length-append}
 use borrow.Author.Tests.{lt-ltb, le-ltb, eq-eqb, ne-eqb, ltb-true, ltb-false}
 use Rattle.level.specs.Choice.{pick}
 use Rattle.level.specs.Lists.{those}
-use Rattle.segments.specs.declared.Segment.{Segment}
-use Rattle.segments.specs.Segments.{seconds}
+use Rattle.course.specs.declared.Segment.{Segment}
+use Rattle.course.specs.Pieces.{seconds, piece, piecesOf, piecesIn}
 use Rattle.records.specs.declared.Trigger.{Trigger}
 use Rattle.course.specs.declared.Piece.{Piece}
 use Rattle.course.specs.Lists.{Lists}
 use Rattle.course.specs.Course.{Heading, rising, falling, heading, Trajectory, toward, gap, rateAt, triggers, holding, holdAt, stops, segmentsOf, segments}
-use Rattle.course.specs.Pieces.{piece, piecesOf, piecesIn}
 use Rattle.course.proofs.Near.{Short}
 use Rattle.course.proofs.Whole.{Shaped, counting-length, segments-fewer, at-most-thirteen-stops}
 use Rattle.course.proofs.Stops.{Ordered, stops-ordered}

@@ -1,5 +1,4 @@
 -- The exact course: its area by straight pieces is the area over its ticks; the recorded and the exact area between any two seconds.
--- Assumes nothing.
 use mathlib.Core.Path.{_≡_, refl, sym, ap, _∙_}
 use mathlib.Core.List.{List, [], _∷_}
 use Prim.Native.Nat.{ℕ, _+_, _*_, _-_, _≤_, min, max}
@@ -7,12 +6,12 @@ use native.Mathlib.Nat.{mul-le-mul-right, zero-mul, zero-add}
 use native.Mathlib.Decide.{decLe}
 use native.Mathlib.Omega.{arith}
 use Rattle.level.specs.Lists.{sum}
-use Rattle.segments.specs.declared.Segment.{Segment}
-use Rattle.segments.specs.Segments.{SegmentOk, Ok, ticks, exact, area}
-use Rattle.segments.proofs.Sums.{area-split, area-line}
-use Rattle.segments.proofs.Segments.{ticks-rate, exact-zero}
+use Rattle.course.specs.declared.Segment.{Segment}
+use Rattle.course.specs.Recorded.{SegmentOk, Ok, area}
+use Rattle.course.specs.Exact.{ticks, exact, exactAt, cut, cuts}
+use Rattle.course.proofs.Sums.{area-split, area-line}
+use Rattle.course.proofs.Segments.{ticks-rate, exact-zero}
 use Rattle.course.specs.Course.{Heading, rising, falling, heading, Trajectory, toward, segments}
-use Rattle.course.specs.Exact.{exactAt, cut, cuts}
 use Rattle.course.proofs.Bounds.{fall, area-down}
 
 -- twice the area from the tick lo to the tick hi

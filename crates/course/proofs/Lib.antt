@@ -1,3 +1,9 @@
+pub mod SegmentCases
+pub mod Sums
+pub mod Segments
+pub mod Sandwich
+pub mod Bound
+pub mod Product
 pub mod Cases
 pub mod Oracle
 pub mod Near

@@ -1,5 +1,4 @@
 -- The nearest of some levels past a level; what is kept of a list; both headings.
--- Assumes nothing.
 use mathlib.Core.Path.{_≡_, refl, ap, sym}
 use mathlib.Core.Logic.{_≢_}
 use mathlib.Core.List.{List, [], _∷_, _++_}

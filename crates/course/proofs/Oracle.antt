@@ -1,11 +1,9 @@
 -- Six courses, rich in stops and holds: what an independent second-by-second program prints, by computation.
--- Assumes nothing.
 use mathlib.Core.Path.{_≡_, refl}
 use mathlib.Core.List.{[], _∷_}
-use Rattle.segments.specs.Segments.{seconds}
+use Rattle.course.specs.Pieces.{seconds, piece, piecesOf, piecesIn}
 use Rattle.level.specs.Lists.{those}
 use Rattle.course.specs.Course.{Trajectory, heading, counting, toward, gap, inUse, passed, breaksInUse, triggers, nearest, holding, rateAt, candidates, nextStop, holdAt, arrived, second, after, stopsFrom, segmentsOf, momentAt, levelAt, stops, segments}
-use Rattle.course.specs.Pieces.{piece, piecesOf, piecesIn}
 
 abbrev c-a : Trajectory
 c-a = record {

@@ -1,5 +1,4 @@
 -- The printed pieces describe the course.
--- Assumes nothing.
 use mathlib.Core.Path.{_≡_, refl, ap, sym, _∙_}
 use mathlib.Core.List.{List, [], _∷_, _++_}
 use Prim.Native.Nat.{ℕ, zero, suc, _+_, _*_, _-_, _/_, min, _≤_, _<_}
@@ -8,13 +7,13 @@ use native.Mathlib.Decide.{decLe}
 use native.Mathlib.Omega.{arith}
 use borrow.Author.Tests.{lt-ltb, le-ltb}
 use Rattle.level.specs.Lists.{sum}
-use Rattle.segments.specs.declared.Segment.{Segment}
-use Rattle.segments.specs.Segments.{SegmentValid, Valid, seconds, recorded, area, wholeWay}
-use Rattle.segments.proofs.Sums.{sum-eq, area-split, area-line}
-use Rattle.segments.proofs.Segments.{recorded-zero, seconds-low}
+use Rattle.course.specs.declared.Segment.{Segment}
+use Rattle.course.specs.Recorded.{SegmentValid, Valid, recorded, area, wholeWay, twiceArea}
+use Rattle.course.specs.Pieces.{seconds, piece, piecesOf, piecesIn}
+use Rattle.course.proofs.Sums.{sum-eq, area-split, area-line}
+use Rattle.course.proofs.Segments.{recorded-zero, seconds-low}
 use Rattle.course.specs.Course.{Heading, rising, falling, heading, Trajectory, toward, gap, levelAt, distance, segments}
 use Rattle.course.specs.declared.Piece.{Piece}
-use Rattle.course.specs.Pieces.{piece, piecesOf, piecesIn, twiceArea}
 use Rattle.course.proofs.Near.{toward-add, toward-zero}
 use Rattle.course.proofs.Whole.{short-start, level-segments, ways-within, segments-valid}
 

@@ -1,5 +1,4 @@
 -- The rule of one second is the segment form.
--- Assumes nothing.
 use mathlib.Core.Path.{_≡_, refl, ap, sym, _∙_}
 use mathlib.Core.List.{List, [], _∷_}
 use Prim.Native.Nat.{ℕ, zero, suc, _+_, _-_, _/_, min, _≤_, _<_}
@@ -7,9 +6,10 @@ use native.Mathlib.Nat.{le-trans, sub-zero, suc-sub-suc, zero-sub, div-eq-sub-di
 use native.Mathlib.Decide.{decLe, ℕ-discrete}
 use native.Mathlib.Omega.{arith}
 use borrow.Author.Tests.{lt-ltb, eq-eqb, ne-eqb}
-use Rattle.segments.specs.declared.Segment.{Segment}
-use Rattle.segments.specs.Segments.{seconds, recorded}
-use Rattle.segments.proofs.Segments.{recorded-zero}
+use Rattle.course.specs.declared.Segment.{Segment}
+use Rattle.course.specs.Pieces.{seconds}
+use Rattle.course.specs.Recorded.{recorded}
+use Rattle.course.proofs.Segments.{recorded-zero}
 use Rattle.course.specs.Lists.{Lists}
 use Rattle.course.specs.Course.{Heading, rising, falling, Moment, toward, gap, rateAt, candidates, nextStop, holdAt, arrived, second, after, stopsFrom, segmentsOf}
 use Rattle.course.proofs.Near.{Past, Short, past-short, short-past, past-on, gap-some, gap-to, gap-left, toward-add, toward-zero, ahead, ahead-le}

@@ -1,5 +1,4 @@
 -- The stops are the levels that the paper lists: those candidates that lie strictly past the start and up to the target, in order, each once.
--- Assumes nothing.
 use mathlib.Core.Path.{_≡_, refl, sym}
 use mathlib.Core.Logic.{_⊎_, inl, inr}
 use mathlib.Core.List.{List, [], _∷_}

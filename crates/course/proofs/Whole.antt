@@ -1,5 +1,4 @@
 -- The course as a whole: the rule of one second is the segment form, there are at most 13 stops, and a second moves by at most the rate in force.
--- Assumes nothing.
 use mathlib.Core.Path.{_≡_, refl, ap, _∙_}
 use mathlib.Core.List.{List, [], _∷_, map}
 use mathlib.Core.Bool.{Bool, true, false}
@@ -10,7 +9,7 @@ use native.Mathlib.Omega.{arith}
 use lib.Dec.{leb, ltb, eqb}
 use lib.ListN.{length, getD, length-append}
 use borrow.Author.Tests.{lt-ltb, le-ltb, eq-eqb, ne-eqb}
-use Rattle.segments.specs.Segments.{Valid, recorded, wholeWay}
+use Rattle.course.specs.Recorded.{Valid, recorded, wholeWay}
 use Rattle.level.specs.Choice.{pick}
 use Rattle.records.specs.declared.Trigger.{Trigger}
 use Rattle.course.specs.Lists.{Rates, Lists}

@@ -1,5 +1,4 @@
--- A course, second by second. Levels are grains, rates grains a second, times seconds.
--- Assumes nothing.
+-- Believed: document 01, A course, second by second. Levels are grains, rates grains a second, times seconds.
 use Prim.Native.Nat.{ℕ, zero, suc, _+_, _*_, _-_, min, max}
 use mathlib.Core.List.{List, [], _∷_, _++_, map}
 use mathlib.Core.Bool.{Bool, _&&_}
@@ -8,7 +7,7 @@ use lib.ListN.{length, getD}
 use Rattle.level.specs.Choice.{pick}
 use Rattle.level.specs.Lists.{those}
 use Rattle.level.specs.Level.{grains}
-use Rattle.segments.specs.declared.Segment.{Segment}
+use Rattle.course.specs.declared.Segment.{Segment}
 use Rattle.records.specs.declared.Trigger.{Trigger}
 use Rattle.records.specs.declared.UnitData.{UnitData}
 use Rattle.course.specs.declared.Course.{Course}
@@ -22,6 +21,10 @@ pub record Trajectory : Type 0 where
 
 unfoldable pub trajectoryOf : UnitData → Course → Trajectory
 trajectoryOf u c = record { start = c .start .grains; target = grains (c .target); lists = listsOf u (c .heat) (c .up) (c .down) }
+
+-- what a place for a course holds that none has taken
+abbrev pub noCourse : Course
+noCourse = record { begin = 0; start = record { grains = 0 }; target = 0; heat = 0; up = 0; down = 0 }
 
 -- ---- direction
 

@@ -1,10 +1,22 @@
--- The exact course, and twice its area as a fraction of two whole numbers.
--- Assumes nothing.
-use Prim.Native.Nat.{ℕ, _+_, _*_, _-_, min, max}
+-- Believed: document 01, A course, second by second. The exact course, and twice its area as a fraction of two whole numbers.
+use Prim.Native.Nat.{ℕ, _+_, _*_, _-_, _/_, min, max}
 use mathlib.Core.List.{List, [], _∷_}
-use Rattle.segments.specs.declared.Segment.{Segment}
-use Rattle.segments.specs.Segments.{ticks, exact, rateProduct}
+use Rattle.course.specs.declared.Segment.{Segment}
 use Rattle.course.specs.Course.{Trajectory, heading, toward, segments}
+
+-- way/rate seconds as a fraction: so many ticks of 1/p second. Exact where the rate divides p
+unfoldable pub ticks : ℕ → Segment → ℕ
+ticks p l = l .way * (p / l .rate)
+
+-- exact progress after j ticks of 1/p second, in units of 1/p grain
+unfoldable pub exact : ℕ → List Segment → ℕ → ℕ
+exact p [] j = 0
+exact p (l ∷ ls) j = min (j * l .rate) (l .way * p) + exact p ls (j - (ticks p l + l .hold * p))
+
+-- each rate divides the product of all
+unfoldable pub rateProduct : List Segment → ℕ
+rateProduct [] = 1
+rateProduct (l ∷ ls) = l .rate * rateProduct ls
 
 -- a fraction, kept as two whole numbers
 pub record Fraction : Type 0 where

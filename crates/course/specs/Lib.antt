@@ -2,3 +2,4 @@ pub mod Lists
 pub mod Course
 pub mod Pieces
 pub mod Exact
+pub mod Recorded

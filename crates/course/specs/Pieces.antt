@@ -1,13 +1,15 @@
--- The pieces of a course that the S lines print.
--- Assumes nothing.
+-- Believed: document 01, The printed day. The pieces of a course that the S lines print.
 use Prim.Native.Nat.{ℕ, _+_, _*_, _-_, _/_, min}
 use mathlib.Core.List.{List, [], _∷_, _++_}
 use lib.Dec.{ltb}
 use Rattle.level.specs.Choice.{pick}
-use Rattle.segments.specs.declared.Segment.{Segment}
-use Rattle.segments.specs.Segments.{seconds}
+use Rattle.course.specs.declared.Segment.{Segment}
 use Rattle.course.specs.declared.Piece.{Piece}
 use Rattle.course.specs.Course.{Trajectory, Heading, heading, toward, segments}
+
+-- the whole seconds that a segment's way takes: the rest of the last second is lost
+unfoldable pub seconds : Segment → ℕ
+seconds l = (l .way + (l .rate - 1)) / l .rate
 
 -- "none of length 0"
 unfoldable pub piece : ℕ → ℕ → ℕ → ℕ → List Piece
@@ -28,8 +30,3 @@ piecesOf h n a v (l ∷ ls) =
 -- the pieces of a course that lasts from the second a to the second n
 unfoldable pub piecesIn : Trajectory → ℕ → ℕ → List Piece
 piecesIn c a n = piecesOf (heading c) n a (c .start) (segments c)
-
--- twice the area of pieces: time by the sum of the levels at the two ends
-unfoldable pub twiceArea : List Piece → ℕ
-twiceArea [] = 0
-twiceArea (p ∷ ps) = (p .to - p .from) * (p .enter + p .leave) + twiceArea ps

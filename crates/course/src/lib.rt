@@ -19,3 +19,11 @@ pub struct Piece {
     pub enter: u64,
     pub leave: u64,
 }
+
+// A segment (Appendix P's word): the straight way of a course to a stop (grains), the rate (grains a second), and the
+// hold at that stop (seconds).
+pub struct Segment {
+    pub way: u64,
+    pub rate: u64,
+    pub hold: u64,
+}

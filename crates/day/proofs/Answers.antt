@@ -1,5 +1,4 @@
 -- The first refusal of several conditions: what an acceptance says of each of them.
--- Assumes nothing.
 use mathlib.Core.Path.{_≡_, refl, ap, sym, _∙_}
 use mathlib.Core.List.{List, [], _∷_}
 use mathlib.Core.Bool.{Bool, true, false, not, true≢false}

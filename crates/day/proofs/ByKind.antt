@@ -1,14 +1,13 @@
 -- The refusals kind by kind are the paper's one order; what an acceptance says of each kind.
--- Assumes nothing.
 use mathlib.Core.Path.{_≡_, refl, ap, sym, _∙_}
 use mathlib.Core.List.{List, [], _∷_}
-use mathlib.Core.Bool.{Bool, true, false, _&&_, not}
+use mathlib.Core.Bool.{true, false, _&&_, not}
 use Prim.Native.Nat.{ℕ, zero, suc, _-_, _≤_, _<_}
-use native.Mathlib.Decide.{decLe, ℕ-discrete}
+use native.Mathlib.Decide.{ℕ-discrete}
 use native.Mathlib.Omega.{arith}
 use lib.Dec.{leb, ltb, eqb}
 use lib.ListN.{length, getD, take, drop}
-use borrow.Author.Tests.{eqb-false, leb-true, leb-false, ltb-false, le-leb, lt-leb, eq-eqb, ne-eqb}
+use borrow.Author.Tests.{eqb-false, leb-false, ltb-false, eq-eqb, ne-eqb}
 use Rattle.level.specs.Lists.{some}
 use Rattle.level.specs.Numbers.{instructionPlaces}
 use Rattle.level.proofs.Lists.{by-bool}
@@ -24,7 +23,7 @@ use Rattle.day.specs.declared.Day.{Day}
 use Rattle.day.specs.Day.{daySeconds, dayWith}
 use Rattle.day.specs.Step.{kindOf, bodyOf, aKind, noBytes, unknownKind, tooFew, secondOne, beforeUnit, tooMany, notReady, fieldAnswer, tooHigh, quantityTooHigh, accept, settle, answerBy, stepBy}
 use Rattle.day.specs.ByKind.{unitRefusals, openingRefusals, instructionRefusals, closeRefusals, kindRefusals}
-use Rattle.day.proofs.Answers.{never, is-accepted, all-accepted, not-met, met-not}
+use Rattle.day.proofs.Answers.{is-accepted, all-accepted, not-met, met-not}
 
 -- ---- the paper's order, from 20 on
 module _ (find : Taken → Found) (t : Taken) (b : List ℕ) where

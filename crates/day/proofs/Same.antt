@@ -1,10 +1,10 @@
 -- Taking a record by the paper's definitions is taking it by the working twin.
--- Assumes nothing.
 use mathlib.Core.Path.{_≡_, ap, fun-ext}
 use mathlib.Core.List.{List}
 use Prim.Native.Nat.{ℕ}
 use Rattle.profile.specs.declared.Taken.{Taken}
-use Rattle.profile.specs.Profile.{Found, paper, twin}
+use Rattle.profile.specs.Profile.{Found, paper}
+use Rattle.profile.specs.Twin.{twin}
 use Rattle.profile.proofs.Whole.{found-same}
 use Rattle.day.specs.declared.Day.{Day}
 use Rattle.day.specs.Day.{halfHours, foundIn}

@@ -1,5 +1,4 @@
--- The day: what was let in, whether it is closed, what close found.
--- Assumes nothing.
+-- Believed: document 01, Units and records. The day: what was let in, whether it is closed, what close found.
 use Prim.Native.Nat.{ℕ, _*_}
 use mathlib.Core.List.{List}
 use mathlib.Core.Bool.{false, _||_}

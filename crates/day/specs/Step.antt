@@ -1,5 +1,4 @@
--- Taking a record: the refusals in the paper's order, and what an acceptance and a refusal return.
--- Assumes nothing.
+-- Believed: document 01, Refusals. Taking a record: the refusals in the paper's order, and what an acceptance and a refusal return.
 use Prim.Native.Nat.{ℕ, _-_}
 use mathlib.Core.List.{List, [], _∷_}
 use mathlib.Core.Bool.{Bool, false, _&&_, _||_, not}

@@ -1,5 +1,4 @@
 -- What a call gives: of the run of its input.
--- Assumes nothing.
 use Prim.Native.Nat.{ℕ, _*_}
 use mathlib.Core.Path.{_≡_, ap, _∙_}
 use mathlib.Core.Bool.{false}
@@ -8,10 +7,9 @@ use Rattle.records.specs.Answers.{accepted, numberOf}
 use Rattle.profile.specs.Profile.{paper}
 use Rattle.day.specs.declared.Ran.{Ran}
 use Rattle.day.specs.Day.{foundIn}
-use Rattle.contract.specs.Program.{ranBy}
-use Rattle.gristpebble.specs.Listed.{listedResult, listedLent}
-use Rattle.closing.specs.Result.{ranResult, ranLent}
-use Rattle.closing.proofs.Laws.{refused-run}
+use Rattle.listing.specs.Program.{ranBy}
+use Rattle.listing.specs.Result.{listedResult, listedLent, ranResult, ranLent}
+use Rattle.listing_run.proofs.Results.{refused-run}
 
 -- the run of the input s
 module _ (s o : List ℕ) (r : Ran) (made : r ≡ ranBy (foundIn paper) s) where

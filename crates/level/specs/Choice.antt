@@ -1,5 +1,4 @@
--- Choosing by a test.
--- Assumes nothing.
+-- Believed: document 01, throughout. Choosing by a test.
 use mathlib.Core.Bool.{Bool, true, false}
 
 -- the first where the test holds, else the second

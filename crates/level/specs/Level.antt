@@ -1,5 +1,4 @@
--- Units: levels inside are grains.
--- Assumes nothing.
+-- Believed: document 01, Units and records. Levels inside are grains.
 use Prim.Native.Nat.{ℕ, _*_}
 use Rattle.level.specs.declared.Level.{Level}
 

@@ -2,3 +2,4 @@ pub mod Choice
 pub mod Lists
 pub mod Level
 pub mod Numbers
+pub mod Bounds

@@ -1,5 +1,4 @@
--- Lists: which elements pass a test, sums, lists of a fixed length.
--- Assumes nothing.
+-- Believed: document 01, throughout. Lists: which elements pass a test, sums, lists of a fixed length.
 use Prim.Native.Nat.{ℕ, zero, suc, _+_}
 use mathlib.Core.List.{List, [], _∷_, _++_}
 use mathlib.Core.Bool.{Bool, false, _||_}

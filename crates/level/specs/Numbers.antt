@@ -1,5 +1,4 @@
--- Numbers that more than one place needs, each said once; `level/src` has the same as constants.
--- Assumes nothing.
+-- Believed: document 01, Units and records. Numbers that more than one place needs, each said once; `level/src` has the same as constants.
 use Prim.Native.Nat.{ℕ, suc, _*_}
 
 -- "a half-hour 1,800" seconds
@@ -22,7 +21,3 @@ instructionPlaces = 40
 
 abbrev pub coursePlaces : ℕ
 coursePlaces = suc instructionPlaces
-
--- every level (grains) of a course lies below this: what 32 bits of kW come to, at 60 grains a kW, and more
-abbrev pub levelBound : ℕ
-levelBound = 274877906944

@@ -2,7 +2,7 @@
 use mathlib.Core.Path.{_≡_, refl}
 use mathlib.Core.List.{[], _∷_}
 use Rattle.lines.specs.Lines.{fLine, sLine, qLine, eLine, xLine}
-use Rattle.text.specs.Text.{digits, decimal, field, fields, line, laid}
+use Rattle.lines.specs.Text.{digits, decimal, field, fields, line, laid}
 
 -- 0
 nought : decimal 0 ≡ 48 ∷ []

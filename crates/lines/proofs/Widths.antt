@@ -1,11 +1,10 @@
 -- The width of each kind of line.
--- Assumes nothing.
 use mathlib.Core.Path.{_≡_}
 use Prim.Native.Nat.{ℕ, _+_}
 use lib.ListN.{length}
-use Rattle.text.specs.Text.{decimal}
+use Rattle.lines.specs.Text.{decimal}
 use Rattle.lines.specs.Lines.{fLine, sLine, qLine, eLine, xLine}
-use Rattle.text.proofs.Laws.{line-one, line-two, line-three, line-four}
+use Rattle.lines.proofs.Decimals.{line-one, line-two, line-three, line-four}
 
 pub f-length : (n fate : ℕ) → length (fLine n fate) ≡ length (decimal n) + length (decimal fate) + 4
 unfolding fLine

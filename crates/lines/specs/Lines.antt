@@ -1,8 +1,7 @@
--- The four kinds of line, and the line of a refusal.
--- Assumes nothing.
+-- Believed: document 01, The printed day. The four kinds of line, and the line of a refusal.
 use Prim.Native.Nat.{ℕ}
 use mathlib.Core.List.{List, [], _∷_}
-use Rattle.text.specs.Text.{line}
+use Rattle.lines.specs.Text.{line}
 
 -- "F n fate"
 unfoldable pub fLine : ℕ → ℕ → List ℕ

@@ -1,5 +1,4 @@
 -- What the reader finds in a listing: for each half-hour one Q line, with its quantity.
--- Assumes nothing.
 use Prim.Native.Nat.{ℕ, zero, suc, _+_, _*_, _-_, _/_, _%_, _<_, _≤_}
 use mathlib.Core.Path.{_≡_, refl, sym, ap, _∙_}
 use mathlib.Core.List.{List, [], _∷_, _++_, append-assoc, append-nil}
@@ -13,8 +12,8 @@ use Rattle.level.proofs.Lists.{by-bool}
 use Rattle.course.specs.declared.Piece.{Piece}
 use Rattle.profile.specs.declared.Closing.{Closing}
 use Rattle.lines.specs.Lines.{fLine, sLine, qLine, eLine}
-use Rattle.text.specs.Text.{digits, decimal, field, fields, line}
-use Rattle.text.proofs.Laws.{low-length, high-length, digits-low, digits-high}
+use Rattle.lines.specs.Text.{digits, decimal, field, fields, line}
+use Rattle.lines.proofs.Decimals.{low-length, high-length, digits-low, digits-high}
 use Rattle.listing.specs.Listing.{fLines, sLines, runLines, qLines, listing}
 use Rattle.listing.specs.Reader.{longer, parted, linesOf, wordsOf, isByte, allDigits, isDecimal, valueFrom, value, enclosing, inLines, printedAt, firstOf, printedKw}
 

@@ -1,6 +1,5 @@
 -- "46,080 bytes always suffice".
--- Assumes nothing.
-use Prim.Native.Nat.{ℕ, suc, _+_, _*_, _-_, _<_, _≤_}
+use Prim.Native.Nat.{ℕ, suc, _+_, _*_, _<_, _≤_}
 use mathlib.Core.List.{List, [], _∷_}
 use native.Mathlib.Omega.{arith}
 use lib.Dec.{eqb}
@@ -13,7 +12,7 @@ use Rattle.profile.specs.declared.Closing.{Closing}
 use Rattle.profile.proofs.Room.{PieceBelow, ClosingBelow}
 use Rattle.lines.specs.Lines.{qLine, eLine}
 use Rattle.lines.proofs.Widths.{f-length, s-length, q-length, e-length}
-use Rattle.text.proofs.Laws.{decimal-width}
+use Rattle.lines.proofs.Decimals.{decimal-width}
 use Rattle.listing.specs.Listing.{fLines, sLines, runLines, qLines, listing, suffices}
 use Rattle.level.proofs.Lists.{by-bool}
 

@@ -1,5 +1,4 @@
--- The printed day, byte by byte, and what asking for it returns.
--- Assumes nothing.
+-- Believed: document 01, The printed day. The printed day, byte by byte, and what asking for it returns.
 use Prim.Native.Nat.{ℕ, suc, _+_}
 use mathlib.Core.List.{List, [], _∷_, _++_}
 use mathlib.Core.Bool.{not}
@@ -15,7 +14,7 @@ use Rattle.profile.specs.Profile.{spansOf, dayPieces}
 use Rattle.day.specs.declared.Day.{Day}
 use Rattle.day.specs.Day.{daySeconds, fatesIn, coursesIn, quantitiesIn, closingIn}
 use Rattle.lines.specs.Lines.{fLine, sLine, qLine, eLine}
-use Rattle.text.specs.Text.{laid}
+use Rattle.lines.specs.Text.{laid}
 use Rattle.listing.specs.declared.Listed.{Listed}
 
 -- "F n fate by number", from the number n on

@@ -1,5 +1,4 @@
 -- The areas by pieces are the sums over seconds.
--- Assumes nothing.
 use mathlib.Core.Path.{_≡_, refl, ap, _∙_}
 use mathlib.Core.List.{List, [], _∷_}
 use Prim.Native.Nat.{ℕ, zero, suc, _+_, _*_, _-_, min, _≤_, _<_}
@@ -8,11 +7,12 @@ use native.Mathlib.Omega.{arith}
 use borrow.Author.Tests.{lt-ltb, le-ltb}
 use Rattle.level.specs.Lists.{sum}
 use Rattle.level.specs.Numbers.{halfHour}
-use Rattle.segments.specs.Segments.{area}
+use Rattle.course.specs.Recorded.{area, twiceArea}
 use Rattle.course.specs.Course.{Trajectory, levelAt}
-use Rattle.course.specs.Pieces.{piecesIn, twiceArea}
+use Rattle.course.specs.Pieces.{piecesIn}
 use Rattle.course.proofs.Pieces.{pieces-area, pieces-window}
-use Rattle.profile.specs.Profile.{Span, inForce, levelStarting, levelEnding, recordedTwice, recordedTo, recordedIn, piecesTo, twinTo, twinIn}
+use Rattle.profile.specs.Profile.{Span, inForce, levelStarting, levelEnding, recordedTwice, recordedTo, recordedIn}
+use Rattle.profile.specs.Twin.{piecesTo, twinTo, twinIn}
 use Rattle.profile.proofs.Tiles.{Chain}
 
 none : (c : Trajectory) → (n : ℕ) → n ≡ 0 → twiceArea (piecesIn c 0 n) ≡ 0

@@ -1,5 +1,4 @@
 -- A course between two half-hour boundaries: twice its recorded and twice its exact area differ by at most what is allowed it there.
--- Assumes nothing.
 use mathlib.Core.Path.{_≡_, refl, ap, sym, _∙_}
 use Prim.Native.Nat.{ℕ, zero, suc, _+_, _*_, _-_, min, max, _≤_}
 use native.Mathlib.Nat.{mul-le-mul, mul-le-mul-right, zero-mul, sub-self}
@@ -8,8 +7,8 @@ use native.Mathlib.Omega.{arith}
 use borrow.Author.Tests.{lt-ltb, le-ltb}
 use Rattle.level.specs.Lists.{sum}
 use Rattle.level.specs.Numbers.{halfHour}
-use Rattle.segments.specs.Segments.{area}
-use Rattle.segments.proofs.Sums.{area-split}
+use Rattle.course.specs.Recorded.{area}
+use Rattle.course.proofs.Sums.{area-split}
 use Rattle.course.specs.Course.{gap, levelAt, segments}
 use Rattle.course.specs.Exact.{ticksOf, exactAt, cuts, exactTwice}
 use Rattle.course.proofs.Whole.{Driven}

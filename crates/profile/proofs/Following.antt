@@ -1,5 +1,4 @@
 -- The instructions that act, one after another: one step of `follow`, and induction over them. Nothing else goes by cases over an outcome.
--- Assumes nothing.
 use mathlib.Core.Path.{_≡_, refl, ap, sym, subst}
 use Prim.Native.Nat.{ℕ}
 use mathlib.Core.List.{List, [], _∷_}

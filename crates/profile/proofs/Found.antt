@@ -1,5 +1,4 @@
 -- What close finds: its courses follow each other, and a quantity comes from two neighbouring sums.
--- Assumes nothing.
 use mathlib.Core.Path.{_≡_, refl, ap, _∙_}
 use mathlib.Core.List.{List}
 use Prim.Native.Nat.{ℕ, zero, suc, _+_, _*_, _-_, _≤_, _<_}
@@ -9,12 +8,13 @@ use lib.ListN.{length, getD}
 use Rattle.level.specs.Level.{grains}
 use Rattle.level.specs.Lists.{All, sum, listFrom}
 use Rattle.level.specs.Numbers.{halfHour}
-use Rattle.segments.proofs.Sums.{sum-split}
+use Rattle.course.proofs.Sums.{sum-split}
 use Rattle.records.specs.declared.UnitData.{UnitData}
 use Rattle.validation.specs.Kept.{numbered, validated}
 use Rattle.profile.specs.State.{byRule}
 use Rattle.profile.specs.declared.Taken.{Taken}
-use Rattle.profile.specs.Taken.{Low, entered}
+use Rattle.profile.specs.Bounds.{Low}
+use Rattle.profile.specs.Taken.{entered}
 use Rattle.profile.specs.Effects.{startCourse}
 use Rattle.profile.specs.Profile.{Span, spansOf, levelStarting, levelEnding, recordedTwice, recordedTo, recordedIn, rounded, foundBy, found, paper}
 use Rattle.profile.proofs.Tiles.{Chain, day-tiles}

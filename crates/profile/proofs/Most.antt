@@ -1,5 +1,4 @@
 -- No level of a let-in day exceeds the short-term maximum, and so no quantity does.
--- Assumes nothing.
 use mathlib.Core.Path.{_≡_}
 use mathlib.Core.List.{List, [], _∷_, map}
 use mathlib.Core.Bool.{Bool, true, false, _&&_, _||_, not}

@@ -1,5 +1,4 @@
 -- The day: between any two half-hour boundaries, the quantities lie as near to the exact area as demand 3 says; the level at each second.
--- Assumes nothing.
 use mathlib.Core.Path.{_≡_, refl, ap, sym, _∙_}
 use mathlib.Core.List.{List, [], _∷_}
 use Prim.Native.Nat.{ℕ, zero, suc, _+_, _*_, _-_, min, _≤_, _<_}
@@ -8,16 +7,17 @@ use native.Mathlib.Decide.{decLe}
 use native.Mathlib.Omega.{arith}
 use Rattle.level.specs.Lists.{All, sum}
 use Rattle.level.specs.Numbers.{halfHour}
-use Rattle.segments.specs.Segments.{area}
-use Rattle.segments.proofs.Sums.{sum-split}
+use Rattle.course.specs.Recorded.{area, twiceArea}
+use Rattle.course.proofs.Sums.{sum-split}
 use Rattle.records.specs.declared.UnitData.{UnitData}
 use Rattle.course.specs.declared.Course.{Course}
 use Rattle.course.specs.Course.{Trajectory, gap, levelAt, rateOn, momentAt, after}
-use Rattle.course.specs.Pieces.{piecesIn, twiceArea}
+use Rattle.course.specs.Pieces.{piecesIn}
 use Rattle.course.specs.Exact.{Fraction, plus}
 use Rattle.course.proofs.Whole.{Driven, level-moves}
 use Rattle.course.proofs.Pieces.{pieces-window}
-use Rattle.profile.specs.Profile.{Span, spansOf, inForce, levelStarting, levelEnding, rateStarting, recordedTwice, recordedIn, rounded, piecesTo}
+use Rattle.profile.specs.Profile.{Span, spansOf, inForce, levelStarting, levelEnding, rateStarting, recordedTwice, recordedIn, rounded}
+use Rattle.profile.specs.Twin.{piecesTo}
 use Rattle.profile.specs.Allowance.{allowed, allowance, exactOf, exactArea, Within}
 use Rattle.profile.proofs.Tiles.{Chain}
 use Rattle.profile.proofs.Rates.{Fit, course-driven}

@@ -1,5 +1,4 @@
 -- How much a day can hold: courses, pieces, fates, the closing state.
--- Assumes nothing.
 use mathlib.Core.Path.{_≡_, ap, _∙_}
 use mathlib.Core.List.{List, [], _∷_, map}
 use mathlib.Core.Bool.{Bool, true, false, _&&_, _||_, not}
@@ -38,7 +37,8 @@ use Rattle.profile.specs.State.{held, watch, watchNext, byRule}
 use Rattle.profile.specs.declared.Setting.{Setting}
 use Rattle.profile.specs.declared.Outcome.the-variants.{Sets}
 use Rattle.profile.specs.declared.Taken.{Taken}
-use Rattle.profile.specs.Taken.{Low, entered}
+use Rattle.profile.specs.Bounds.{Low}
+use Rattle.profile.specs.Taken.{entered}
 use Rattle.profile.specs.Effects.{outcomeBy, heatBy, courseFrom, underWay, startCourse, begun, goesOn, replaces, stateAt, follow}
 use Rattle.profile.specs.Profile.{Span, beginOf, spansOf, dayPieces, courseOf, lastOf, closingBy, foundBy, found, paper}
 use Rattle.profile.proofs.Following.{unless-sets, ignored-sets, follow-ind}

@@ -1,5 +1,4 @@
 -- The working twin sees what the paper's rule sees: the level and the seconds off after k seconds of a course.
--- Assumes nothing.
 use mathlib.Core.Path.{_≡_, refl, ap, sym, _∙_}
 use mathlib.Core.Logic.{_≢_}
 use mathlib.Core.List.{List, [], _∷_}
@@ -10,13 +9,15 @@ use native.Mathlib.Decide.{decLe, ℕ-discrete}
 use native.Mathlib.Omega.{arith}
 use lib.Dec.{eqb}
 use borrow.Author.Tests.{eq-eqb, ne-eqb}
-use Rattle.segments.specs.declared.Segment.{Segment}
-use Rattle.segments.specs.Segments.{seconds, recorded, wholeWay, Valid}
-use Rattle.segments.proofs.Segments.{seconds-low, seconds-high, recorded-mono, recorded-top}
+use Rattle.course.specs.declared.Segment.{Segment}
+use Rattle.course.specs.Pieces.{seconds}
+use Rattle.course.specs.Recorded.{recorded, wholeWay, Valid}
+use Rattle.course.proofs.Segments.{seconds-low, seconds-high, recorded-mono, recorded-top}
 use Rattle.level.specs.Choice.{pick}
 use Rattle.course.specs.Course.{Trajectory, Moment, heading, gap, second, after, momentAt, levelAt, segments, distance}
 use Rattle.course.proofs.Whole.{level-segments, level-up, level-down, ways-within, segments-valid}
-use Rattle.profile.specs.State.{held, watchNext, watch, byRule, arrival, stateOn, bySegments}
+use Rattle.profile.specs.State.{held, watchNext, watch, byRule}
+use Rattle.profile.specs.Twin.{arrival, stateOn, bySegments}
 
 seconds-some : (l : Segment) → 1 ≤ l .way → 1 ≤ l .rate → 1 ≤ seconds l
 seconds-some l w r = elim (decLe 1 (seconds l)) [

@@ -1,8 +1,7 @@
 -- Courses follow each other without gap or overlap, from 0 to the day's end.
--- Assumes nothing.
 use mathlib.Core.Path.{_≡_, refl}
 use mathlib.Core.List.{List, [], _∷_, map}
-use Prim.Native.Nat.{ℕ, _-_, _≤_, _<_}
+use Prim.Native.Nat.{ℕ, _≤_, _<_}
 use native.Mathlib.Omega.{arith}
 use Rattle.level.specs.Lists.{All}
 use Rattle.records.specs.declared.UnitData.{UnitData}

@@ -1,5 +1,4 @@
 -- What close finds by the rule of one second is what it finds by segments.
--- Assumes nothing.
 use mathlib.Core.Path.{_≡_, refl, ap, sym, _∙_}
 use mathlib.Core.List.{List, _∷_, _++_, map}
 use Prim.Native.Nat.{ℕ, zero, suc, _+_, _*_, _-_, _<_}
@@ -13,11 +12,12 @@ use Rattle.validation.specs.declared.Numbered.{Numbered}
 use Rattle.validation.specs.Kept.{Validated, acting, numbered, validated, fatesOf}
 use Rattle.profile.specs.declared.UnderWay.{UnderWay}
 use Rattle.profile.specs.declared.State.{State}
-use Rattle.profile.specs.State.{byRule, bySegments}
+use Rattle.profile.specs.State.{byRule}
+use Rattle.profile.specs.Twin.{bySegments, twinTo, twinIn, twin}
 use Rattle.profile.specs.declared.Taken.{Taken}
 use Rattle.profile.specs.Taken.{entered}
 use Rattle.profile.specs.Effects.{Followed, startCourse, outcome, begun, goesOn, replaces, stateAt, follow}
-use Rattle.profile.specs.Profile.{Span, spansOf, rounded, recordedTo, recordedIn, twinTo, twinIn, courseOf, lastOf, foundBy, found, paper, twin}
+use Rattle.profile.specs.Profile.{Span, spansOf, rounded, recordedTo, recordedIn, courseOf, lastOf, foundBy, found, paper}
 use Rattle.profile.proofs.Following.{follow-on, follow-new, follow-ind}
 use Rattle.profile.proofs.Tiles.{Chain, day-tiles}
 use Rattle.profile.proofs.States.{state-same}

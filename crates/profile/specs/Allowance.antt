@@ -1,5 +1,4 @@
--- The exact area between two half-hour boundaries, and what demand 3 allows there.
--- Assumes nothing.
+-- Believed: document 01, The printed day (demand 3). The exact area between two half-hour boundaries, and what demand 3 allows there.
 use Prim.Native.Nat.{ℕ, suc, _+_, _*_, _-_, _≤_, min, max}
 use mathlib.Core.List.{List, [], _∷_}
 use mathlib.Core.Bool.{Bool}

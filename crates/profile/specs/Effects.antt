@@ -1,5 +1,4 @@
--- What each does at its acting second (Table 7).
--- Assumes nothing.
+-- Believed: document 01, What each does at its acting second (Table 7). Its outcome, the course that it begins, and all that act, one after another.
 use Prim.Native.Nat.{ℕ, _*_, _-_, min, max}
 use mathlib.Core.List.{List, [], _∷_}
 use mathlib.Core.Bool.{Bool, true, false, _&&_, _||_, not}

@@ -1,18 +1,13 @@
--- What close found, as a day stores it: in arrays.
--- Assumes nothing.
+-- Believed: document 01, The printed day. What close found, as a day stores it: in arrays.
 use Prim.Native.Nat.{ℕ, suc, _-_}
 use mathlib.Core.List.{List}
 use mathlib.Core.Bool.{false}
 use lib.ListN.{length, getD, replicate}
 use Rattle.level.specs.Lists.{filled}
 use Rattle.level.specs.Numbers.{instructionPlaces, coursePlaces, boundaryPlaces}
-use Rattle.course.specs.declared.Course.{Course}
+use Rattle.course.specs.Course.{noCourse}
 use Rattle.profile.specs.declared.Finding.{Finding}
 use Rattle.profile.specs.Profile.{Found, rounded}
-
--- what a place for a course holds that none has taken
-abbrev pub noCourse : Course
-noCourse = record { begin = 0; start = record { grains = 0 }; target = 0; heat = 0; up = 0; down = 0 }
 
 -- nothing found yet
 unfoldable pub noFinding : Finding

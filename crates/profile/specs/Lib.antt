@@ -4,3 +4,5 @@ pub mod Effects
 pub mod Profile
 pub mod Finding
 pub mod Allowance
+pub mod Twin
+pub mod Bounds

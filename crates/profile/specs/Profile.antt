@@ -1,6 +1,5 @@
--- The day's courses, areas, quantities, pieces and closing state.
--- Assumes nothing.
-use Prim.Native.Nat.{ℕ, suc, _+_, _*_, _-_, _/_, min}
+-- Believed: document 01, A course, second by second; The printed day. The day's courses, areas, quantities, pieces and closing state.
+use Prim.Native.Nat.{ℕ, suc, _+_, _*_, _-_, _/_}
 use mathlib.Core.List.{List, [], _∷_, _++_, map}
 use mathlib.Core.Bool.{true, false}
 use lib.Dec.{ltb}
@@ -10,13 +9,13 @@ use Rattle.records.specs.declared.UnitData.{UnitData}
 use Rattle.course.specs.declared.Course.{Course}
 use Rattle.course.specs.Course.{Trajectory, trajectoryOf, levelAt, rateOn}
 use Rattle.course.specs.declared.Piece.{Piece}
-use Rattle.course.specs.Pieces.{piecesIn, twiceArea}
+use Rattle.course.specs.Pieces.{piecesIn}
 use Rattle.validation.specs.declared.Numbered.{Numbered}
 use Rattle.validation.specs.Kept.{Validated, numbered, validated, fatesOf}
 use Rattle.profile.specs.declared.UnderWay.{UnderWay}
 use Rattle.profile.specs.declared.Closing.{Closing}
 use Rattle.profile.specs.declared.State.{State}
-use Rattle.profile.specs.State.{byRule, bySegments}
+use Rattle.profile.specs.State.{byRule}
 use Rattle.profile.specs.Effects.{Followed, startCourse, follow, stateAt}
 use Rattle.profile.specs.declared.Taken.{Taken}
 use Rattle.profile.specs.Taken.{entered}
@@ -68,17 +67,6 @@ rounded twice = (twice + 108000) / 216000
 
 -- ---- the working twin, by pieces
 
--- up to the second x
-unfoldable pub piecesTo : List Span → ℕ → ℕ
-piecesTo [] x = 0
-piecesTo (s ∷ ss) x = twiceArea (piecesIn (s .trajectory) 0 (min (s .end) x - s .begin)) + piecesTo ss x
-
-unfoldable pub twinTo : List Span → ℕ → ℕ
-twinTo ss b = piecesTo ss (halfHour * b)
-
-unfoldable pub twinIn : List Span → ℕ → ℕ
-twinIn ss i = twinTo ss (suc i) - twinTo ss i
-
 -- ---- the day's pieces: "cut besides only by fate-0 instructions and the day's end"
 unfoldable pub dayPieces : List Span → List Piece
 dayPieces [] = []
@@ -103,9 +91,6 @@ pub record Way : Type 0 where
 
 abbrev pub paper : Way
 paper = record { look = byRule; upTo = recordedTo; within = recordedIn }
-
-abbrev pub twin : Way
-twin = record { look = bySegments; upTo = twinTo; within = twinIn }
 
 abbrev pub courseOf : UnderWay → Course
 courseOf c = c .course

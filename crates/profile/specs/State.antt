@@ -1,14 +1,10 @@
--- The level just before and the seconds off, so many seconds after a course began: by the rule of one second, and by segments.
--- Assumes nothing.
-use Prim.Native.Nat.{ℕ, zero, suc, _+_, _-_, min}
-use mathlib.Core.List.{List, [], _∷_}
+-- Believed: document 01, What each does at its acting second. The level just before and the seconds off, so many seconds after a course began: by the rule of one second.
+use Prim.Native.Nat.{ℕ, zero, suc, min}
 use mathlib.Core.Bool.{_&&_}
 use lib.Dec.{eqb}
 use Rattle.level.specs.Choice.{pick}
-use Rattle.segments.specs.declared.Segment.{Segment}
-use Rattle.segments.specs.Segments.{seconds, recorded}
 use Rattle.profile.specs.declared.State.{State}
-use Rattle.course.specs.Course.{Trajectory, Moment, heading, toward, second, segments}
+use Rattle.course.specs.Course.{Trajectory, Moment, heading, second}
 
 -- ".. held at 10,000,000"
 unfoldable pub held : ℕ → ℕ
@@ -34,17 +30,3 @@ unfoldable pub byRule : Trajectory → ℕ → ℕ → State
 byRule c off k = let w : Watch = watch c off k in record { level = w .moment .level; off = w .off }
 
 -- ---- the working twin, by segments
-
--- the second at which the last stop is reached
-unfoldable pub arrival : List Segment → ℕ
-arrival [] = 0
-arrival (l ∷ []) = seconds l
-arrival (l ∷ (m ∷ ls)) = seconds l + l .hold + arrival (m ∷ ls)
-
-unfoldable pub stateOn : Trajectory → List Segment → ℕ → ℕ → State
-stateOn c ls off k =
-    let v : ℕ = toward (heading c) (c .start) (recorded ls k) in
-    record { level = v; off = pick (eqb v 0) (held (pick (eqb (c .start) 0) (off + k) (k - arrival ls))) 0 }
-
-unfoldable pub bySegments : Trajectory → ℕ → ℕ → State
-bySegments c off k = stateOn c (segments c) off k

@@ -1,14 +1,11 @@
--- What was let in, and what a day starts from.
--- Assumes nothing.
-use Prim.Native.Nat.{ℕ, _+_, _≤_}
+-- Believed: document 01, Units and records. What was let in, and what a day starts from.
+use Prim.Native.Nat.{ℕ, _+_}
 use mathlib.Core.List.{List, []}
 use mathlib.Core.Bool.{false, _||_}
 use lib.Dec.{eqb}
 use lib.ListN.{take, set, replicate}
 use Rattle.level.specs.Choice.{pick}
-use Rattle.level.specs.Level.{grains}
 use Rattle.level.specs.Numbers.{instructionPlaces}
-use Rattle.records.specs.declared.UnitData.{UnitData}
 use Rattle.records.specs.declared.Opening.{Opening}
 use Rattle.records.specs.declared.Instruction.{Instruction}
 use Rattle.records.specs.Records.{numbers, unitOf, openingOf, instructionOf, noInstruction}
@@ -18,13 +15,6 @@ use Rattle.profile.specs.declared.Taken.{Taken}
 -- "The opening starts a course at 0 to its target": no rate replaced, not maximised, and MXOF goes back to "the opening target"
 unfoldable pub startOf : Opening → Start
 startOf o = record { level = o .level; target = o .target; heat = o .heat; up = 0; down = 0; maximised = false; ordered = o .target; off = o .off }
-
--- what a start keeps to on its unit: no level above the short-term maximum, and a heat that is one
-pub record Low (u : UnitData) (s : Start) : Type 0 where
-  pub level : s .level ≤ grains (u .maximum)
-  pub target : s .target ≤ u .maximum
-  pub ordered : s .ordered ≤ u .maximum
-  pub heat : s .heat ≤ 3
 
 -- nothing let in
 unfoldable pub noTaken : Taken

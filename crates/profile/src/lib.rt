@@ -1,6 +1,4 @@
 // The operating profile of a day.
-ghost use mathlib.Core.Path.{_≡_};
-ghost use Rattle.profile.specs.Finding.{noCourse};
 
 // The course under way: whether the unit is maximised, the target (kW) that MXOF goes back to, and the seconds off where
 // the course began.
@@ -76,19 +74,4 @@ pub struct Closing {
     pub target: u32,
     pub heat: u32,
     pub off: u32,
-}
-
-// What a place for a course holds that none has taken.
-pub fn no_course() -> course::Course
-    ensures { λ r. ⌜ r ≡ noCourse ⌝ }
-{
-    let start = level::Level { grains: 0 };
-    course::Course {
-        begin: 0,
-        start,
-        target: 0,
-        heat: 0,
-        up: 0,
-        down: 0,
-    }
 }

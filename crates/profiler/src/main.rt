@@ -15,7 +15,7 @@ fn put_front(out: &[u8], n: usize) -> bool {
 // The line `X n`.
 fn put_refusal(number: u64) -> bool {
     let mut line = [0u8; 23];
-    let n = lines::put_x(&mut line, number);
+    let n = lines_kinds::put_x(&mut line, number);
     put_front(&line, n)
 }
 

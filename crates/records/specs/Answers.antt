@@ -1,5 +1,4 @@
--- The numbers of the answers, and the first refusal of several conditions.
--- Assumes nothing.
+-- Believed: document 01, Refusals. The numbers of the answers, and the first refusal of several conditions.
 use Prim.Native.Nat.{ℕ}
 use mathlib.Core.List.{List, [], _∷_}
 use mathlib.Core.Bool.{Bool, true, false}

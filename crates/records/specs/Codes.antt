@@ -1,5 +1,4 @@
--- "one byte of code, 1 to 7 in the order TRIP, MWOF, MXON, SYNC, MXOF, DESY, FAIL".
--- Assumes nothing.
+-- Believed: document 01, Units and records. "one byte of code, 1 to 7 in the order TRIP, MWOF, MXON, SYNC, MXOF, DESY, FAIL".
 use Prim.Native.Nat.{ℕ}
 use mathlib.Core.Bool.{Bool, true, false}
 use lib.Dec.{eqb}

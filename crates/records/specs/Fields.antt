@@ -1,5 +1,4 @@
--- Refusals from the input, of the fields of a record: 3 to 9.
--- Assumes nothing.
+-- Believed: document 01, Units and records, Refusals. Refusals from the input, of the fields of a record: 3 to 9.
 use Prim.Native.Nat.{ℕ, suc}
 use mathlib.Core.List.{List, [], _∷_, _++_}
 use mathlib.Core.Bool.{Bool, true, false, _&&_, _||_, not}

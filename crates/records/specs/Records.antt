@@ -1,5 +1,4 @@
--- Units and records: what the bytes of a record say. A record is a byte of kind, then a body.
--- Assumes nothing.
+-- Believed: document 01, Units and records. What the bytes of a record say. A record is a byte of kind, then a body.
 use Prim.Native.Nat.{ℕ, zero, suc, _+_, _*_, _%_}
 use mathlib.Core.List.{List, [], _∷_, _++_}
 use lib.Dec.{eqb}

@@ -1,5 +1,4 @@
 -- Acting times strictly increase in the acting order, and all lie before the day's end.
--- Assumes nothing.
 use mathlib.Core.Path.{_≡_, refl, sym}
 use mathlib.Core.List.{List, [], _∷_}
 use mathlib.Core.Bool.{Bool, true, false, true≢false}

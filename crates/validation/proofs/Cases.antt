@@ -1,5 +1,4 @@
 -- Fates of steps 1 to 4, by computation: a case for each sentence that the laws do not see. The expected fates are document 01's, or its readings'.
--- Assumes nothing.
 use mathlib.Core.Path.{_≡_, refl}
 use mathlib.Core.List.{List, [], _∷_}
 use Prim.Native.Nat.{ℕ}

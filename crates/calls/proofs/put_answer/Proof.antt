@@ -1,5 +1,5 @@
 use native.Mathlib.Omega.{arith}
-use Rattle.text.proofs.Laws.{word-width, line-two}
+use Rattle.lines.proofs.Decimals.{word-width, line-two}
 use borrow.Author.Needs.{needs}
 use Rattle.calls.proofs.put_answer.Statement.{statement}
 use Rattle.calls.proofs.put_answer.Tie as tie

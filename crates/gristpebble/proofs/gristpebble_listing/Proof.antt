@@ -13,17 +13,16 @@ use Rattle.profile.specs.declared.Taken.{Taken}
 use Rattle.profile.specs.Taken.{takenWith}
 use Rattle.day.specs.declared.Day.{Day}
 use Rattle.day.specs.Day.{empty, foundIn, dayWith}
-use Rattle.contract.specs.Program.{ranBy}
+use Rattle.listing.specs.Program.{ranBy}
 use Rattle.day.proofs.Answers.{is-refused, is-taken}
 use Rattle.day.proofs.ByKind.{no-kinds}
-use Rattle.entering.specs.Fronts.{body}
-use Rattle.entering.proofs.Laws.{unit-step, unit-says, opening-step, opening-says, instruction-step, instruction-says, instruction-room}
-use Rattle.running.specs.Ended.{openDay, endedBy}
-use Rattle.running.proofs.Runs.{from, stops, fits, goes-on, by-other, run-first, run-none}
-use Rattle.closing.specs.Result.{ranResult, ranLent}
-use Rattle.gristpebble.specs.Listed.{listedResult, listedLent}
+use Rattle.day_enter.specs.Fronts.{body}
+use Rattle.day_enter.proofs.Laws.{unit-step, unit-says, opening-step, opening-says, instruction-step, instruction-says, instruction-room}
+use Rattle.listing_run.specs.Ended.{openDay, endedBy}
+use Rattle.listing_run.proofs.Runs.{from, stops, fits, goes-on, by-other, run-first, run-none}
+use Rattle.listing.specs.Result.{ranResult, ranLent, listedResult, listedLent}
 use Rattle.gristpebble.proofs.Laws.{ran-listed, ran-refused}
-use Rattle.running.proofs.Room.{run-fits}
+use Rattle.listing_run.proofs.Room.{run-fits}
 use Rattle.gristpebble.proofs.gristpebble_listing.Statement.{statement}
 use Rattle.gristpebble.proofs.gristpebble_listing.Tie as tie
 

@@ -1,6 +1,6 @@
 use native.Mathlib.Omega.{arith}
 use borrow.Author.Needs.{needs}
-use Rattle.text.proofs.Laws.{word-width}
+use Rattle.lines.proofs.Decimals.{word-width}
 use Rattle.lines.proofs.Widths.{x-length}
 use Rattle.profiler.proofs.put_refusal.Statement.{statement}
 use Rattle.profiler.proofs.put_refusal.Tie as tie

@@ -1,5 +1,0 @@
-pub mod Calls
-pub mod LetIn
-pub mod Demand3
-pub mod Program
-pub mod Cases

@@ -1,0 +1,42 @@
+use Prim.Native.Nat.{_+_, _*_, _-_}
+use mathlib.Core.Path.{_∙_}
+use Rattle.course_rates.specs.Ways.{headed}
+use Rattle.course_walk.specs.Walk.{afterRun, restRun}
+use Rattle.course_walk.proofs.Onward.{reaches-less}
+use Rattle.course_walk.proofs.Rest.{left-is}
+use borrow.Author.Needs.{needs}
+use Rattle.course_walk.proofs.after_run.Statement.{statement}
+use Rattle.course_walk.proofs.after_run.Tie as tie
+
+mul-m : tie.Need-mul-m
+mul-m c = search needs
+
+moved-requires : tie.Need-moved-requires
+moved-requires c κs = reaches-less (headed (c .before .args .up)) _ _ _ (c .before .pre .1 .0) (c .before .pre .1 .1)
+
+sub-t10 : tie.Need-sub-t10
+sub-t10 c = search needs
+
+hold-from-requires : tie.Need-hold-from-requires
+hold-from-requires c κs = search needs
+
+add-t11 : tie.Need-add-t11
+add-t11 c = search needs
+
+returns : tie.Need-returns
+unfolding afterRun restRun
+returns c =
+    let s = c .before .before .before .before .before in
+    let m = s .args .f * s .args .s .rate in
+    λ i. record {
+      place = record {
+        second = s .args .p .second + s .args .f;
+        level = c .before .before .before .moved .ensures i;
+        left = (c .before .hold-from .ensures ∙ left-is (s .args .s .way) (s .args .s .hold) m (s .pre .1 .0)) i;
+      };
+      rest = record { way = s .args .s .way - m; rate = s .args .s .rate; hold = s .args .s .hold };
+    }
+
+pub after-run-spec : {M : Type 1} → statement M
+after-run-spec =
+    tie.close (tie.spec mul-m moved-requires sub-t10 hold-from-requires add-t11 returns)

@@ -1,0 +1,4 @@
+pub mod Front
+pub mod Runs
+pub mod Room
+pub mod Results

@@ -1,5 +1,0 @@
-pub mod Adding
-pub mod Lines
-pub mod Areas
-pub mod Watch
-pub mod Pass

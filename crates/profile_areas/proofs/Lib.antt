@@ -1,0 +1,7 @@
+pub mod Off
+pub mod Watching
+pub mod Adding
+pub mod Lines
+pub mod Areas
+pub mod Watch
+pub mod Pass

@@ -1,0 +1,28 @@
+use mathlib.Core.Path.{ap, _∙_}
+use Rattle.records.specs.Records.{unitOf}
+use Rattle.records.specs.Fields.{unitAnswer}
+use Rattle.records_unit.specs.Decoded.{unitAnswerFor}
+use borrow.Author.Needs.{needs}
+use Rattle.records_unit.proofs.read_unit.Statement.{statement}
+use Rattle.records_unit.proofs.read_unit.Tie as tie
+
+unit-numbers-requires : tie.Need-unit-numbers-requires
+unit-numbers-requires c κs = search needs
+
+unit-of-requires : tie.Need-unit-of-requires
+unit-of-requires c κs = search needs
+
+unit-answer-requires : tie.Need-unit-answer-requires
+unit-answer-requires c κs = search needs
+
+returns : tie.Need-returns
+unfolding unitAnswer
+returns c =
+    let ns = c .before .before .unit-numbers .ensures in
+    let unit = c .before .unit-of .ensures ∙ ap unitOf ns in
+    let answer = c .unit-answer .ensures ∙ (λ i. unitAnswerFor (ns i) (unit i)) in
+    λ i. record { answer = answer i; unit = unit i }
+
+pub read-unit-spec : {M : Type 1} → statement M
+read-unit-spec =
+    tie.close (tie.spec unit-numbers-requires unit-of-requires unit-answer-requires returns)

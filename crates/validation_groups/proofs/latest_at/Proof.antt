@@ -1,0 +1,69 @@
+use Prim.Native.Nat.{_≤_, _+_, _-_}
+use mathlib.Core.Path.{_≡_, sym, _∙_}
+use lib.ListN.{take, drop}
+use Rattle.validation_groups.specs.Working.{latestAt}
+use Rattle.level.proofs.Lists.{left-none}
+use Rattle.validation_groups.proofs.Laws.{latest-none, latest-more}
+use native.Mathlib.Omega.{arith}
+use borrow.Author.Needs.{needs}
+use Rattle.validation_groups.proofs.latest_at.Statement.{statement}
+use Rattle.validation_groups.proofs.latest_at.Tie as tie
+
+abbrev Inv-loop : tie.InvT-loop
+Inv-loop times issues n t best₀ i₀ best i = (i ≤ n) × (best ≡ latestAt (drop i (take n times)) (drop i (take n issues)) t)
+
+abbrev μ-loop : tie.MeasureT-loop
+μ-loop times issues n t best₀ i₀ best i = i
+
+loop-holds : tie.Need-loop-holds Inv-loop μ-loop
+loop-holds c = (omega arith, sym (latest-none _ _ (left-none (c .args .times .now) (c .args .n) (c .args .n) (omega arith))))
+
+sub-i : tie.Need-sub-i Inv-loop μ-loop
+sub-i c = omega arith
+
+mul-x : tie.Need-mul-x Inv-loop μ-loop
+mul-x c = omega arith
+
+element-copy-out-x : tie.Need-element-copy-out-x Inv-loop μ-loop
+element-copy-out-x c = omega arith
+
+mul-j : tie.Need-mul-j Inv-loop μ-loop
+mul-j c = omega arith
+
+element-copy-out-j : tie.Need-element-copy-out-j Inv-loop μ-loop
+element-copy-out-j c = omega arith
+
+later-requires : tie.Need-later-requires Inv-loop μ-loop
+later-requires c κs = search needs
+
+loop-less : tie.Need-loop-less Inv-loop μ-loop
+loop-less c = omega arith
+
+loop-again : tie.Need-loop-again Inv-loop μ-loop
+loop-again c =
+    let s = c .before .before .before .before .before in
+    let l = c .before .before .before .before .loop in
+    let e : l .i - 1 + 1 ≡ l .i = omega arith in
+    (omega arith, c .later .ensures ∙ (rw (l .inv .1) (rw e at (latest-more (s .args .times .now) (s .args .n) (omega arith) (s .args .issues .now) (omega arith) (s .args .t) (l .i - 1) (omega arith)))))
+
+returns : tie.Need-returns Inv-loop μ-loop
+returns c =
+    let e : c .before .loop .i ≡ 0 = omega arith in
+    rw e at (c .before .loop .inv .1)
+
+pub latest-at-spec : {M : Type 1} → statement M
+latest-at-spec =
+    tie.close
+    (tie.spec
+    Inv-loop
+    μ-loop
+    loop-holds
+    sub-i
+    mul-x
+    element-copy-out-x
+    mul-j
+    element-copy-out-j
+    later-requires
+    loop-less
+    loop-again
+    returns)

@@ -1,0 +1,61 @@
+use Prim.Native.Nat.{_≤_, _+_, _-_}
+use mathlib.Core.Path.{_≡_, sym, _∙_}
+use lib.ListN.{take, drop}
+use Rattle.validation_groups.specs.Working.{nextTimeAmong}
+use Rattle.level.proofs.Lists.{left-none}
+use Rattle.validation_groups.proofs.Laws.{next-none, next-more}
+use native.Mathlib.Omega.{arith}
+use borrow.Author.Needs.{needs}
+use Rattle.validation_groups.proofs.next_time.Statement.{statement}
+use Rattle.validation_groups.proofs.next_time.Tie as tie
+
+abbrev Inv-loop : tie.InvT-loop
+Inv-loop times n t end best₀ i₀ best i = (i ≤ n) × (best ≡ nextTimeAmong end (drop i (take n times)) t)
+
+abbrev μ-loop : tie.MeasureT-loop
+μ-loop times n t end best₀ i₀ best i = i
+
+loop-holds : tie.Need-loop-holds Inv-loop μ-loop
+loop-holds c = (omega arith, sym (next-none _ _ (left-none (c .args .times .now) (c .args .n) (c .args .n) (omega arith))))
+
+sub-i : tie.Need-sub-i Inv-loop μ-loop
+sub-i c = omega arith
+
+mul-x : tie.Need-mul-x Inv-loop μ-loop
+mul-x c = omega arith
+
+element-copy-out-x : tie.Need-element-copy-out-x Inv-loop μ-loop
+element-copy-out-x c = omega arith
+
+earlier-requires : tie.Need-earlier-requires Inv-loop μ-loop
+earlier-requires c κs = search needs
+
+loop-less : tie.Need-loop-less Inv-loop μ-loop
+loop-less c = omega arith
+
+loop-again : tie.Need-loop-again Inv-loop μ-loop
+loop-again c =
+    let s = c .before .before .before .before in
+    let l = c .before .before .before .loop in
+    let e : l .i - 1 + 1 ≡ l .i = omega arith in
+    (omega arith, c .earlier .ensures ∙ (rw (l .inv .1) (rw e at (next-more (s .args .times .now) (s .args .n) (omega arith) (s .args .end) (s .args .t) (l .i - 1) (omega arith)))))
+
+returns : tie.Need-returns Inv-loop μ-loop
+returns c =
+    let e : c .before .loop .i ≡ 0 = omega arith in
+    rw e at (c .before .loop .inv .1)
+
+pub next-time-spec : {M : Type 1} → statement M
+next-time-spec =
+    tie.close
+    (tie.spec
+    Inv-loop
+    μ-loop
+    loop-holds
+    sub-i
+    mul-x
+    element-copy-out-x
+    earlier-requires
+    loop-less
+    loop-again
+    returns)

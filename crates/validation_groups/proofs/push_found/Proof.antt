@@ -1,0 +1,25 @@
+use mathlib.Core.Path.{_∙_, ap, sym}
+use Rattle.validation_groups.specs.Working.{joined}
+use borrow.Author.Needs.{needs}
+use Rattle.validation_groups.proofs.push_found.Statement.{statement}
+use Rattle.validation_groups.proofs.push_found.Tie as tie
+
+enum-known-found : tie.Need-enum-known-found
+enum-known-found c = search needs
+
+push-requires : tie.Need-push-requires
+push-requires c κs = search needs
+
+enum-told : tie.Need-enum-told
+enum-told c = search needs
+
+returns : tie.Need-returns
+unfolding joined
+returns c = c .push .ensures ∙ sym (ap (joined (c .before .before .before .before .args .s)) (c .before .before .found .given .1))
+
+returns-2 : tie.Need-returns-2
+unfolding joined
+returns-2 c = sym (ap (joined (c .before .before .args .s)) (c .enum-told .given .1))
+
+pub push-found-spec : {M : Type 1} → statement M
+push-found-spec = tie.close (tie.spec enum-known-found push-requires enum-told returns returns-2)

@@ -1,0 +1,81 @@
+use Prim.Native.Nat.{ℕ, _+_, _-_, _≤_, _<_}
+use mathlib.Core.Path.{_≡_, refl, ap, _∙_}
+use lib.Dec.{ltb}
+use lib.ListN.{set, take, getD}
+use Rattle.level.specs.Choice.{pick}
+use Rattle.level.specs.Numbers.{instructionPlaces}
+use Rattle.level.specs.Lists.{filled}
+use Rattle.validation_groups.specs.Working.{latestAt}
+use Rattle.validation_kept.specs.Late.{fatesTo}
+use Rattle.validation_kept.proofs.Late.{fates-more}
+use native.Mathlib.Omega.{arith}
+use borrow.Author.Needs.{needs}
+use Rattle.validation_kept.proofs.fates_of.Statement.{statement}
+use Rattle.validation_kept.proofs.fates_of.Tie as tie
+
+abbrev Inv-loop : tie.InvT-loop
+Inv-loop times issues n ordered later out₀ latest₀ i₀ out latest i =
+    (i ≤ n) × (out ≡ filled instructionPlaces 0 (fatesTo (take n times) (take n issues) later i)) × (0 < i → latest ≡ latestAt (take n times) (take n issues) (getD times (i - 1) 0))
+
+abbrev μ-loop : tie.MeasureT-loop
+μ-loop times issues n ordered later out₀ latest₀ i₀ out latest i = n - i
+
+loop-holds : tie.Need-loop-holds Inv-loop μ-loop
+unfolding filled fatesTo
+loop-holds c = (omega arith, refl, λ h. absurd (omega arith))
+
+add-i : tie.Need-add-i Inv-loop μ-loop
+add-i c = omega arith
+
+latest-of-requires : tie.Need-latest-of-requires Inv-loop μ-loop
+latest-of-requires c κs = search needs
+
+mul-superseded : tie.Need-mul-superseded Inv-loop μ-loop
+mul-superseded c = omega arith
+
+element-copy-out-superseded : tie.Need-element-copy-out-superseded Inv-loop μ-loop
+element-copy-out-superseded c = omega arith
+
+array-read-fate : tie.Need-array-read-fate Inv-loop μ-loop
+array-read-fate c = omega arith
+
+final-fate-requires : tie.Need-final-fate-requires Inv-loop μ-loop
+final-fate-requires c κs = search needs
+
+array-write-out : tie.Need-array-write-out Inv-loop μ-loop
+array-write-out c = omega arith
+
+loop-less : tie.Need-loop-less Inv-loop μ-loop
+loop-less c = omega arith
+
+loop-again : tie.Need-loop-again Inv-loop μ-loop
+loop-again c =
+    let a = c .before .before .before .before .before .args in
+    let l = c .before .before .before .before .loop in
+    let new = c .before .before .latest-of .ensures in
+    let e = c .final-fate .ensures ∙ ap (λ (k : ℕ). pick (ltb (getD (a .issues .now) (l .i) 0) k) 1 (getD (a .t5) (l .i) 0)) new in
+    let p : l .i + 1 - 1 ≡ l .i = omega arith in
+    (omega arith, (λ q. set (l .inv .1 q) (l .i) (e q)) ∙ fates-more (a .times .now) (a .issues .now) (a .n) (l .i) (a .t5) (omega arith) (omega arith), λ h. rw p new)
+
+returns : tie.Need-returns Inv-loop μ-loop
+returns c =
+    let e : c .before .loop .i ≡ c .before .before .args .n = omega arith in
+    rw e at (c .before .loop .inv .1)
+
+pub fates-of-spec : {M : Type 1} → statement M
+fates-of-spec =
+    tie.close
+    (tie.spec
+    Inv-loop
+    μ-loop
+    loop-holds
+    add-i
+    latest-of-requires
+    mul-superseded
+    element-copy-out-superseded
+    array-read-fate
+    final-fate-requires
+    array-write-out
+    loop-less
+    loop-again
+    returns)

@@ -1,0 +1,91 @@
+use mathlib.Core.Path.{_≡_, ap, _∙_}
+use mathlib.Core.List.{List}
+use Prim.Native.Nat.{ℕ, _≤_}
+use native.Mathlib.Omega.{arith}
+use lib.ListN.{length, take}
+use Rattle.level.specs.Numbers.{instructionPlaces}
+use Rattle.level.specs.Lists.{filled}
+use Rattle.validation.specs.Kept.{actors}
+use Rattle.validation_kept.specs.Late.{fatesTo, actingWith}
+use Rattle.validation_sequence.specs.Working.{checking}
+use Rattle.level.proofs.Lists.{map-length}
+use Rattle.validation_kept.proofs.Whole.{validation-is, none-entered as nothing-entered}
+use borrow.Author.Needs.{needs}
+use Rattle.validation_kept.proofs.validate.Statement.{statement}
+use Rattle.validation_kept.proofs.validate.Tie as tie
+
+none-entered-requires : tie.Need-none-entered-requires
+none-entered-requires c κs = search needs
+
+returns : tie.Need-returns
+unfolding filled
+returns c =
+    let a = c .before .before .args in
+    c .none-entered .ensures ∙ nothing-entered (a .instructions) (a .count) (a .end) (c .before .if1 .taken)
+
+smaller-count-requires : tie.Need-smaller-count-requires
+smaller-count-requires c κs = search needs
+
+time-all-requires : tie.Need-time-all-requires
+time-all-requires c κs = search needs
+
+in-order-requires : tie.Need-in-order-requires
+in-order-requires c κs = search needs
+
+used-in-requires : tie.Need-used-in-requires
+used-in-requires c κs = search needs
+
+check-all-requires : tie.Need-check-all-requires
+check-all-requires c κs = search needs
+
+late-fates-requires : tie.Need-late-fates-requires
+late-fates-requires c κs = search needs
+
+settle-late-requires : tie.Need-settle-late-requires
+settle-late-requires c κs = search needs
+
+fates-of-requires : tie.Need-fates-of-requires
+fates-of-requires c κs =
+    let q = c .before .before .before .before .before .before .before .before .before .before .before .before .before .before .before .time-all .ensures in
+    (omega (arith, c .before .before .before .before .before .before .before .before .before .before .before .before .before .before .before .before .before .before .smaller-count .ensures), q .0, q .1, c .before .before .before .before .before .before .before .before .before .before .before .before .before .in-order .ensures)
+
+acts-of-requires : tie.Need-acts-of-requires
+acts-of-requires c κs = search needs
+
+returns-2 : tie.Need-returns-2
+returns-2 c =
+    let a = c .before .before .before .before .before .before .before .before .before .before .before .before .before .before .before .before .before .before .before .before .before .before in
+    let end = a .args .end in
+    let n = c .before .before .before .before .before .before .before .before .before .before .before .before .before .before .before .before .before .before .before .before .smaller-count in
+    let q = c .before .before .before .before .before .before .before .before .before .before .before .before .before .before .before .before .before .time-all in
+    let times = q .last .1 .1 .0 in
+    let issues = q .last .1 .1 .1 .0 in
+    let u = c .before .before .before .before .before .before .before .before .before .before .before .before .used-in in
+    let k = c .before .before .before .before .before .before .before .before .check-all in
+    let kept = k .result in
+    let step = k .ensures in
+    let g : length (kept .items) ≡ instructionPlaces = simp map-length at (k .ok .1 .1 .0 .1 .0 .1) in
+    let fits : kept .count ≤ length (kept .items) = omega (arith, step .few) in
+    let late = c .before .before .before .before .before .before .late-fates .ensures (kept .items) fits (step .timed) in
+    let later = c .before .before .before .before .settle-late .ensures end (kept .items) fits (step .named) late in
+    let f = c .before .fates-of .ensures ∙ ap (λ (l : List ℕ). filled instructionPlaces 0 (fatesTo (take (n .result) times) (take (n .result) issues) l (n .result))) later in
+    c .acts-of .ensures end late
+    ∙ (ap (λ (l : List ℕ). actingWith l (actors end (take (kept .count) (kept .items)))) f
+    ∙ validation-is (a .args .instructions) (a .args .count) end (n .result) (a .good .0 .1 .0 .1) (n .ensures) (take (n .result) times) (take (n .result) issues) (q .ensures .2) (u .result) (u .ensures .0) (u .ensures .1) (checking (kept .items) (kept .count) (k .last .1 .0)) (step .tracks) fits)
+
+pub validate-spec : {M : Type 1} → statement M
+validate-spec =
+    tie.close
+    (tie.spec
+    none-entered-requires
+    returns
+    smaller-count-requires
+    time-all-requires
+    in-order-requires
+    used-in-requires
+    check-all-requires
+    late-fates-requires
+    settle-late-requires
+    fates-of-requires
+    acts-of-requires
+    returns-2)

@@ -1,0 +1,22 @@
+use Rattle.validation_rank.proofs.Ranks.{better-one, better-none}
+use borrow.Author.Needs.{needs}
+use Rattle.validation_rank.proofs.better.Statement.{statement}
+use Rattle.validation_rank.proofs.better.Tie as tie
+
+enum-known-best : tie.Need-enum-known-best
+enum-known-best c = search needs
+
+higher-requires : tie.Need-higher-requires
+higher-requires c κs = search needs
+
+enum-told : tie.Need-enum-told
+enum-told c = search needs
+
+returns : tie.Need-returns
+returns c = better-one _ _ _ _ (c .before .before .best .given .1) (c .higher .ensures)
+
+returns-2 : tie.Need-returns-2
+returns-2 c = better-none _ _ (c .enum-told .given .1)
+
+pub better-spec : {M : Type 1} → statement M
+better-spec = tie.close (tie.spec enum-known-best higher-requires enum-told returns returns-2)

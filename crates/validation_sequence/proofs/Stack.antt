@@ -1,0 +1,193 @@
+-- The kept ones as an array and a height: the laws of step 3's lists, latest first.
+use mathlib.Core.Path.{_≡_, refl, sym, ap, _∙_}
+use mathlib.Core.List.{List, [], _∷_, _++_, append-assoc, append-nil}
+use mathlib.Core.Bool.{Bool, true, false}
+use Prim.Native.Nat.{ℕ, zero, suc, _+_, _-_, _≤_, _<_}
+use native.Mathlib.Numerals.{add-one}
+use native.Mathlib.Decide.{ℕ-discrete}
+use native.Mathlib.Omega.{arith}
+use lib.Dec.{leb}
+use lib.ListN.{length, take, getD, set}
+use lib.Seq.{take-suc, getD-set-same, getD-set-other}
+use Rattle.level.specs.Choice.{pick}
+use Rattle.records.specs.declared.Effect.the-variants.{Trip, Sync, Desy}
+use Rattle.records.specs.Codes.{same}
+use Rattle.validation.specs.declared.Numbered.{Numbered}
+use Rattle.validation.specs.Kept.{effectiveOf, effectOf, repeats, syncWithinHour, fromSync, beforeSync, turned}
+use Rattle.validation_groups.specs.Working.{noNumbered}
+use Rattle.validation_sequence.specs.Working.{stackOf, stackFrom, syncPlace, Synced}
+
+-- a place above is another matter
+pub stack-set : (ks : List Numbered) (h j : ℕ) (o : Numbered) → h ≤ j → stackOf (set ks j o) h ≡ stackOf ks h
+unfolding stackOf
+stack-set ks zero j o p = refl
+stack-set ks (suc h) j o p =
+    let e : getD (set ks j o) h noNumbered ≡ getD ks h noNumbered = getD-set-other ks j h o noNumbered (λ q. omega arith) in
+    let ih : stackOf (set ks j o) h ≡ stackOf ks h = stack-set ks h j o (omega arith) in
+    λ i. e i ∷ ih i
+
+pub stack-push : (ks : List Numbered) (h : ℕ) (o : Numbered) → h < length ks → stackOf (set ks h o) (h + 1) ≡ o ∷ stackOf ks h
+unfolding stackOf
+stack-push ks h o p =
+    let e : getD (set ks h o) h noNumbered ≡ o = getD-set-same ks h o noNumbered p in
+    let r : stackOf (set ks h o) h ≡ stackOf ks h = stack-set ks h h o (omega arith) in
+    rw add-one (λ i. e i ∷ r i)
+
+stack-before : (ks : List Numbered) (h : ℕ) (ys : List Numbered) → h ≤ length ks → turned (stackOf ks h) ys ≡ take h ks ++ ys
+unfolding stackOf turned
+stack-before ks zero ys p = refl
+stack-before ks (suc h) ys p =
+    stack-before ks h (getD ks h noNumbered ∷ ys) (omega arith)
+    ∙ (sym (append-assoc (take h ks) (getD ks h noNumbered ∷ []) ys) ∙ ap (λ (l : List Numbered). l ++ ys) (sym (take-suc ks h noNumbered p)))
+
+pub stack-turned : (ks : List Numbered) (h : ℕ) → h ≤ length ks → turned (stackOf ks h) [] ≡ take h ks
+stack-turned ks h p = stack-before ks h [] p ∙ append-nil (take h ks)
+
+-- ---- against the last kept one
+stack-top : (ks : List Numbered) (h : ℕ) (last : Numbered) → 0 < h → last ≡ getD ks (h - 1) noNumbered → last ∷ stackOf ks (h - 1) ≡ stackOf ks h
+unfolding stackOf
+stack-top ks zero last p e = absurd (omega arith)
+stack-top ks (suc h) last p e =
+    let q : suc h - 1 ≡ h = omega arith in
+    rw (e, q)
+
+module _ (o last : Numbered) (ks : List Numbered) (h : ℕ) (e : last ≡ getD ks (h - 1) noNumbered) where
+  pub repeats-none : h ≡ 0 → false ≡ repeats o (stackOf ks h)
+  unfolding repeats stackOf
+  repeats-none z = rw z
+
+  repeats-last : 0 < h → repeats o (last ∷ stackOf ks (h - 1)) ≡ repeats o (stackOf ks h)
+  repeats-last p = ap (repeats o) (stack-top ks h last p e)
+
+  pub repeats-other : 0 < h → same (effectOf o) (effectOf last) ≡ false → false ≡ repeats o (stackOf ks h)
+  unfolding repeats
+  repeats-other p n = rw n at (repeats-last p)
+
+  module _ (p : 0 < h) (l : same (effectOf o) (effectOf last) ≡ true) where
+    pub repeats-sync : same (effectOf o) Sync ≡ true → true ≡ repeats o (stackOf ks h)
+    unfolding repeats
+    repeats-sync s = rw (l, s) at (repeats-last p)
+
+    pub repeats-desy : same (effectOf o) Sync ≡ false → same (effectOf o) Desy ≡ true → true ≡ repeats o (stackOf ks h)
+    unfolding repeats
+    repeats-desy s d = rw (l, s, d) at (repeats-last p)
+
+    pub repeats-trip : same (effectOf o) Sync ≡ false → same (effectOf o) Desy ≡ false → same (effectOf o) Trip ≡ repeats o (stackOf ks h)
+    unfolding repeats
+    repeats-trip s d = rw (l, s, d) at (repeats-last p)
+
+-- ---- the latest kept SYNC
+-- a place above is another matter
+sync-set : (ks : List Numbered) (h j : ℕ) (o : Numbered) → h ≤ j → syncPlace (set ks j o) h ≡ syncPlace ks h
+unfolding syncPlace
+sync-set ks zero j o p = refl
+sync-set ks (suc h) j o p =
+    let e : getD (set ks j o) h noNumbered ≡ getD ks h noNumbered = getD-set-other ks j h o noNumbered (λ q. omega arith) in
+    let ih : syncPlace (set ks j o) h ≡ syncPlace ks h = sync-set ks h j o (omega arith) in
+    λ i. pick (same (effectOf (e i)) Sync) (suc h) (ih i)
+
+sync-push : (ks : List Numbered) (h : ℕ) (o : Numbered) → h < length ks → syncPlace (set ks h o) (suc h) ≡ pick (same (effectOf o) Sync) (suc h) (syncPlace ks h)
+unfolding syncPlace
+sync-push ks h o p =
+    let e : getD (set ks h o) h noNumbered ≡ o = getD-set-same ks h o noNumbered p in
+    let r : syncPlace (set ks h o) h ≡ syncPlace ks h = sync-set ks h h o (omega arith) in
+    λ i. pick (same (effectOf (e i)) Sync) (suc h) (r i)
+
+pub synced-push : (places : List ℕ) (ks : List Numbered) (h v place : ℕ) (o : Numbered) → v ≡ pick (same (effectOf o) Sync) (h + 1) place → place ≡ syncPlace ks h → h < length places → h < length ks →
+    Synced places ks h → Synced (set places h v) (set ks h o) (h + 1)
+synced-push places ks h v place o e f p q r j l = elim (ℕ-discrete j h) [
+  | yes i ↦
+      let m : h + 1 ≡ suc h = omega arith in
+      rw i (getD-set-same places h v 0 p ∙ (e ∙ ((λ k. pick (same (effectOf o) Sync) (m k) (f k)) ∙ sym (sync-push ks h o q))))
+  | no i ↦ getD-set-other places h j v 0 i ∙ (r j (omega arith) ∙ sym (sync-set ks (suc j) h o (omega arith)))
+]
+
+pub sync-none : (ks : List Numbered) (h : ℕ) → h ≡ 0 → 0 ≡ syncPlace ks h
+unfolding syncPlace
+sync-none ks h e = rw e
+
+pub sync-noted : (places : List ℕ) (ks : List Numbered) (h : ℕ) → 0 < h → Synced places ks h → getD places (h - 1) 0 ≡ syncPlace ks h
+sync-noted places ks h p r = let e : suc (h - 1) ≡ h = omega arith in rw e at (r (h - 1) (omega arith))
+
+module _ (ks : List Numbered) where
+  pub sync-le : (h : ℕ) → syncPlace ks h ≤ h
+  unfolding syncPlace
+  sync-le zero = omega arith
+  sync-le (suc h) = go (same (effectOf (getD ks h noNumbered)) Sync) (sync-le h)
+    where
+      go : (b : Bool) → syncPlace ks h ≤ h → pick b (suc h) (syncPlace ks h) ≤ suc h
+      go true ih = omega arith
+      go false ih = omega arith
+
+  pub hour-none : (t h : ℕ) → syncPlace ks h ≡ 0 → syncWithinHour t (stackOf ks h) ≡ false
+  unfolding syncPlace syncWithinHour stackOf
+  hour-none t zero e = refl
+  hour-none t (suc h) e = go (same (effectOf (getD ks h noNumbered)) Sync) e (hour-none t h)
+    where
+      go : (b : Bool) → pick b (suc h) (syncPlace ks h) ≡ 0 → (syncPlace ks h ≡ 0 → syncWithinHour t (stackOf ks h) ≡ false) →
+          pick b (leb t (effectiveOf (getD ks h noNumbered) + 3600)) (syncWithinHour t (stackOf ks h)) ≡ false
+      go true q ih = absurd (omega arith)
+      go false q ih = ih q
+
+  pub sync-is : (h : ℕ) → 0 < syncPlace ks h → same (effectOf (getD ks (syncPlace ks h - 1) noNumbered)) Sync ≡ true
+  unfolding syncPlace
+  sync-is zero p = absurd (omega arith)
+  sync-is (suc h) p = go (same (effectOf (getD ks h noNumbered)) Sync) refl p (sync-is h)
+    where
+      go : (b : Bool) → same (effectOf (getD ks h noNumbered)) Sync ≡ b → 0 < pick b (suc h) (syncPlace ks h) →
+          (0 < syncPlace ks h → same (effectOf (getD ks (syncPlace ks h - 1) noNumbered)) Sync ≡ true) →
+          same (effectOf (getD ks (pick b (suc h) (syncPlace ks h) - 1) noNumbered)) Sync ≡ true
+      go true e q ih = let d : suc h - 1 ≡ h = omega arith in rw d e
+      go false e q ih = ih q
+
+  -- the hour is timed from the latest kept SYNC alone
+  pub hour-some : (t h : ℕ) → 0 < syncPlace ks h → syncWithinHour t (stackOf ks h) ≡ syncWithinHour t (getD ks (syncPlace ks h - 1) noNumbered ∷ [])
+  unfolding syncPlace syncWithinHour stackOf
+  hour-some t zero p = absurd (omega arith)
+  hour-some t (suc h) p = go (same (effectOf (getD ks h noNumbered)) Sync) refl p (hour-some t h)
+    where
+      timed : List Numbered → Bool
+      timed xs = syncWithinHour t xs
+
+      go : (b : Bool) → same (effectOf (getD ks h noNumbered)) Sync ≡ b → 0 < pick b (suc h) (syncPlace ks h) →
+          (0 < syncPlace ks h → timed (stackOf ks h) ≡ timed (getD ks (syncPlace ks h - 1) noNumbered ∷ [])) →
+          timed (getD ks h noNumbered ∷ stackOf ks h) ≡ timed (getD ks (pick b (suc h) (syncPlace ks h) - 1) noNumbered ∷ [])
+      go true e q ih = let d : suc h - 1 ≡ h = omega arith in rw (d, e)
+      go false e q ih = rw e (ih q)
+
+  pub before-sync : (h : ℕ) → beforeSync (stackOf ks h) ≡ stackOf ks (syncPlace ks h - 1)
+  unfolding syncPlace beforeSync stackOf
+  before-sync zero = refl
+  before-sync (suc h) = go (same (effectOf (getD ks h noNumbered)) Sync) (before-sync h)
+    where
+      go : (b : Bool) → beforeSync (stackOf ks h) ≡ stackOf ks (syncPlace ks h - 1) →
+          pick b (stackOf ks h) (beforeSync (stackOf ks h)) ≡ stackOf ks (pick b (suc h) (syncPlace ks h) - 1)
+      go true ih = let e : suc h - 1 ≡ h = omega arith in rw e
+      go false ih = ih
+
+  from-more : (a h : ℕ) → a ≤ h → stackFrom ks a (suc h - a) ≡ getD ks h noNumbered ∷ stackFrom ks a (h - a)
+  unfolding stackFrom
+  from-more a h p =
+      let e : suc h - a ≡ suc (h - a) = omega arith in
+      let f : a + (h - a) ≡ h = omega arith in
+      ap (stackFrom ks a) e ∙ ap (λ (k : ℕ). getD ks k noNumbered ∷ stackFrom ks a (h - a)) f
+
+  from-none : (a : ℕ) → stackFrom ks a (a - a) ≡ []
+  unfolding stackFrom
+  from-none a = let e : a - a ≡ 0 = omega arith in rw e
+
+  pub from-sync : (h : ℕ) → 0 < syncPlace ks h → fromSync (stackOf ks h) ≡ stackFrom ks (syncPlace ks h - 1) (h - (syncPlace ks h - 1))
+  unfolding syncPlace fromSync stackOf
+  from-sync zero p = absurd (omega arith)
+  from-sync (suc h) p = go (same (effectOf (getD ks h noNumbered)) Sync) p (from-sync h)
+    where
+      go : (b : Bool) → 0 < pick b (suc h) (syncPlace ks h) →
+          (0 < syncPlace ks h → fromSync (stackOf ks h) ≡ stackFrom ks (syncPlace ks h - 1) (h - (syncPlace ks h - 1))) →
+          pick b (getD ks h noNumbered ∷ []) (getD ks h noNumbered ∷ fromSync (stackOf ks h))
+          ≡ stackFrom ks (pick b (suc h) (syncPlace ks h) - 1) (suc h - (pick b (suc h) (syncPlace ks h) - 1))
+      go true q ih =
+          let e : suc h - 1 ≡ h = omega arith in
+          rw e (sym (from-more h h (omega arith) ∙ ap (λ (l : List Numbered). getD ks h noNumbered ∷ l) (from-none h)))
+      go false q ih =
+          ap (λ (l : List Numbered). getD ks h noNumbered ∷ l) (ih q)
+          ∙ sym (from-more (syncPlace ks h - 1) h (omega (arith, sync-le h)))

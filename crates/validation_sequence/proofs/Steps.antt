@@ -1,0 +1,249 @@
+-- The cases of step 3, each with its conditions as plain facts.
+use mathlib.Core.Path.{_≡_, refl, sym, ap, _∙_}
+use mathlib.Core.List.{List, [], _∷_, _++_, map}
+use mathlib.Core.Bool.{Bool, true, false}
+use Prim.Native.Nat.{ℕ, suc, _+_, _-_, _≤_, _<_}
+use native.Mathlib.Numerals.{add-one}
+use native.Mathlib.Decide.{ℕ-discrete}
+use native.Mathlib.Omega.{arith}
+use lib.Dec.{eqb}
+use lib.ListN.{length, take, getD, set, replicate, length-set}
+use lib.Seq.{take-suc, set-out, getD-set-same, getD-set-other}
+use borrow.Author.Tests.{eq-eqb, ne-eqb}
+use Rattle.level.specs.Choice.{pick}
+use Rattle.level.specs.Numbers.{instructionPlaces}
+use Rattle.records.specs.declared.Effect.the-variants.{Sync, Fail}
+use Rattle.records.specs.Codes.{same}
+use Rattle.validation.specs.declared.Numbered.{Numbered}
+use Rattle.validation.specs.Kept.{effectiveOf, effectOf, Mark, mark, repeats, syncWithinHour, fromSync, beforeSync, Checked, failed, checkOne, check, acting}
+use Rattle.validation_groups.specs.Working.{noNumbered}
+use Rattle.validation_sequence.specs.Working.{Checking, checking, entryNumber, Noted, Synced, never, Soon, Stepped, stackOf, stackFrom, syncPlace, setFate, marked, withFate, keeping, noneChecked, Tracks, Follows}
+use Rattle.validation_sequence.proofs.Stack.{stack-push, synced-push, hour-none, hour-some, before-sync, from-sync}
+
+-- ---- fates in an array
+module _ (fates : List ℕ) (number fate : ℕ) where
+  pub set-zero : number ≡ 0 → fates ≡ setFate fates number fate
+  unfolding setFate
+  set-zero e = simp (eq-eqb _ _ e)
+
+  pub set-large : length fates ≡ instructionPlaces → instructionPlaces ≤ number - 1 → fates ≡ setFate fates number fate
+  unfolding setFate
+  set-large l h = let n : number ≡ 0 → ⊥ = omega arith in simp (ne-eqb _ _ n) (sym (set-out fates (number - 1) fate (omega arith)))
+
+  pub set-some : (number ≡ 0 → ⊥) → set fates (number - 1) fate ≡ setFate fates number fate
+  unfolding setFate
+  set-some n = simp (ne-eqb _ _ n)
+
+  pub set-length : length (setFate fates number fate) ≡ length fates
+  unfolding setFate
+  set-length = go (eqb number 0)
+    where
+      go : (b : Bool) → length (pick b fates (set fates (number - 1) fate)) ≡ length fates
+      go true = refl
+      go false = length-set fates (number - 1) fate
+
+pub marked-append : (fates : List ℕ) (xs ys : List Mark) → marked fates (xs ++ ys) ≡ marked (marked fates ys) xs
+unfolding marked
+marked-append fates [] ys = refl
+marked-append fates (x ∷ xs) ys = ap (λ (l : List ℕ). setFate l (x .number) (x .fate)) (marked-append fates xs ys)
+
+-- one more of those from the place a on
+pub voided-more : (fates : List ℕ) (ks : List Numbered) (a d : ℕ) → setFate (marked fates (map (mark 4) (stackFrom ks a d))) (getD ks (a + d) noNumbered .number) 4 ≡ marked fates (map (mark 4) (stackFrom ks a (suc d)))
+unfolding marked stackFrom
+voided-more fates ks a d = refl
+
+pub voided-none : (fates : List ℕ) (ks : List Numbered) (a : ℕ) → marked fates (map (mark 4) (stackFrom ks a 0)) ≡ fates
+unfolding marked stackFrom
+voided-none fates ks a = refl
+
+-- ---- step 3
+failed-off : (m : Checked) (o : Numbered) → syncWithinHour (effectiveOf o) (m .kept) ≡ false → failed m o ≡ record { kept = m .kept; marks = mark 5 o ∷ m .marks }
+unfolding failed
+failed-off m o e = rw e
+
+failed-on : (m : Checked) (o : Numbered) → syncWithinHour (effectiveOf o) (m .kept) ≡ true →
+    failed m o ≡ record { kept = beforeSync (m .kept); marks = mark 5 o ∷ (map (mark 4) (fromSync (m .kept)) ++ m .marks) }
+unfolding failed
+failed-on m o e = rw e
+
+module _ (s : Checking) (o : Numbered) where
+  tracks-fate : (fate : ℕ) (m : Checked) → Tracks s m → Tracks (withFate s o fate) (record { kept = m .kept; marks = mark fate o ∷ m .marks })
+  unfolding withFate marked
+  tracks-fate fate m t = record { stack = t .stack; settled = ap (λ (l : List ℕ). setFate l (o .number) fate) (t .settled) }
+
+  pub failed-none : syncPlace (s .kept) (s .height) ≡ 0 → Follows s (withFate s o 5) (λ (m : Checked). failed m o)
+  failed-none p m t =
+      let e : syncWithinHour (effectiveOf o) (m .kept) ≡ false = ap (syncWithinHour (effectiveOf o)) (sym (t .stack)) ∙ hour-none (s .kept) (effectiveOf o) (s .height) p in
+      rw (failed-off m o e) (tracks-fate 5 m t)
+
+  pub failed-late : 0 < syncPlace (s .kept) (s .height) → syncWithinHour (effectiveOf o) (getD (s .kept) (syncPlace (s .kept) (s .height) - 1) noNumbered ∷ []) ≡ false → Follows s (withFate s o 5) (λ (m : Checked). failed m o)
+  failed-late p w m t =
+      let e : syncWithinHour (effectiveOf o) (m .kept) ≡ false = ap (syncWithinHour (effectiveOf o)) (sym (t .stack)) ∙ (hour-some (s .kept) (effectiveOf o) (s .height) p ∙ w) in
+      rw (failed-off m o e) (tracks-fate 5 m t)
+
+  pub failed-void : 0 < syncPlace (s .kept) (s .height) → syncWithinHour (effectiveOf o) (getD (s .kept) (syncPlace (s .kept) (s .height) - 1) noNumbered ∷ []) ≡ true →
+      Follows s
+      (record {
+        kept = s .kept;
+        height = syncPlace (s .kept) (s .height) - 1;
+        fates = setFate (marked (s .fates) (map (mark 4) (stackFrom (s .kept) (syncPlace (s .kept) (s .height) - 1) (s .height - (syncPlace (s .kept) (s .height) - 1))))) (o .number) 5;
+      })
+      (λ (m : Checked). failed m o)
+  unfolding marked
+  failed-void p w m t =
+      let e : syncWithinHour (effectiveOf o) (m .kept) ≡ true = ap (syncWithinHour (effectiveOf o)) (sym (t .stack)) ∙ (hour-some (s .kept) (effectiveOf o) (s .height) p ∙ w) in
+      let voids = stackFrom (s .kept) (syncPlace (s .kept) (s .height) - 1) (s .height - (syncPlace (s .kept) (s .height) - 1)) in
+      let f : fromSync (m .kept) ≡ voids = ap fromSync (sym (t .stack)) ∙ from-sync (s .kept) (s .height) p in
+      let g : marked (s .fates) (map (mark 4) voids) ≡ marked (replicate instructionPlaces 2) (map (mark 4) (fromSync (m .kept)) ++ m .marks) =
+      ap (λ (l : List ℕ). marked l (map (mark 4) voids)) (t .settled)
+      ∙ (sym (marked-append (replicate instructionPlaces 2) (map (mark 4) voids) (m .marks)) ∙ ap (λ (l : List Numbered). marked (replicate instructionPlaces 2) (map (mark 4) l ++ m .marks)) (sym f)) in
+      rw (failed-on m o e)
+      (record {
+        stack = sym (before-sync (s .kept) (s .height)) ∙ ap beforeSync (t .stack);
+        settled = ap (λ (l : List ℕ). setFate l (o .number) 5) g;
+      })
+
+  pub check-fail : {r : Checking} → same (effectOf o) Fail ≡ true → Follows s r (λ (m : Checked). failed m o) → Follows s r (λ (m : Checked). checkOne m o)
+  unfolding checkOne
+  check-fail e f m t = let q : checkOne m o ≡ failed m o = rw e in rw q (f m t)
+
+  pub check-repeat : same (effectOf o) Fail ≡ false → repeats o (stackOf (s .kept) (s .height)) ≡ true → Follows s (withFate s o 3) (λ (m : Checked). checkOne m o)
+  unfolding checkOne
+  check-repeat n r m t =
+      let e : repeats o (m .kept) ≡ true = ap (repeats o) (sym (t .stack)) ∙ r in
+      let q : checkOne m o ≡ record { kept = m .kept; marks = mark 3 o ∷ m .marks } = rw (n, e) in
+      rw q (tracks-fate 3 m t)
+
+  pub check-keep : s .height < length (s .kept) → same (effectOf o) Fail ≡ false → repeats o (stackOf (s .kept) (s .height)) ≡ false → Follows s (keeping s o) (λ (m : Checked). checkOne m o)
+  unfolding checkOne keeping
+  check-keep h n r m t =
+      let e : repeats o (m .kept) ≡ false = ap (repeats o) (sym (t .stack)) ∙ r in
+      let q : checkOne m o ≡ record { kept = o ∷ m .kept; marks = m .marks } = rw (n, e) in
+      rw q (record { stack = stack-push (s .kept) (s .height) o h ∙ ap (λ (l : List Numbered). o ∷ l) (t .stack); settled = t .settled })
+
+check-last : (m : Checked) (xs : List Numbered) (x : Numbered) → check m (xs ++ (x ∷ [])) ≡ checkOne (check m xs) x
+unfolding check
+check-last m [] x = refl
+check-last m (y ∷ ys) x = check-last (checkOne m y) ys x
+
+pub check-none : (ks : List Numbered) → Tracks (checking ks 0 (replicate instructionPlaces 2)) (check noneChecked [])
+unfolding check stackOf marked
+check-none ks = record { stack = refl; settled = refl }
+
+pub check-more : (m : Checked) (os : List Numbered) (i : ℕ) → i < length os → check m (take (i + 1) os) ≡ checkOne (check m (take i os)) (getD os i noNumbered)
+check-more m os i h = rw (add-one, take-suc os i noNumbered) (check-last m (take i os) (getD os i noNumbered))
+
+-- ---- the arrays beside the kept ones
+pub noted-push : (f : Numbered → ℕ) (xs : List ℕ) (ks : List Numbered) (h v : ℕ) (o : Numbered) → v ≡ f o → h < length xs → h < length ks → Noted f xs ks h → Noted f (set xs h v) (set ks h o) (h + 1)
+noted-push f xs ks h v o e p q r j l = elim (ℕ-discrete j h) [
+  | yes i ↦ rw i (getD-set-same xs h v 0 p ∙ (e ∙ ap f (sym (getD-set-same ks h o noNumbered q))))
+  | no i ↦ getD-set-other xs h j v 0 i ∙ (r j (omega arith) ∙ ap f (sym (getD-set-other ks h j o noNumbered i)))
+]
+
+soon-push : (times : List ℕ) (h v : ℕ) → v < never → h < length times → Soon times h → Soon (set times h v) (h + 1)
+soon-push times h v b p r j l = elim (ℕ-discrete j h) [
+  | yes i ↦ rw (i, getD-set-same times h v 0 p) b
+  | no i ↦ rw (getD-set-other times h j v 0 i) (r j (omega arith))
+]
+
+module _ {ks : List Numbered} {h : ℕ} {fates numbers times : List ℕ} {m : Checked} (r : Stepped ks h fates numbers times m) (o : Numbered) where
+  -- none is added
+  pub stepped-on : (k : ℕ) (next : List ℕ) → k ≤ h → Follows (checking ks h fates) (checking ks k next) (λ (c : Checked). checkOne c o) → Stepped ks k next numbers times (checkOne m o)
+  stepped-on k next p f = record {
+    few = omega (arith, r .few);
+    tracks = f m (r .tracks);
+    named = λ j l. r .named j (omega arith);
+    timed = λ j l. r .timed j (omega arith);
+    soon = λ j l. r .soon j (omega arith);
+  }
+
+  -- o is added, and acts at the time v
+  pub stepped-keep : (v : ℕ) → v ≡ acting o → v < never → h < instructionPlaces → length ks ≡ instructionPlaces → length numbers ≡ instructionPlaces → length times ≡ instructionPlaces →
+      Follows (checking ks h fates) (keeping (checking ks h fates) o) (λ (c : Checked). checkOne c o) →
+      Stepped (set ks h o) (h + 1) fates (set numbers h (o .number)) (set times h v) (checkOne m o)
+  unfolding keeping
+  stepped-keep v e b p a1 a2 a3 f = record {
+    few = omega arith;
+    tracks = f m (r .tracks);
+    named = noted-push entryNumber numbers ks h (o .number) o refl (omega arith) (omega arith) (r .named);
+    timed = noted-push acting times ks h v o e (omega arith) (omega arith) (r .timed);
+    soon = soon-push times h v b (omega arith) (r .soon);
+  }
+
+-- ---- step 3 over the first i of those used, which stood in `first`: the kept ones are in the first places, the others still where they were
+pub record Checks (n i count : ℕ) (first items : List Numbered) (places fates numbers times : List ℕ) : Type 0 where
+  pub few : n ≤ instructionPlaces
+  pub on : i ≤ n
+  pub fewer : count ≤ i
+  pub first-long : length first ≡ instructionPlaces
+  pub items-long : length items ≡ instructionPlaces
+  pub places-long : length places ≡ instructionPlaces
+  pub fates-long : length fates ≡ instructionPlaces
+  pub numbers-long : length numbers ≡ instructionPlaces
+  pub times-long : length times ≡ instructionPlaces
+  pub ahead : (j : ℕ) → i ≤ j → getD items j noNumbered ≡ getD first j noNumbered
+  pub synced : Synced places items count
+  pub stepped : Stepped items count fates numbers times (check noneChecked (take i first))
+
+-- none yet
+pub checks-none : (n : ℕ) (first : List Numbered) (places fates numbers times : List ℕ) → n ≤ instructionPlaces → length first ≡ instructionPlaces → length places ≡ instructionPlaces → fates ≡ replicate instructionPlaces 2 →
+    length numbers ≡ instructionPlaces → length times ≡ instructionPlaces → Checks n 0 0 first first places fates numbers times
+checks-none n first places fates numbers times few a b e c d = record {
+  few = few;
+  on = omega arith;
+  fewer = omega arith;
+  first-long = a;
+  items-long = a;
+  places-long = b;
+  fates-long = ap length e;
+  numbers-long = c;
+  times-long = d;
+  ahead = λ j p. refl;
+  synced = λ j l. absurd (omega arith);
+  stepped = record { few = omega arith; tracks = rw e (check-none first); named = λ j l. absurd (omega arith); timed = λ j l. absurd (omega arith); soon = λ j l. absurd (omega arith) };
+}
+
+module _ {n i count : ℕ} {first items : List Numbered} {places fates numbers times : List ℕ} (r : Checks n i count first items places fates numbers times) (h : i < n) where
+  -- the one looked at is still at its place
+  checks-next : check noneChecked (take (i + 1) first) ≡ checkOne (check noneChecked (take i first)) (getD items i noNumbered)
+  checks-next = check-more noneChecked first i (omega (arith, r .few, r .first-long)) ∙ ap (checkOne (check noneChecked (take i first))) (sym (r .ahead i (omega arith)))
+
+  -- none is added
+  pub checks-on : (k : ℕ) (next : List ℕ) → k ≤ count → length next ≡ instructionPlaces →
+      Follows (checking items count fates) (checking items k next) (λ (m : Checked). checkOne m (getD items i noNumbered)) → Checks n (i + 1) k first items places next numbers times
+  checks-on k next p l f = record {
+    few = r .few;
+    on = omega arith;
+    fewer = omega (arith, r .fewer);
+    first-long = r .first-long;
+    items-long = r .items-long;
+    places-long = r .places-long;
+    fates-long = l;
+    numbers-long = r .numbers-long;
+    times-long = r .times-long;
+    ahead = λ j q. r .ahead j (omega arith);
+    synced = λ j q. r .synced j (omega arith);
+    stepped = rw checks-next (stepped-on (r .stepped) (getD items i noNumbered) k next p f);
+  }
+
+  -- the one looked at is added; it acts at the time v, and `place` are kept up to the latest SYNC
+  pub checks-keep : (v place before : ℕ) → v ≡ acting (getD items i noNumbered) → v < never → place ≡ pick (same (effectOf (getD items i noNumbered)) Sync) (count + 1) before → before ≡ syncPlace items count →
+      Follows (checking items count fates) (keeping (checking items count fates) (getD items i noNumbered)) (λ (m : Checked). checkOne m (getD items i noNumbered)) →
+      Checks n (i + 1) (count + 1) first (set items count (getD items i noNumbered)) (set places count place) fates (set numbers count (getD items i noNumbered .number)) (set times count v)
+  checks-keep v place before e b p q f =
+      let o = getD items i noNumbered in
+      let room : count < instructionPlaces = omega (arith, r .few, r .fewer) in
+      record {
+        few = r .few;
+        on = omega arith;
+        fewer = omega (arith, r .fewer);
+        first-long = r .first-long;
+        items-long = length-set items count o ∙ r .items-long;
+        places-long = length-set places count place ∙ r .places-long;
+        fates-long = r .fates-long;
+        numbers-long = length-set numbers count (o .number) ∙ r .numbers-long;
+        times-long = length-set times count v ∙ r .times-long;
+        ahead = λ j l. getD-set-other items count j o noNumbered (λ k. omega (arith, r .fewer)) ∙ r .ahead j (omega arith);
+        synced = synced-push places items count place before o p q (omega (arith, r .places-long)) (omega (arith, r .items-long)) (r .synced);
+        stepped = rw checks-next (stepped-keep (r .stepped) o v e b room (r .items-long) (r .numbers-long) (r .times-long) f);
+      }
