@@ -10,7 +10,8 @@ use borrow.Author.Tests.{lt-ltb, le-ltb, le-leb, lt-leb, ltb-false, leb-false}
 use Rattle.level.specs.Lists.{those}
 use Rattle.course.specs.Lists.{Lists}
 use Rattle.course.specs.Course.{Heading, rising, falling, inUse, passed, breaksInUse, triggers, rateAt, candidates, nextStop}
-use Rattle.course.proofs.Near.{Past, Short, Every, every-left, every-right, every-those, every-map, those-same, near-past, near-same, near-clear, ahead, near-fewer-all}
+use Rattle.course.specs.Headings.{Past, Short}
+use Rattle.course.proofs.Near.{Every, every-left, every-right, every-those, every-map, those-same, near-past, near-same, near-clear, ahead, near-fewer-all}
 
 -- no break of a list between v and e: the same count is passed
 passed-same : (h : Heading) (v e : ℕ) (bs : List ℕ) → Short h e v → Every (λ b. Past h v b → Past h e b) bs → passed h e bs ≡ passed h v bs

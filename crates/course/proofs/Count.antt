@@ -16,7 +16,7 @@ use Rattle.records.specs.declared.Trigger.{Trigger}
 use Rattle.course.specs.declared.Piece.{Piece}
 use Rattle.course.specs.Lists.{Lists}
 use Rattle.course.specs.Course.{Heading, rising, falling, heading, Trajectory, toward, gap, rateAt, triggers, holding, holdAt, stops, segmentsOf, segments}
-use Rattle.course.proofs.Near.{Short}
+use Rattle.course.specs.Headings.{Short}
 use Rattle.course.proofs.Whole.{Shaped, counting-length, segments-fewer, at-most-thirteen-stops}
 use Rattle.course.proofs.Stops.{Ordered, stops-ordered}
 

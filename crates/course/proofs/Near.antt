@@ -7,25 +7,12 @@ use Prim.Native.Nat.{ℕ, suc, _+_, _-_, min, max, _≤_, _<_}
 use native.Mathlib.Nat.{le-refl}
 use native.Mathlib.Decide.{decLe, ℕ-discrete}
 use native.Mathlib.Omega.{arith}
-use lib.Dec.{ltb}
 use lib.ListN.{length}
 use borrow.Author.Tests.{lt-ltb, le-ltb}
 use Rattle.level.specs.Choice.{pick}
 use Rattle.level.specs.Lists.{those}
 use Rattle.course.specs.Course.{Heading, rising, falling, toward, gap, nearest}
-
--- w lies strictly past v; v has not gone past t
-abbrev pub Past : Heading → ℕ → ℕ → Type 0
-Past rising v w = v < w
-Past falling v w = w < v
-
-abbrev pub Short : Heading → ℕ → ℕ → Type 0
-Short rising t v = v ≤ t
-Short falling t v = t ≤ v
-
-abbrev pub past : Heading → ℕ → ℕ → Bool
-past rising v w = ltb v w
-past falling v w = ltb w v
+use Rattle.course.specs.Headings.{Past, Short, past}
 
 pub past-yes : (h : Heading) (v w : ℕ) → Past h v w → past h v w ≡ true
 past-yes rising v w p = lt-ltb v w p

@@ -16,11 +16,7 @@ use Rattle.course.specs.Course.{Heading, rising, falling, heading, Traje
 use Rattle.course.specs.declared.Piece.{Piece}
 use Rattle.course.proofs.Near.{toward-add, toward-zero}
 use Rattle.course.proofs.Whole.{short-start, level-segments, ways-within, segments-valid}
-
--- w is v moved by m, and nothing is cut off
-abbrev pub Along : Heading → ℕ → ℕ → ℕ → Type 0
-Along rising v m w = w ≡ v + m
-Along falling v m w = w + m ≡ v
+use Rattle.course.specs.Headings.{Along}
 
 -- a piece of a path: straight, at one rate from the level at which it enters; and it leaves at the path's level
 pub record Line (h : Heading) (f : ℕ → ℕ) (p : Piece) : Type 0 where

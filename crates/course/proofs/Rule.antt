@@ -12,7 +12,8 @@ use Rattle.course.specs.Recorded.{recorded}
 use Rattle.course.proofs.Segments.{recorded-zero}
 use Rattle.course.specs.Lists.{Lists}
 use Rattle.course.specs.Course.{Heading, rising, falling, Moment, toward, gap, rateAt, candidates, nextStop, holdAt, arrived, second, after, stopsFrom, segmentsOf}
-use Rattle.course.proofs.Near.{Past, Short, past-short, short-past, past-on, gap-some, gap-to, gap-left, toward-add, toward-zero, ahead, ahead-le}
+use Rattle.course.specs.Headings.{Past, Short}
+use Rattle.course.proofs.Near.{past-short, short-past, past-on, gap-some, gap-to, gap-left, toward-add, toward-zero, ahead, ahead-le}
 use Rattle.course.proofs.Ahead.{rate-same, next-same, next-past, next-fewer}
 
 abbrev pub at : ℕ → ℕ → Moment

@@ -8,7 +8,8 @@ use native.Mathlib.Omega.{arith}
 use borrow.Author.Tests.{eq-eqb, ne-eqb}
 use Rattle.course.specs.Lists.{Lists}
 use Rattle.course.specs.Course.{Heading, rising, falling, heading, Trajectory, nearest, candidates, nextStop, stopsFrom, stops}
-use Rattle.course.proofs.Near.{Past, Short, short-past, ahead, up-take, up-skip, down-take, down-skip}
+use Rattle.course.specs.Headings.{Past, Short}
+use Rattle.course.proofs.Near.{short-past, ahead, up-take, up-skip, down-take, down-skip}
 use Rattle.course.proofs.Ahead.{next-past, next-fewer}
 use Rattle.course.proofs.Whole.{short-start, enough}
 

@@ -14,7 +14,8 @@ use Rattle.level.specs.Choice.{pick}
 use Rattle.records.specs.declared.Trigger.{Trigger}
 use Rattle.course.specs.Lists.{Rates, Lists}
 use Rattle.course.specs.Course.{Heading, rising, falling, heading, Trajectory, Moment, counting, toward, gap, inUse, passed, breaksInUse, triggers, rateAt, candidates, nextStop, holdAt, arrived, second, after, rateInForce, stopsFrom, segmentsOf, momentAt, levelAt, rateOn, stops, distance, segments}
-use Rattle.course.proofs.Near.{Past, Short, short-past, gap-some, gap-add, gap-toward, those-length, ahead}
+use Rattle.course.specs.Headings.{Past, Short}
+use Rattle.course.proofs.Near.{short-past, gap-some, gap-add, gap-toward, those-length, ahead}
 use Rattle.course.proofs.Ahead.{next-past, next-fewer}
 use Rattle.course.proofs.Rule.{at, segments-more, segments-stuck, segments-none, rule}
 

@@ -3,3 +3,4 @@ pub mod Course
 pub mod Pieces
 pub mod Exact
 pub mod Recorded
+pub mod Headings

@@ -15,7 +15,8 @@ use Rattle.records.specs.declared.Trigger.{Trigger}
 use Rattle.course.specs.declared.Course.{Course}
 use Rattle.course.specs.Lists.{inGrains, ratesOf}
 use Rattle.course.specs.Course.{Heading, rising, falling, counting, triggers, breaksInUse, nearest, candidates, nextStop}
-use Rattle.course.proofs.Near.{Past, Short, up-take, up-skip, down-take, down-skip}
+use Rattle.course.specs.Headings.{Past, Short}
+use Rattle.course.proofs.Near.{up-take, up-skip, down-take, down-skip}
 use Rattle.course_rates.specs.declared.OwnLists.{OwnLists}
 use Rattle.course_rates.specs.Ways.{listsBy, timedLevels}
 use Rattle.course_stops.proofs.Nexts.{near-none, near-append, up-behind, down-behind}

@@ -8,7 +8,7 @@ use Rattle.level.specs.Level.{grains}
 use Rattle.records.specs.declared.UnitData.{UnitData}
 use Rattle.course.specs.declared.Course.{Course}
 use Rattle.course.specs.Course.{Heading, rising, falling, heading, trajectoryOf, after, momentAt}
-use Rattle.course.proofs.Near.{Short}
+use Rattle.course.specs.Headings.{Short}
 use Rattle.course.proofs.Rule.{at}
 use Rattle.course.proofs.Whole.{short-start}
 use Rattle.course_rates.specs.Ways.{headed, listsIn}

@@ -8,7 +8,8 @@ use Rattle.course.specs.declared.Segment.{Segment}
 use Rattle.course.specs.Lists.{Lists}
 use Rattle.course.specs.Course.{Heading, rising, falling, Moment, toward, gap, rateAt, nextStop, holdAt, after}
 use Rattle.course.specs.Pieces.{piece}
-use Rattle.course.proofs.Near.{Past, Short, short-past, past-short, past-on, gap-to, gap-left, toward-zero}
+use Rattle.course.specs.Headings.{Past, Short}
+use Rattle.course.proofs.Near.{short-past, past-short, past-on, gap-to, gap-left, toward-zero}
 use Rattle.course.proofs.Ahead.{next-past}
 use Rattle.course.proofs.Rule.{at, after-rest}
 use Rattle.course.proofs.Pieces.{Room, Traces, line, room-less}

@@ -19,7 +19,8 @@ use Rattle.course.specs.declared.Course.{Course}
 use Rattle.course.specs.Lists.{Lists}
 use Rattle.course.specs.Course.{Heading, heading, trajectoryOf, stops, segments, toward, gap, rateAt, candidates, nextStop, holdAt, stopsFrom, segmentsOf}
 use Rattle.course.specs.declared.Piece.{Piece}
-use Rattle.course.proofs.Near.{Past, Short, short-past, past-on, those-length, ahead, gap-some, gap-to, gap-left, toward-add, toward-zero}
+use Rattle.course.specs.Headings.{Past, Short}
+use Rattle.course.proofs.Near.{short-past, past-on, those-length, ahead, gap-some, gap-to, gap-left, toward-add, toward-zero}
 use Rattle.course.proofs.Ahead.{rate-same, next-same, next-past, next-fewer}
 use Rattle.course.proofs.Rule.{segments-more, segments-stuck, segments-none}
 use Rattle.course_walk.specs.declared.Place.{Place}

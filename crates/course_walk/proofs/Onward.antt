@@ -9,7 +9,8 @@ use borrow.Author.Tests.{lt-ltb, le-ltb, eq-eqb, ne-eqb}
 use Rattle.course.specs.declared.Segment.{Segment}
 use Rattle.course.specs.Lists.{Lists}
 use Rattle.course.specs.Course.{Heading, rising, falling, toward, gap, nextStop, second}
-use Rattle.course.proofs.Near.{Past, gap-to}
+use Rattle.course.specs.Headings.{Past}
+use Rattle.course.proofs.Near.{gap-to}
 use Rattle.course.proofs.Ahead.{next-past}
 use Rattle.course_walk.specs.declared.Place.{Place}
 use Rattle.course_rates.specs.Ways.{headed}

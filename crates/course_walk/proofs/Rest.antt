@@ -10,7 +10,8 @@ use Rattle.level.specs.Choice.{pick}
 use Rattle.course.specs.declared.Segment.{Segment}
 use Rattle.course.specs.Lists.{Lists}
 use Rattle.course.specs.Course.{Heading, toward, gap, rateAt, nextStop, holdAt}
-use Rattle.course.proofs.Near.{Past, Short, short-past, past-on, gap-left}
+use Rattle.course.specs.Headings.{Past, Short}
+use Rattle.course.proofs.Near.{short-past, past-on, gap-left}
 use Rattle.course.proofs.Ahead.{rate-same, next-same, next-past}
 use Rattle.course_walk.specs.declared.Place.{Place}
 use Rattle.course_stops.specs.Ahead.{segmentTo, segmentFrom}

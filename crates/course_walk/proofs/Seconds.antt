@@ -8,7 +8,8 @@ use borrow.Author.Tests.{lt-ltb, eq-eqb, ne-eqb}
 use Rattle.level.specs.Choice.{pick}
 use Rattle.course.specs.Lists.{Lists}
 use Rattle.course.specs.Course.{Heading, Moment, toward, gap, rateAt, nextStop, holdAt, second, after}
-use Rattle.course.proofs.Near.{Past, past-on, gap-some, gap-to, gap-left, toward-add, toward-zero}
+use Rattle.course.specs.Headings.{Past}
+use Rattle.course.proofs.Near.{past-on, gap-some, gap-to, gap-left, toward-add, toward-zero}
 use Rattle.course.proofs.Ahead.{rate-same, next-same, next-past}
 use Rattle.course.proofs.Rule.{at, second-run, second-stop}
 

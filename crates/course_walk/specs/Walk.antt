@@ -12,7 +12,7 @@ use Rattle.course.specs.declared.Course.{Course}
 use Rattle.course.specs.Lists.{Lists}
 use Rattle.course.specs.Course.{Heading, rising, falling, Moment, toward, candidates, after, stopsFrom, segmentsOf}
 use Rattle.course.specs.declared.Piece.{Piece}
-use Rattle.course.proofs.Near.{Past}
+use Rattle.course.specs.Headings.{Past}
 use Rattle.course.specs.Pieces.{piece, piecesOf}
 use Rattle.course_walk.specs.declared.Place.{Place}
 use Rattle.course_walk.specs.declared.Reached.{Reached}

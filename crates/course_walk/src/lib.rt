@@ -7,7 +7,7 @@ ghost use Rattle.level.specs.Choice.{pick};
 ghost use Rattle.level.specs.Level.{grains};
 ghost use Rattle.course.specs.Course.{toward};
 ghost use Rattle.course_rates.specs.Ways.{headed, listsBy};
-ghost use Rattle.course.proofs.Near.{Short};
+ghost use Rattle.course.specs.Headings.{Short};
 ghost use Rattle.course_walk.specs.Walk.{Reaches, Known, afterHold, afterRest, afterRun, afterShort, along, restAlong, restRun, unknown, reachedAt, onward};
 
 // ---- going along a course

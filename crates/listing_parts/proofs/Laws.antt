@@ -22,7 +22,7 @@ use Rattle.course.specs.declared.Piece.{Piece}
 use Rattle.course.specs.Lists.{placeOf}
 use Rattle.course.specs.Course.{trajectoryOf, noCourse}
 use Rattle.course.specs.Pieces.{piecesIn}
-use Rattle.course.proofs.Near.{Short}
+use Rattle.course.specs.Headings.{Short}
 use Rattle.profile.specs.Profile.{beginOf, spansOf, dayPieces, rounded}
 use Rattle.profile.specs.Finding.{quantityAt}
 use Rattle.course_rates.specs.declared.OwnLists.{OwnLists}

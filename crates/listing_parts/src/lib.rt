@@ -5,7 +5,7 @@ ghost use lib.ListN.{length, take, getD};
 ghost use Rattle.level.specs.Choice.{pick};
 ghost use Rattle.level.specs.Level.{grains};
 ghost use Rattle.level.specs.Numbers.{mostHalfHours, instructionPlaces, coursePlaces};
-ghost use Rattle.course.proofs.Near.{Short};
+ghost use Rattle.course.specs.Headings.{Short};
 ghost use Rattle.profile.specs.Profile.{rounded, closingBy};
 ghost use Rattle.profile.specs.Finding.{quantityAt};
 ghost use Rattle.course_rates.specs.Ways.{headed};

@@ -8,7 +8,7 @@ use lib.ListN.{length, set}
 use Rattle.level.specs.Numbers.{halfHour, mostHalfHours, mostSeconds, boundaryPlaces}
 use Rattle.level.specs.Bounds.{levelBound}
 use Rattle.course.specs.Course.{Heading, rising, falling, toward, gap}
-use Rattle.course.proofs.Pieces.{Along}
+use Rattle.course.specs.Headings.{Along}
 use Rattle.course_walk.specs.declared.Place.{Place}
 use Rattle.course_walk.specs.Walk.{Reaches}
 use Rattle.profile_areas.specs.Passing.{Summed, summed, Adds, Fits, lineTwice, lineFrom, pieceFrom, StaysLow, Straight, twiceBound}

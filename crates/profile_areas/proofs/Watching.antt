@@ -11,7 +11,8 @@ use borrow.Author.Tests.{eq-eqb, ne-eqb, lt-ltb}
 use Rattle.level.specs.Choice.{pick}
 use Rattle.course.specs.Course.{Trajectory, Heading, rising, falling, Moment, heading, after, momentAt, levelAt}
 use Rattle.course.specs.Pieces.{piece}
-use Rattle.course.proofs.Pieces.{Along, Line, Traces}
+use Rattle.course.specs.Headings.{Along}
+use Rattle.course.proofs.Pieces.{Line, Traces}
 use Rattle.course_walk.specs.declared.Place.{Place}
 use Rattle.course_walk.specs.Walk.{momentOf}
 use Rattle.course_walk.proofs.Seconds.{after-add}

@@ -13,8 +13,7 @@ use Rattle.records.specs.declared.UnitData.{UnitData}
 use Rattle.course.specs.declared.Course.{Course}
 use Rattle.course.specs.Lists.{Lists}
 use Rattle.course.specs.Course.{Heading, rising, falling, toward, gap, momentAt, trajectoryOf}
-use Rattle.course.proofs.Near.{Short}
-use Rattle.course.proofs.Pieces.{Along}
+use Rattle.course.specs.Headings.{Short, Along}
 use Rattle.profile.specs.State.{watch}
 use Rattle.course_rates.specs.declared.OwnLists.{OwnLists}
 use Rattle.course_walk.specs.declared.Place.{Place}

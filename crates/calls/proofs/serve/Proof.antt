@@ -20,12 +20,6 @@ serve-one-requires c κs = tt
 returns : tie.Need-returns Inv-loop μ-loop
 returns c = tt
 
-sub-turns : tie.Need-sub-turns Inv-loop μ-loop
-sub-turns c = omega arith
-
-loop-less : tie.Need-loop-less Inv-loop μ-loop
-loop-less c = omega arith
-
 loop-again : tie.Need-loop-again Inv-loop μ-loop
 loop-again c = tt
 
@@ -35,14 +29,4 @@ returns-2 c = tt
 pub serve-spec : {M : Type 1} → statement M
 serve-spec =
     tie.close
-    (tie.spec
-    Inv-loop
-    μ-loop
-    empty-day-requires
-    loop-holds
-    serve-one-requires
-    returns
-    sub-turns
-    loop-less
-    loop-again
-    returns-2)
+    (tie.spec Inv-loop μ-loop empty-day-requires loop-holds serve-one-requires returns (λ c. omega arith) (λ c. omega arith) loop-again returns-2)

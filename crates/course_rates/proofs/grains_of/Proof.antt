@@ -7,9 +7,6 @@ use borrow.Author.Needs.{needs}
 use Rattle.course_rates.proofs.grains_of.Statement.{statement}
 use Rattle.course_rates.proofs.grains_of.Tie as tie
 
-from-kw-requires : tie.Need-from-kw-requires
-from-kw-requires c κs = search needs
-
 returns : tie.Need-returns
 unfolding fromKw grains
 returns c =
@@ -17,4 +14,4 @@ returns c =
     omega arith
 
 pub grains-of-spec : {M : Type 1} → statement M
-grains-of-spec = tie.close (tie.spec from-kw-requires returns)
+grains-of-spec = tie.close (tie.spec (λ c κs. search needs) returns)

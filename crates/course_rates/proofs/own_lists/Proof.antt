@@ -5,12 +5,6 @@ use borrow.Author.Needs.{needs}
 use Rattle.course_rates.proofs.own_lists.Statement.{statement}
 use Rattle.course_rates.proofs.own_lists.Tie as tie
 
-column-for-requires : tie.Need-column-for-requires
-column-for-requires c κs = search needs
-
-ramp-of-requires : tie.Need-ramp-of-requires
-ramp-of-requires c κs = search needs
-
 returns : tie.Need-returns
 unfolding ownLists
 returns c =
@@ -18,4 +12,4 @@ returns c =
     λ i. record { msg = s .args .u .msg; column = (c .before .before .before .column-for .ensures) i; ramp = (c .before .before .ramp-of .ensures ∙ ramp-picked (s .args .u) (s .args .up)) i; dwells = s .args .u .dwells; deload = s .args .u .deload }
 
 pub own-lists-spec : {M : Type 1} → statement M
-own-lists-spec = tie.close (tie.spec column-for-requires ramp-of-requires returns)
+own-lists-spec = tie.close (tie.spec (λ c κs. search needs) (λ c κs. search needs) returns)

@@ -5,9 +5,6 @@ use borrow.Author.Needs.{needs}
 use Rattle.course_rates.proofs.passed_one.Statement.{statement}
 use Rattle.course_rates.proofs.passed_one.Tie as tie
 
-grains-of-requires : tie.Need-grains-of-requires
-grains-of-requires c κs = search needs
-
 returns : tie.Need-returns
 returns c = rw (c .before .if1 .taken) (sym (up-passed _ _ (omega arith)), omega arith)
 
@@ -21,4 +18,4 @@ returns-4 : tie.Need-returns-4
 returns-4 c = rw (c .before .if1 .left) (sym (down-ahead _ _ (omega arith)), omega arith)
 
 pub passed-one-spec : {M : Type 1} → statement M
-passed-one-spec = tie.close (tie.spec grains-of-requires returns returns-2 returns-3 returns-4)
+passed-one-spec = tie.close (tie.spec (λ c κs. search needs) returns returns-2 returns-3 returns-4)

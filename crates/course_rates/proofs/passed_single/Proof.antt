@@ -5,16 +5,10 @@ use borrow.Author.Needs.{needs}
 use Rattle.course_rates.proofs.passed_single.Statement.{statement}
 use Rattle.course_rates.proofs.passed_single.Tie as tie
 
-array-read-passed-one : tie.Need-array-read-passed-one
-array-read-passed-one c = search needs
-
-passed-one-requires : tie.Need-passed-one-requires
-passed-one-requires c κs = search needs
-
 returns : tie.Need-returns
 returns c =
     let s = c .before in
     omega (arith, passed-single (headed (s .args .up)) (s .args .v) (s .args .t3) (s .good .1 .1 .0 .1 .0 .1))
 
 pub passed-single-spec : {M : Type 1} → statement M
-passed-single-spec = tie.close (tie.spec array-read-passed-one passed-one-requires returns)
+passed-single-spec = tie.close (tie.spec (λ c. search needs) (λ c κs. search needs) returns)

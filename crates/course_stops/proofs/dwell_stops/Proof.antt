@@ -5,24 +5,6 @@ use borrow.Author.Needs.{needs}
 use Rattle.course_stops.proofs.dwell_stops.Statement.{statement}
 use Rattle.course_stops.proofs.dwell_stops.Tie as tie
 
-array-copy-out-trigger-stop : tie.Need-array-copy-out-trigger-stop
-array-copy-out-trigger-stop c = search needs
-
-trigger-stop-requires : tie.Need-trigger-stop-requires
-trigger-stop-requires c κs = search needs
-
-array-copy-out-trigger-stop-2 : tie.Need-array-copy-out-trigger-stop-2
-array-copy-out-trigger-stop-2 c = search needs
-
-trigger-stop-requires-2 : tie.Need-trigger-stop-requires-2
-trigger-stop-requires-2 c κs = search needs
-
-array-copy-out-trigger-stop-3 : tie.Need-array-copy-out-trigger-stop-3
-array-copy-out-trigger-stop-3 c = search needs
-
-trigger-stop-requires-3 : tie.Need-trigger-stop-requires-3
-trigger-stop-requires-3 c κs = search needs
-
 returns : tie.Need-returns
 returns c =
     let s = c .before .before .before .before .before .before in
@@ -33,11 +15,5 @@ returns c =
 pub dwell-stops-spec : {M : Type 1} → statement M
 dwell-stops-spec =
     tie.close
-    (tie.spec
-    array-copy-out-trigger-stop
-    trigger-stop-requires
-    array-copy-out-trigger-stop-2
-    trigger-stop-requires-2
-    array-copy-out-trigger-stop-3
-    trigger-stop-requires-3
+    (tie.spec (λ c. search needs) (λ c κs. search needs) (λ c. search needs) (λ c κs. search needs) (λ c. search needs) (λ c κs. search needs)
     returns)

@@ -4,9 +4,6 @@ use borrow.Author.Needs.{needs}
 use Rattle.course_stops.proofs.gap_between.Statement.{statement}
 use Rattle.course_stops.proofs.gap_between.Tie as tie
 
-sub-result : tie.Need-sub-result
-sub-result c = search needs
-
 returns : tie.Need-returns
 unfolding gap
 returns c = omega arith
@@ -16,4 +13,4 @@ unfolding gap
 returns-2 c = omega arith
 
 pub gap-between-spec : {M : Type 1} → statement M
-gap-between-spec = tie.close (tie.spec sub-result returns returns-2)
+gap-between-spec = tie.close (tie.spec (λ c. search needs) returns returns-2)

@@ -5,30 +5,6 @@ use borrow.Author.Needs.{needs}
 use Rattle.course_stops.proofs.held_three.Statement.{statement}
 use Rattle.course_stops.proofs.held_three.Tie as tie
 
-array-copy-out-held-one : tie.Need-array-copy-out-held-one
-array-copy-out-held-one c = search needs
-
-held-one-requires : tie.Need-held-one-requires
-held-one-requires c κs = search needs
-
-array-copy-out-held-one-2 : tie.Need-array-copy-out-held-one-2
-array-copy-out-held-one-2 c = search needs
-
-held-one-requires-2 : tie.Need-held-one-requires-2
-held-one-requires-2 c κs = search needs
-
-array-copy-out-held-one-3 : tie.Need-array-copy-out-held-one-3
-array-copy-out-held-one-3 c = search needs
-
-held-one-requires-3 : tie.Need-held-one-requires-3
-held-one-requires-3 c κs = search needs
-
-add-result : tie.Need-add-result
-add-result c = search needs
-
-add-result-2 : tie.Need-add-result-2
-add-result-2 c = search needs
-
 returns : tie.Need-returns
 returns c =
     let s = c .before .before .before .before .before .before in
@@ -38,13 +14,5 @@ returns c =
 pub held-three-spec : {M : Type 1} → statement M
 held-three-spec =
     tie.close
-    (tie.spec
-    array-copy-out-held-one
-    held-one-requires
-    array-copy-out-held-one-2
-    held-one-requires-2
-    array-copy-out-held-one-3
-    held-one-requires-3
-    add-result
-    add-result-2
-    returns)
+    (tie.spec (λ c. search needs) (λ c κs. search needs) (λ c. search needs) (λ c κs. search needs) (λ c. search needs) (λ c κs. search needs)
+    (λ c. search needs) (λ c. search needs) returns)

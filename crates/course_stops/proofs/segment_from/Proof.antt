@@ -3,15 +3,9 @@ use borrow.Author.Needs.{needs}
 use Rattle.course_stops.proofs.segment_from.Statement.{statement}
 use Rattle.course_stops.proofs.segment_from.Tie as tie
 
-next-stop-requires : tie.Need-next-stop-requires
-next-stop-requires c κs = search needs
-
-segment-to-requires : tie.Need-segment-to-requires
-segment-to-requires c κs = search needs
-
 returns : tie.Need-returns
 unfolding segmentFrom
 returns c = rw (c .segment-to .ensures, c .before .next-stop .ensures)
 
 pub segment-from-spec : {M : Type 1} → statement M
-segment-from-spec = tie.close (tie.spec next-stop-requires segment-to-requires returns)
+segment-from-spec = tie.close (tie.spec (λ c κs. search needs) (λ c κs. search needs) returns)

@@ -3,19 +3,9 @@ use borrow.Author.Needs.{needs}
 use Rattle.course_stops.proofs.segment_to.Statement.{statement}
 use Rattle.course_stops.proofs.segment_to.Tie as tie
 
-gap-between-requires : tie.Need-gap-between-requires
-gap-between-requires c κs = search needs
-
-rate-at-requires : tie.Need-rate-at-requires
-rate-at-requires c κs = search needs
-
-hold-at-requires : tie.Need-hold-at-requires
-hold-at-requires c κs = search needs
-
 returns : tie.Need-returns
 unfolding segmentTo
 returns c = λ i. record { way = (c .before .before .gap-between .ensures) i; rate = (c .before .rate-at .ensures) i; hold = (c .hold-at .ensures .0) i }
 
 pub segment-to-spec : {M : Type 1} → statement M
-segment-to-spec =
-    tie.close (tie.spec gap-between-requires rate-at-requires hold-at-requires returns)
+segment-to-spec = tie.close (tie.spec (λ c κs. search needs) (λ c κs. search needs) (λ c κs. search needs) returns)

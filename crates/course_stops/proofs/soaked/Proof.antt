@@ -7,9 +7,6 @@ use borrow.Author.Needs.{needs}
 use Rattle.course_stops.proofs.soaked.Statement.{statement}
 use Rattle.course_stops.proofs.soaked.Tie as tie
 
-held-two-requires : tie.Need-held-two-requires
-held-two-requires c κs = search needs
-
 returns : tie.Need-returns
 unfolding listsBy
 returns c =
@@ -24,4 +21,4 @@ returns-2 c =
     rw (c .if1 .left) (sym (hold-no-soak (listsBy (s .args .l) (s .args .c)) (grains (s .args .c .target)) (s .args .w) (s .pre .1) (s .pre .0)), omega arith)
 
 pub soaked-spec : {M : Type 1} → statement M
-soaked-spec = tie.close (tie.spec held-two-requires returns returns-2)
+soaked-spec = tie.close (tie.spec (λ c κs. search needs) returns returns-2)

@@ -4,9 +4,6 @@ use borrow.Author.Needs.{needs}
 use Rattle.course_stops.proofs.trigger_level.Statement.{statement}
 use Rattle.course_stops.proofs.trigger_level.Tie as tie
 
-grains-of-requires : tie.Need-grains-of-requires
-grains-of-requires c κs = search needs
-
 returns : tie.Need-returns
 returns c =
     let s = c .before .before .before in
@@ -18,4 +15,4 @@ returns-2 c =
     simp (lt-ltb 0 (s .args .g .minutes) (omega arith)) (c .before .before .grains-of .ensures .0)
 
 pub trigger-level-spec : {M : Type 1} → statement M
-trigger-level-spec = tie.close (tie.spec grains-of-requires returns returns-2)
+trigger-level-spec = tie.close (tie.spec (λ c κs. search needs) returns returns-2)

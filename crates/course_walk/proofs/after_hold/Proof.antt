@@ -6,15 +6,6 @@ use borrow.Author.Needs.{needs}
 use Rattle.course_walk.proofs.after_hold.Statement.{statement}
 use Rattle.course_walk.proofs.after_hold.Tie as tie
 
-sub-room : tie.Need-sub-room
-sub-room c = search needs
-
-cast-wide : tie.Need-cast-wide
-cast-wide c = search needs
-
-sub-t7 : tie.Need-sub-t7
-sub-t7 c = search needs
-
 returns : tie.Need-returns
 unfolding afterHold
 returns c =
@@ -23,12 +14,6 @@ returns c =
     let e : n ≡ min (p .second + p .left) n = omega arith in
     let f : p .left - (n - p .second) ≡ p .second + p .left - n = omega arith in
     λ i. record { second = e i; level = p .level; left = f i }
-
-cast-held : tie.Need-cast-held
-cast-held c = search needs
-
-add-t8 : tie.Need-add-t8
-add-t8 c = search needs
 
 returns-2 : tie.Need-returns-2
 unfolding afterHold
@@ -40,4 +25,6 @@ returns-2 c =
     λ i. record { second = e i; level = p .level; left = f i }
 
 pub after-hold-spec : {M : Type 1} → statement M
-after-hold-spec = tie.close (tie.spec sub-room cast-wide sub-t7 returns cast-held add-t8 returns-2)
+after-hold-spec =
+    tie.close
+    (tie.spec (λ c. search needs) (λ c. search needs) (λ c. search needs) returns (λ c. search needs) (λ c. search needs) returns-2)

@@ -8,20 +8,8 @@ use borrow.Author.Needs.{needs}
 use Rattle.course_walk.proofs.after_run.Statement.{statement}
 use Rattle.course_walk.proofs.after_run.Tie as tie
 
-mul-m : tie.Need-mul-m
-mul-m c = search needs
-
 moved-requires : tie.Need-moved-requires
 moved-requires c κs = reaches-less (headed (c .before .args .up)) _ _ _ (c .before .pre .1 .0) (c .before .pre .1 .1)
-
-sub-t10 : tie.Need-sub-t10
-sub-t10 c = search needs
-
-hold-from-requires : tie.Need-hold-from-requires
-hold-from-requires c κs = search needs
-
-add-t11 : tie.Need-add-t11
-add-t11 c = search needs
 
 returns : tie.Need-returns
 unfolding afterRun restRun
@@ -38,5 +26,4 @@ returns c =
     }
 
 pub after-run-spec : {M : Type 1} → statement M
-after-run-spec =
-    tie.close (tie.spec mul-m moved-requires sub-t10 hold-from-requires add-t11 returns)
+after-run-spec = tie.close (tie.spec (λ c. search needs) moved-requires (λ c. search needs) (λ c κs. search needs) (λ c. search needs) returns)

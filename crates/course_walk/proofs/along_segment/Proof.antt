@@ -8,32 +8,17 @@ use borrow.Author.Needs.{needs}
 use Rattle.course_walk.proofs.along_segment.Statement.{statement}
 use Rattle.course_walk.proofs.along_segment.Tie as tie
 
-after-rest-requires : tie.Need-after-rest-requires
-after-rest-requires c κs = search needs
-
-arrived-requires : tie.Need-arrived-requires
-arrived-requires c κs = search needs
-
 returns : tie.Need-returns
 returns c =
     let s = c .before .before .before .before in
     c .arrived .ensures ∙ ap unknown (c .before .after-rest .ensures)
     ∙ (λ i. record { place = along-stuck (headed (s .args .up)) (s .args .n) (s .args .p) (s .args .s) (c .before .before .if1 .taken) i; rest = rest-stuck (s .args .n) (s .args .p) (s .args .s) (c .before .before .if1 .taken) i })
 
-after-short-requires : tie.Need-after-short-requires
-after-short-requires c κs = search needs
-
-arrived-requires-2 : tie.Need-arrived-requires-2
-arrived-requires-2 c κs = search needs
-
 returns-2 : tie.Need-returns-2
 returns-2 c =
     let s = c .before .before .before .before .before .before in
     c .arrived2 .ensures ∙ ap unknown (c .before .after-short .ensures)
     ∙ (λ i. record { place = along-short (headed (s .args .up)) (s .args .n) (s .args .p) (s .args .s) (c .before .before .before .before .if1 .left) (c .before .before .if2 .taken) i; rest = rest-short (s .args .n) (s .args .p) (s .args .s) (c .before .before .before .before .if1 .left) (c .before .before .if2 .taken) i })
-
-run-seconds-requires : tie.Need-run-seconds-requires
-run-seconds-requires c κs = search needs
 
 after-run-requires : tie.Need-after-run-requires
 after-run-requires c κs = (omega arith, (full-way _ _ _ (omega arith), c .before .before .before .before .before .pre .1))
@@ -47,13 +32,5 @@ returns-3 c =
 pub along-segment-spec : {M : Type 1} → statement M
 along-segment-spec =
     tie.close
-    (tie.spec
-    after-rest-requires
-    arrived-requires
-    returns
-    after-short-requires
-    arrived-requires-2
-    returns-2
-    run-seconds-requires
-    after-run-requires
-    returns-3)
+    (tie.spec (λ c κs. search needs) (λ c κs. search needs) returns (λ c κs. search needs) (λ c κs. search needs) returns-2 (λ c κs. search needs)
+    after-run-requires returns-3)

@@ -10,19 +10,10 @@ use borrow.Author.Needs.{needs}
 use Rattle.course_walk.proofs.begin_at.Statement.{statement}
 use Rattle.course_walk.proofs.begin_at.Tie as tie
 
-grains-of-requires : tie.Need-grains-of-requires
-grains-of-requires c κs = search needs
-
-arrived-requires : tie.Need-arrived-requires
-arrived-requires c κs = search needs
-
 returns : tie.Need-returns
 returns c =
     let s = c .before .before .before .before in
     c .arrived .ensures ∙ reached-none (headed (s .args .up)) (listsBy (s .args .l) (s .args .c)) (grains (s .args .c .target)) (record { second = s .args .c .begin; level = s .args .c .start .grains; left = s .args .left }) (ap (λ (t : ℕ). ltb 0 (s .args .left) || eqb (s .args .c .start .grains) t) (sym (c .before .before .grains-of .ensures .0)) ∙ c .before .if1 .taken)
-
-segment-from-requires : tie.Need-segment-from-requires
-segment-from-requires c κs = search needs
 
 returns-2 : tie.Need-returns-2
 returns-2 c =
@@ -31,6 +22,4 @@ returns-2 c =
     ∙ reached-found (headed (s .args .up)) (listsBy (s .args .l) (s .args .c)) (grains (s .args .c .target)) (record { second = s .args .c .begin; level = s .args .c .start .grains; left = s .args .left }) (ap (λ (t : ℕ). ltb 0 (s .args .left) || eqb (s .args .c .start .grains) t) (sym (c .before .before .grains-of .ensures .0)) ∙ c .before .if1 .left)
 
 pub begin-at-spec : {M : Type 1} → statement M
-begin-at-spec =
-    tie.close
-    (tie.spec grains-of-requires arrived-requires returns segment-from-requires returns-2)
+begin-at-spec = tie.close (tie.spec (λ c κs. search needs) (λ c κs. search needs) returns (λ c κs. search needs) returns-2)

@@ -2,11 +2,8 @@ use borrow.Author.Needs.{needs}
 use Rattle.course_walk.proofs.is_rising.Statement.{statement}
 use Rattle.course_walk.proofs.is_rising.Tie as tie
 
-grains-of-requires : tie.Need-grains-of-requires
-grains-of-requires c κs = search needs
-
 returns : tie.Need-returns
 returns c = rw (c .before .before .grains-of .ensures .0)
 
 pub is-rising-spec : {M : Type 1} → statement M
-is-rising-spec = tie.close (tie.spec grains-of-requires returns)
+is-rising-spec = tie.close (tie.spec (λ c κs. search needs) returns)

@@ -2,7 +2,8 @@ use mathlib.Core.Path.{ap, sym, _∙_, subst}
 use native.Mathlib.Omega.{arith}
 use Rattle.level.specs.Level.{grains}
 use Rattle.course.specs.declared.Segment.{Segment}
-use Rattle.course.proofs.Near.{Past, short-past}
+use Rattle.course.specs.Headings.{Past}
+use Rattle.course.proofs.Near.{short-past}
 use Rattle.course_rates.specs.Ways.{headed, listsBy}
 use Rattle.course_walk.specs.declared.Reached.{Reached}
 use Rattle.course_walk.specs.Walk.{Reaches, Known, along, restAlong}
@@ -30,12 +31,6 @@ returns c =
       subst (Known (headed (s .args .up)) (listsBy (s .args .l) (s .args .c)) (grains (s .args .c .target))) (sym e) (along-known (headed (s .args .up)) (listsBy (s .args .l) (s .args .c)) (grains (s .args .c .target)) (s .args .n) p (k .1)),
     )
 
-after-hold-requires : tie.Need-after-hold-requires
-after-hold-requires c κs = search needs
-
-arrived-requires : tie.Need-arrived-requires
-arrived-requires c κs = search needs
-
 returns-2 : tie.Need-returns-2
 returns-2 c =
     let s = c .before .before .before .before .before .before .before .before in
@@ -43,15 +38,6 @@ returns-2 c =
       ap (λ (r : Reached). r .place) e ∙ (c .before .after-hold .ensures ∙ onward-hold (headed (s .args .up)) (listsBy (s .args .l) (s .args .c)) (grains (s .args .c .target)) (s .args .n) (s .args .from .place) (c .before .before .if2 .taken)),
       subst (Known (headed (s .args .up)) (listsBy (s .args .l) (s .args .c)) (grains (s .args .c .target))) (sym e) (λ lt. absurd (omega arith)),
     )
-
-grains-of-requires : tie.Need-grains-of-requires
-grains-of-requires c κs = search needs
-
-after-rest-requires : tie.Need-after-rest-requires
-after-rest-requires c κs = search needs
-
-arrived-requires-2 : tie.Need-arrived-requires-2
-arrived-requires-2 c κs = search needs
 
 returns-3 : tie.Need-returns-3
 returns-3 c =
@@ -66,9 +52,6 @@ ahead-of : (c : tie.Else3) → let s = c .before .before .before .before .before
 ahead-of c =
     let s = c .before .before .before .before .before .before .before .before .before in
     short-past (headed (s .args .up)) _ _ (s .pre .1 .0) (λ e. omega arith)
-
-segment-from-requires : tie.Need-segment-from-requires
-segment-from-requires c κs = search needs
 
 along-segment-requires-2 : tie.Need-along-segment-requires-2
 along-segment-requires-2 c κs =
@@ -88,16 +71,5 @@ returns-4 c =
 pub walk-on-spec : {M : Type 1} → statement M
 walk-on-spec =
     tie.close
-    (tie.spec
-    along-segment-requires
-    returns
-    after-hold-requires
-    arrived-requires
-    returns-2
-    grains-of-requires
-    after-rest-requires
-    arrived-requires-2
-    returns-3
-    segment-from-requires
-    along-segment-requires-2
-    returns-4)
+    (tie.spec along-segment-requires returns (λ c κs. search needs) (λ c κs. search needs) returns-2 (λ c κs. search needs) (λ c κs. search needs)
+    (λ c κs. search needs) returns-3 (λ c κs. search needs) along-segment-requires-2 returns-4)

@@ -3,12 +3,6 @@ use borrow.Author.Needs.{needs}
 use Rattle.day_close.proofs.find_close.Statement.{statement}
 use Rattle.day_close.proofs.find_close.Tie as tie
 
-find-requires : tie.Need-find-requires
-find-requires c κs = search needs
-
-quantity-too-high-requires : tie.Need-quantity-too-high-requires
-quantity-too-high-requires c κs = search needs
-
 returns : tie.Need-returns
 returns c = read-is _ _ _ _ (c .before .before .before .before .find .ensures) (c .before .quantity-too-high .ensures) (rw (c .if1 .taken))
 
@@ -16,4 +10,4 @@ returns-2 : tie.Need-returns-2
 returns-2 c = read-is _ _ _ _ (c .before .before .before .before .find .ensures) (c .before .quantity-too-high .ensures) (rw (c .if1 .left))
 
 pub find-close-spec : {M : Type 1} → statement M
-find-close-spec = tie.close (tie.spec find-requires quantity-too-high-requires returns returns-2)
+find-close-spec = tie.close (tie.spec (λ c κs. search needs) (λ c κs. search needs) returns returns-2)

@@ -3,12 +3,6 @@ use borrow.Author.Needs.{needs}
 use Rattle.day_enter.proofs.below_maximum.Statement.{statement}
 use Rattle.day_enter.proofs.below_maximum.Tie as tie
 
-is-accepted-requires : tie.Need-is-accepted-requires
-is-accepted-requires c κs = search needs
-
-too-high-requires : tie.Need-too-high-requires
-too-high-requires c κs = search needs
-
 returns : tie.Need-returns
 returns c = opening-high _ _ _ _ (c .before .before .is-accepted .ensures) (c .before .too-high .ensures) (c .if1 .taken)
 
@@ -16,4 +10,4 @@ returns-2 : tie.Need-returns-2
 returns-2 c = opening-low _ _ _ _ (c .before .before .is-accepted .ensures) (c .before .too-high .ensures) (c .if1 .left)
 
 pub below-maximum-spec : {M : Type 1} → statement M
-below-maximum-spec = tie.close (tie.spec is-accepted-requires too-high-requires returns returns-2)
+below-maximum-spec = tie.close (tie.spec (λ c κs. search needs) (λ c κs. search needs) returns returns-2)

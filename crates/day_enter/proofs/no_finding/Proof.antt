@@ -3,12 +3,9 @@ use borrow.Author.Needs.{needs}
 use Rattle.day_enter.proofs.no_finding.Statement.{statement}
 use Rattle.day_enter.proofs.no_finding.Tie as tie
 
-no-course-requires : tie.Need-no-course-requires
-no-course-requires c κs = search needs
-
 returns : tie.Need-returns
 unfolding noFinding
 returns c = rw (c .no-course .ensures)
 
 pub no-finding-spec : {M : Type 1} → statement M
-no-finding-spec = tie.close (tie.spec no-course-requires returns)
+no-finding-spec = tie.close (tie.spec (λ c κs. search needs) returns)

@@ -5,38 +5,17 @@ use borrow.Author.Needs.{needs}
 use Rattle.day_enter.proofs.unit_front.Statement.{statement}
 use Rattle.day_enter.proofs.unit_front.Tie as tie
 
-refuse-unit-requires : tie.Need-refuse-unit-requires
-refuse-unit-requires c κs = search needs
-
 returns : tie.Need-returns
 unfolding unitFront
 returns c = c .refuse-unit .ensures ∙ rw (lt-ltb _ _ (c .before .if1 .taken))
-
-refuse-unit-requires-2 : tie.Need-refuse-unit-requires-2
-refuse-unit-requires-2 c κs = search needs
 
 returns-2 : tie.Need-returns-2
 unfolding unitFront
 returns-2 c = c .refuse-unit2 .ensures ∙ rw (le-ltb _ _ (c .before .before .if1 .left), c .before .if2 .taken)
 
-refuse-unit-requires-3 : tie.Need-refuse-unit-requires-3
-refuse-unit-requires-3 c κs = search needs
-
 returns-3 : tie.Need-returns-3
 unfolding unitFront
 returns-3 c = c .refuse-unit3 .ensures ∙ rw (le-ltb _ _ (c .before .before .before .if1 .left), c .before .before .if2 .left, c .before .if3 .taken)
-
-sub-read-unit : tie.Need-sub-read-unit
-sub-read-unit c = search needs
-
-part-read-unit-start : tie.Need-part-read-unit-start
-part-read-unit-start c = search needs
-
-part-read-unit-end : tie.Need-part-read-unit-end
-part-read-unit-end c = search needs
-
-read-unit-requires : tie.Need-read-unit-requires
-read-unit-requires c κs = search needs
 
 returns-4 : tie.Need-returns-4
 unfolding unitFront
@@ -45,15 +24,5 @@ returns-4 c = c .read-unit .ensures ∙ rw (le-ltb _ _ (c .before .before .befor
 pub unit-front-spec : {M : Type 1} → statement M
 unit-front-spec =
     tie.close
-    (tie.spec
-    refuse-unit-requires
-    returns
-    refuse-unit-requires-2
-    returns-2
-    refuse-unit-requires-3
-    returns-3
-    sub-read-unit
-    part-read-unit-start
-    part-read-unit-end
-    read-unit-requires
-    returns-4)
+    (tie.spec (λ c κs. search needs) returns (λ c κs. search needs) returns-2 (λ c κs. search needs) returns-3 (λ c. search needs)
+    (λ c. search needs) (λ c. search needs) (λ c κs. search needs) returns-4)

@@ -8,28 +8,10 @@ use borrow.Author.Needs.{needs}
 use Rattle.day_step.proofs.close_step.Statement.{statement}
 use Rattle.day_step.proofs.close_step.Tie as tie
 
-close-front-requires : tie.Need-close-front-requires
-close-front-requires c κs = search needs
-
-is-accepted-requires : tie.Need-is-accepted-requires
-is-accepted-requires c κs = search needs
-
-refused-requires : tie.Need-refused-requires
-refused-requires c κs = search needs
-
 returns : tie.Need-returns
 returns c =
     let first = c .before .before .before .close-front in
     c .refused .ensures ∙ close-early _ (first .result) (first .ensures) (is-refused (first .result) _ (c .before .before .is-accepted .ensures) (c .before .if1 .taken))
-
-find-close-requires : tie.Need-find-close-requires
-find-close-requires c κs = search needs
-
-is-accepted-requires-2 : tie.Need-is-accepted-requires-2
-is-accepted-requires-2 c κs = search needs
-
-refused-requires-2 : tie.Need-refused-requires-2
-refused-requires-2 c κs = search needs
 
 returns-2 : tie.Need-returns-2
 returns-2 c =
@@ -39,9 +21,6 @@ returns-2 c =
     let begins = is-taken (first .result) _ (s .before .is-accepted .ensures) (s .if1 .left) in
     c .refused2 .ensures
     ∙ close-refused _ (first .result) (first .ensures) begins (read .result) (read .ensures) (is-refused (read .result .answer) _ (c .before .before .is-accepted2 .ensures) (c .before .if2 .taken))
-
-closed-day-requires : tie.Need-closed-day-requires
-closed-day-requires c κs = search needs
 
 returns-3 : tie.Need-returns-3
 returns-3 c =
@@ -55,14 +34,5 @@ returns-3 c =
 pub close-step-spec : {M : Type 1} → statement M
 close-step-spec =
     tie.close
-    (tie.spec
-    close-front-requires
-    is-accepted-requires
-    refused-requires
-    returns
-    find-close-requires
-    is-accepted-requires-2
-    refused-requires-2
-    returns-2
-    closed-day-requires
-    returns-3)
+    (tie.spec (λ c κs. search needs) (λ c κs. search needs) (λ c κs. search needs) returns (λ c κs. search needs) (λ c κs. search needs)
+    (λ c κs. search needs) returns-2 (λ c κs. search needs) returns-3)

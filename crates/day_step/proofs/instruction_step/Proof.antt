@@ -20,15 +20,6 @@ use Rattle.records_bytes.proofs.is_accepted.Reads as is-accepted-reads
 use Rattle.day_step.proofs.accepted.Reads as accepted-reads
 use Rattle.day_step.proofs.refused.Reads as refused-reads
 
-instruction-front-requires : tie.Need-instruction-front-requires
-instruction-front-requires c κs = search needs
-
-is-accepted-requires : tie.Need-is-accepted-requires
-is-accepted-requires c κs = search needs
-
-refused-requires : tie.Need-refused-requires
-refused-requires c κs = search needs
-
 returns : tie.Need-returns
 returns c =
     let s = c .before .before .before .before .before .before in
@@ -53,9 +44,6 @@ element-set-from-instruction c = omega (arith, room c)
 add-taken : tie.Need-add-taken
 add-taken c = omega (arith, room c)
 
-accepted-requires : tie.Need-accepted-requires
-accepted-requires c κs = search needs
-
 returns-2 : tie.Need-returns-2
 unfolding dayWith takenWith
 returns-2 c =
@@ -70,13 +58,5 @@ returns-2 c =
 pub instruction-step-spec : {M : Type 1} → statement M
 instruction-step-spec =
     tie.close
-    (tie.spec
-    instruction-front-requires
-    is-accepted-requires
-    refused-requires
-    returns
-    mul-instruction
-    element-set-from-instruction
-    add-taken
-    accepted-requires
-    returns-2)
+    (tie.spec (λ c κs. search needs) (λ c κs. search needs) (λ c κs. search needs) returns mul-instruction element-set-from-instruction add-taken
+    (λ c κs. search needs) returns-2)

@@ -11,27 +11,12 @@ use borrow.Author.Needs.{needs}
 use Rattle.day_step.proofs.opening_step.Statement.{statement}
 use Rattle.day_step.proofs.opening_step.Tie as tie
 
-opening-front-requires : tie.Need-opening-front-requires
-opening-front-requires c κs = search needs
-
-is-accepted-requires : tie.Need-is-accepted-requires
-is-accepted-requires c κs = search needs
-
-refused-requires : tie.Need-refused-requires
-refused-requires c κs = search needs
-
 returns : tie.Need-returns
 returns c =
     let s = c .before .before .before .before .before .before .before in
     let read = c .before .before .before .opening-front in
     let no = is-refused (read .result .answer) _ (c .before .before .is-accepted .ensures) (c .before .if1 .taken) in
     c .refused .ensures ∙ (settle-refused (read .result .answer) _ _ no ∙ opening-step (foundIn paper) (s .args .day) (s .args .input .now) (read .result) (read .ensures) (s .pre))
-
-start-of-requires : tie.Need-start-of-requires
-start-of-requires c κs = search needs
-
-accepted-requires : tie.Need-accepted-requires
-accepted-requires c κs = search needs
 
 returns-2 : tie.Need-returns-2
 unfolding dayWith takenWith
@@ -47,11 +32,4 @@ returns-2 c =
 pub opening-step-spec : {M : Type 1} → statement M
 opening-step-spec =
     tie.close
-    (tie.spec
-    opening-front-requires
-    is-accepted-requires
-    refused-requires
-    returns
-    start-of-requires
-    accepted-requires
-    returns-2)
+    (tie.spec (λ c κs. search needs) (λ c κs. search needs) (λ c κs. search needs) returns (λ c κs. search needs) (λ c κs. search needs) returns-2)

@@ -11,24 +11,12 @@ use borrow.Author.Needs.{needs}
 use Rattle.day_step.proofs.unit_step.Statement.{statement}
 use Rattle.day_step.proofs.unit_step.Tie as tie
 
-unit-front-requires : tie.Need-unit-front-requires
-unit-front-requires c κs = search needs
-
-is-accepted-requires : tie.Need-is-accepted-requires
-is-accepted-requires c κs = search needs
-
-refused-requires : tie.Need-refused-requires
-refused-requires c κs = search needs
-
 returns : tie.Need-returns
 returns c =
     let s = c .before .before .before .before .before .before .before in
     let read = c .before .before .before .before .unit-front in
     let no = is-refused (read .result .answer) _ (c .before .before .is-accepted .ensures) (c .before .if1 .taken) in
     c .refused .ensures ∙ (settle-refused (read .result .answer) _ _ no ∙ unit-step (foundIn paper) (s .args .day) (s .args .input .now) (read .result) (read .ensures) (s .pre))
-
-accepted-requires : tie.Need-accepted-requires
-accepted-requires c κs = search needs
 
 returns-2 : tie.Need-returns-2
 unfolding dayWith takenWith
@@ -42,12 +30,4 @@ returns-2 c =
     ∙ unit-step (foundIn paper) (s .args .day) (s .args .input .now) (read .result) (read .ensures) (s .pre))
 
 pub unit-step-spec : {M : Type 1} → statement M
-unit-step-spec =
-    tie.close
-    (tie.spec
-    unit-front-requires
-    is-accepted-requires
-    refused-requires
-    returns
-    accepted-requires
-    returns-2)
+unit-step-spec = tie.close (tie.spec (λ c κs. search needs) (λ c κs. search needs) (λ c κs. search needs) returns (λ c κs. search needs) returns-2)

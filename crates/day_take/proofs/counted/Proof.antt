@@ -12,8 +12,5 @@ returns c =
     let e : 0 ≡ length (a .input .now) - length (a .rest .now) = omega arith in
     λ i. record { answer = a .s .answer; day = a .s .day; used = e i }
 
-returns-2 : tie.Need-returns-2
-returns-2 c = search needs
-
 pub counted-spec : {M : Type 1} → statement M
-counted-spec = tie.close (tie.spec returns returns-2)
+counted-spec = tie.close (tie.spec returns (λ c. search needs))

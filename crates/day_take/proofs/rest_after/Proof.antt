@@ -4,15 +4,6 @@ use borrow.Author.Needs.{needs}
 use Rattle.day_take.proofs.rest_after.Statement.{statement}
 use Rattle.day_take.proofs.rest_after.Tie as tie
 
-sub-result : tie.Need-sub-result
-sub-result c = search needs
-
-part-result-start : tie.Need-part-result-start
-part-result-start c = search needs
-
-part-result-end : tie.Need-part-result-end
-part-result-end c = search needs
-
 returns : tie.Need-returns
 returns c =
     let a = c .before .before .args in
@@ -22,5 +13,4 @@ returns-2 : tie.Need-returns-2
 returns-2 c = rw (lt-leb _ _ (c .if1 .left))
 
 pub rest-after-spec : {M : Type 1} → statement M
-rest-after-spec =
-    tie.close (tie.spec sub-result part-result-start part-result-end returns returns-2)
+rest-after-spec = tie.close (tie.spec (λ c. search needs) (λ c. search needs) (λ c. search needs) returns returns-2)

@@ -36,24 +36,9 @@ Inv-loop input out₀ t₀ rest₀ out t rest = (out ≡ out₀) × (from (openD
 abbrev μ-loop : tie.MeasureT-loop
 μ-loop input out₀ t₀ rest₀ out t rest = length rest
 
-no-taken-requires : tie.Need-no-taken-requires Inv-loop μ-loop
-no-taken-requires c κs = search needs
-
 loop-holds : tie.Need-loop-holds Inv-loop μ-loop
 unfolding empty
 loop-holds c = (refl, run-first (openDay (c .no-taken .result)) _ (ap openDay (c .no-taken .ensures)))
-
-shared-slice-read-match : tie.Need-shared-slice-read-match Inv-loop μ-loop
-shared-slice-read-match c = search needs
-
-unit-front-requires : tie.Need-unit-front-requires Inv-loop μ-loop
-unit-front-requires c κs = search needs
-
-is-accepted-requires : tie.Need-is-accepted-requires Inv-loop μ-loop
-is-accepted-requires c κs = search needs
-
-answer-result-requires : tie.Need-answer-result-requires Inv-loop μ-loop
-answer-result-requires c κs = search needs
 
 same-length : tie.Need-same-length Inv-loop μ-loop
 same-length c = ap length (c .before .before .before .before .before .before .before .before .loop .inv .0)
@@ -102,15 +87,6 @@ loop-again c =
     let l = c .before .before .before .before .before .before .before .before .loop in
     (l .inv .0, rw (unit-in (c .before) .2) (sym (unit-in (c .before) .1) ∙ l .inv .1))
 
-opening-front-requires : tie.Need-opening-front-requires Inv-loop μ-loop
-opening-front-requires c κs = search needs
-
-is-accepted-requires-2 : tie.Need-is-accepted-requires-2 Inv-loop μ-loop
-is-accepted-requires-2 c κs = search needs
-
-answer-result-requires-2 : tie.Need-answer-result-requires-2 Inv-loop μ-loop
-answer-result-requires-2 c κs = search needs
-
 same-length-2 : tie.Need-same-length-2 Inv-loop μ-loop
 same-length-2 c = ap length (c .before .before .before .before .before .before .before .before .loop .inv .0)
 
@@ -140,9 +116,6 @@ opening-in c =
     let e = next 2 openingSize (l .t) (l .rest .now) in
     (fits (openDay (l .t)) (l .rest .now) more (read .result .answer) e openingSize step yes, goes-on (openDay (l .t)) (l .rest .now) more (read .result .answer) e openingSize step yes (omega arith) refl, opening-says (foundIn paper) (openDay (l .t)) (l .rest .now) (read .result) (read .ensures) yes)
 
-start-of-requires : tie.Need-start-of-requires Inv-loop μ-loop
-start-of-requires c κs = search needs
-
 sub-rest-2 : tie.Need-sub-rest-2 Inv-loop μ-loop
 sub-rest-2 c = omega (arith, opening-in (c .before) .0)
 
@@ -160,15 +133,6 @@ unfolding dayWith takenWith
 loop-again-2 c =
     let l = c .before .before .before .before .before .before .before .before .before .loop in
     (l .inv .0, rw (c .before .start-of .ensures, opening-in (c .before .before) .2) (sym (opening-in (c .before .before) .1) ∙ l .inv .1))
-
-instruction-front-requires : tie.Need-instruction-front-requires Inv-loop μ-loop
-instruction-front-requires c κs = search needs
-
-is-accepted-requires-3 : tie.Need-is-accepted-requires-3 Inv-loop μ-loop
-is-accepted-requires-3 c κs = search needs
-
-answer-result-requires-3 : tie.Need-answer-result-requires-3 Inv-loop μ-loop
-answer-result-requires-3 c κs = search needs
 
 same-length-3 : tie.Need-same-length-3 Inv-loop μ-loop
 same-length-3 c = ap length (c .before .before .before .before .before .before .before .loop .inv .0)
@@ -236,9 +200,6 @@ ends-here c =
 close-run-requires : tie.Need-close-run-requires Inv-loop μ-loop
 close-run-requires c κs = λ a. run-fits (c .before .before .before .before .before .before .before .before .args .input .now) _ (ends-here c) a .1
 
-same-length-4 : tie.Need-same-length-4 Inv-loop μ-loop
-same-length-4 c = search needs
-
 returns-4 : tie.Need-returns-4 Inv-loop μ-loop
 returns-4 c =
     let l = c .before .before .before .before .before .before .before .loop in
@@ -247,9 +208,6 @@ returns-4 c =
     let e = ran-listed (s .args .input .now) (s .args .out .now) _ (ends-here (c .before .before .before)) in
     subst (λ (o : List ℕ). (r .result ≡ ranResult (endedBy (openDay (l .t)) (getD (l .rest .now) 0 0)) o) × (r .last .1 .1 .0 ≡ ranLent (endedBy (openDay (l .t)) (getD (l .rest .now) 0 0)) o) → (r .result ≡ listedResult (s .args .input .now) (s .args .out .now)) × (r .last .1 .1 .0 ≡ listedLent (s .args .input .now) (s .args .out .now)))
     (sym (l .inv .0)) (λ f. (f .0 ∙ e .0, f .1 ∙ e .1)) (r .ensures)
-
-answer-result-requires-4 : tie.Need-answer-result-requires-4 Inv-loop μ-loop
-answer-result-requires-4 c κs = search needs
 
 same-length-5 : tie.Need-same-length-5 Inv-loop μ-loop
 same-length-5 c = ap length (c .before .before .loop .inv .0)
@@ -264,49 +222,9 @@ returns-5 c =
 pub gristpebble-listing-spec : {M : Type 1} → statement M
 gristpebble-listing-spec =
     tie.close
-    (tie.spec
-    Inv-loop
-    μ-loop
-    no-taken-requires
-    loop-holds
-    shared-slice-read-match
-    unit-front-requires
-    is-accepted-requires
-    answer-result-requires
-    same-length
-    returns
-    sub-rest
-    part-rest-start
-    part-rest-end
-    loop-less
-    loop-again
-    opening-front-requires
-    is-accepted-requires-2
-    answer-result-requires-2
-    same-length-2
-    returns-2
-    start-of-requires
-    sub-rest-2
-    part-rest-start-2
-    part-rest-end-2
-    loop-less-2
-    loop-again-2
-    instruction-front-requires
-    is-accepted-requires-3
-    answer-result-requires-3
-    same-length-3
-    returns-3
-    mul-instruction
-    element-set-from-instruction
-    add-t
-    sub-rest-3
-    part-rest-start-3
-    part-rest-end-3
-    loop-less-3
-    loop-again-3
-    close-run-requires
-    same-length-4
-    returns-4
-    answer-result-requires-4
-    same-length-5
-    returns-5)
+    (tie.spec Inv-loop μ-loop (λ c κs. search needs) loop-holds (λ c. search needs) (λ c κs. search needs) (λ c κs. search needs)
+    (λ c κs. search needs) same-length returns sub-rest part-rest-start part-rest-end loop-less loop-again (λ c κs. search needs)
+    (λ c κs. search needs) (λ c κs. search needs) same-length-2 returns-2 (λ c κs. search needs) sub-rest-2 part-rest-start-2 part-rest-end-2
+    loop-less-2 loop-again-2 (λ c κs. search needs) (λ c κs. search needs) (λ c κs. search needs) same-length-3 returns-3 mul-instruction
+    element-set-from-instruction add-t sub-rest-3 part-rest-start-3 part-rest-end-3 loop-less-3 loop-again-3 close-run-requires (λ c. search needs)
+    returns-4 (λ c κs. search needs) same-length-5 returns-5)

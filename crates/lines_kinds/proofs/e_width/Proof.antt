@@ -4,14 +4,10 @@ use Rattle.lines.proofs.Widths.{e-length}
 use Rattle.lines_kinds.proofs.e_width.Statement.{statement}
 use Rattle.lines_kinds.proofs.e_width.Tie as tie
 
-four-width-requires : tie.Need-four-width-requires
-four-width-requires c κs = search needs
-
 returns : tie.Need-returns
 returns c =
     let a = c .before .args in
     (omega (arith, e-length (a .level) (a .target) (a .heat) (a .off)), c .four-width .ensures .1)
 
 pub e-width-spec : {M : Type 1} → statement M
-e-width-spec =
-    tie.close (tie.spec four-width-requires returns)
+e-width-spec = tie.close (tie.spec (λ c κs. search needs) returns)

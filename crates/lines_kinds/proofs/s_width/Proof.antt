@@ -4,14 +4,10 @@ use Rattle.lines.proofs.Widths.{s-length}
 use Rattle.lines_kinds.proofs.s_width.Statement.{statement}
 use Rattle.lines_kinds.proofs.s_width.Tie as tie
 
-four-width-requires : tie.Need-four-width-requires
-four-width-requires c κs = search needs
-
 returns : tie.Need-returns
 returns c =
     let a = c .before .args in
     (omega (arith, s-length (a .from) (a .to) (a .enter) (a .leave)), c .four-width .ensures .1)
 
 pub s-width-spec : {M : Type 1} → statement M
-s-width-spec =
-    tie.close (tie.spec four-width-requires returns)
+s-width-spec = tie.close (tie.spec (λ c κs. search needs) returns)

@@ -13,14 +13,8 @@ Inv-loop v left₀ width₀ left width = width + length (decimal left) ≡ lengt
 abbrev μ-loop : tie.MeasureT-loop
 μ-loop v left₀ width₀ left width = left
 
-loop-holds : tie.Need-loop-holds Inv-loop μ-loop
-loop-holds c = omega arith
-
 add-width : tie.Need-add-width Inv-loop μ-loop
 add-width c = omega (arith, word-width (c .before .before .args .v) (omega arith))
-
-loop-less : tie.Need-loop-less Inv-loop μ-loop
-loop-less c = omega arith
 
 loop-again : tie.Need-loop-again Inv-loop μ-loop
 loop-again c = omega (arith, high-length (c .before .loop .left) (omega arith))
@@ -32,5 +26,4 @@ returns c =
     (omega arith, omega arith)
 
 pub counted-width-spec : {M : Type 1} → statement M
-counted-width-spec =
-    tie.close (tie.spec Inv-loop μ-loop loop-holds add-width loop-less loop-again returns)
+counted-width-spec = tie.close (tie.spec Inv-loop μ-loop (λ c. omega arith) add-width (λ c. omega arith) loop-again returns)

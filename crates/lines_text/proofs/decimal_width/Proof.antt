@@ -32,24 +32,7 @@ returns-8 c = (width-between 7 _ (omega arith) (omega arith), omega arith)
 returns-9 : tie.Need-returns-9
 returns-9 c = (width-between 8 _ (omega arith) (omega arith), omega arith)
 
-counted-width-requires : tie.Need-counted-width-requires
-counted-width-requires c κs = search needs
-
-returns-10 : tie.Need-returns-10
-returns-10 c = search needs
-
 pub decimal-width-spec : {M : Type 1} → statement M
 decimal-width-spec =
     tie.close
-    (tie.spec
-    returns
-    returns-2
-    returns-3
-    returns-4
-    returns-5
-    returns-6
-    returns-7
-    returns-8
-    returns-9
-    counted-width-requires
-    returns-10)
+    (tie.spec returns returns-2 returns-3 returns-4 returns-5 returns-6 returns-7 returns-8 returns-9 (λ c κs. search needs) (λ c. search needs))

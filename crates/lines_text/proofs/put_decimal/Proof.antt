@@ -15,55 +15,19 @@ Inv-loop out₀ v width left₀ i₀ out left i = (i ≤ 20) × (i ≤ length ou
 abbrev μ-loop : tie.MeasureT-loop
 μ-loop out₀ v width left₀ i₀ out left i = i
 
-decimal-width-requires : tie.Need-decimal-width-requires Inv-loop μ-loop
-decimal-width-requires c κs = search needs
-
 loop-holds : tie.Need-loop-holds Inv-loop μ-loop
 loop-holds c =
     let w = c .decimal-width .ensures .0 in
     (c .decimal-width .ensures .1, omega arith, ap (λ (l : List ℕ). laid l (c .before .before .args .out .now)) (last-all (c .decimal-width .result) (c .before .before .args .v) w))
 
-sub-i : tie.Need-sub-i Inv-loop μ-loop
-sub-i c = omega arith
-
-cast-out : tie.Need-cast-out Inv-loop μ-loop
-cast-out c = omega arith
-
-add-out : tie.Need-add-out Inv-loop μ-loop
-add-out c = omega arith
-
-add-out-2 : tie.Need-add-out-2 Inv-loop μ-loop
-add-out-2 c = omega arith
-
-slice-write-out : tie.Need-slice-write-out Inv-loop μ-loop
-slice-write-out c = omega arith
-
-cast-out-2 : tie.Need-cast-out-2 Inv-loop μ-loop
-cast-out-2 c = omega arith
-
-add-out-3 : tie.Need-add-out-3 Inv-loop μ-loop
-add-out-3 c = omega arith
-
 slice-write-out-2 : tie.Need-slice-write-out-2 Inv-loop μ-loop
 slice-write-out-2 c = simp length-set (omega arith)
-
-loop-less : tie.Need-loop-less Inv-loop μ-loop
-loop-less c = omega arith
 
 loop-again : tie.Need-loop-again Inv-loop μ-loop
 loop-again c =
     let l = c .before .loop in
     let e : l .i - 2 + 2 ≡ l .i = omega arith in
     (omega arith, simp length-set (omega arith), sym (last-two (l .i - 2) (l .left) (l .out) (omega arith)) ∙ (ap (λ (k : ℕ). laid (lastDigits k (l .left)) (l .out)) e ∙ l .inv .2))
-
-cast-out-3 : tie.Need-cast-out-3 Inv-loop μ-loop
-cast-out-3 c = omega arith
-
-add-out-4 : tie.Need-add-out-4 Inv-loop μ-loop
-add-out-4 c = omega arith
-
-slice-write-out-3 : tie.Need-slice-write-out-3 Inv-loop μ-loop
-slice-write-out-3 c = omega arith
 
 returns : tie.Need-returns Inv-loop μ-loop
 unfolding lastDigits
@@ -92,25 +56,6 @@ same-length-2 c =
 pub put-decimal-spec : {M : Type 1} → statement M
 put-decimal-spec =
     tie.close
-    (tie.spec
-    Inv-loop
-    μ-loop
-    decimal-width-requires
-    loop-holds
-    sub-i
-    cast-out
-    add-out
-    add-out-2
-    slice-write-out
-    cast-out-2
-    add-out-3
-    slice-write-out-2
-    loop-less
-    loop-again
-    cast-out-3
-    add-out-4
-    slice-write-out-3
-    same-length
-    returns
-    same-length-2
-    returns-2)
+    (tie.spec Inv-loop μ-loop (λ c κs. search needs) loop-holds (λ c. omega arith) (λ c. omega arith) (λ c. omega arith) (λ c. omega arith)
+    (λ c. omega arith) (λ c. omega arith) (λ c. omega arith) slice-write-out-2 (λ c. omega arith) loop-again (λ c. omega arith) (λ c. omega arith)
+    (λ c. omega arith) same-length returns same-length-2 returns-2)

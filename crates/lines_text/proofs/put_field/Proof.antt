@@ -20,9 +20,6 @@ part-put-decimal-start : tie.Need-part-put-decimal-start
 unfolding field
 part-put-decimal-start c = simp length-set (omega arith)
 
-part-put-decimal-end : tie.Need-part-put-decimal-end
-part-put-decimal-end c = search needs
-
 put-decimal-requires : tie.Need-put-decimal-requires
 unfolding field
 put-decimal-requires c κs = after-first (c .before .before .args .out .now) _ _ (length (decimal (c .before .before .args .v))) (omega arith)
@@ -47,12 +44,4 @@ same-length c =
 pub put-field-spec : {M : Type 1} → statement M
 put-field-spec =
     tie.close
-    (tie.spec
-    slice-write-out
-    sub-put-decimal
-    part-put-decimal-start
-    part-put-decimal-end
-    put-decimal-requires
-    add-result
-    same-length
-    returns)
+    (tie.spec slice-write-out sub-put-decimal part-put-decimal-start (λ c. search needs) put-decimal-requires add-result same-length returns)

@@ -37,32 +37,17 @@ loop-holds : tie.Need-loop-holds Inv-loop μ-loop
 unfolding fields
 loop-holds c = (search needs, refl, start (c .before .before .args .out .now) (c .before .before .args .letter) (slice-write-out c))
 
-mul-v : tie.Need-mul-v Inv-loop μ-loop
-mul-v c = omega arith
-
-shared-slice-read-v : tie.Need-shared-slice-read-v Inv-loop μ-loop
-shared-slice-read-v c = omega arith
-
 sub-put-field : tie.Need-sub-put-field Inv-loop μ-loop
 sub-put-field c = omega (arith, len (c .before .before))
 
 part-put-field-start : tie.Need-part-put-field-start Inv-loop μ-loop
 part-put-field-start c = omega (arith, len (c .before .before))
 
-part-put-field-end : tie.Need-part-put-field-end Inv-loop μ-loop
-part-put-field-end c = search needs
-
 put-field-requires : tie.Need-put-field-requires Inv-loop μ-loop
 put-field-requires c κs = omega (arith, part-length (c .before .before .before .loop .at) (c .before .before .before .loop .out), len (c .before .before .before), more (c .before .before))
 
 add-at : tie.Need-add-at Inv-loop μ-loop
 add-at c = omega (arith, more (c .before .before .before .before .before), c .before .before .put-field .ensures .0)
-
-add-i : tie.Need-add-i Inv-loop μ-loop
-add-i c = omega arith
-
-loop-less : tie.Need-loop-less Inv-loop μ-loop
-loop-less c = omega arith
 
 loop-again : tie.Need-loop-again Inv-loop μ-loop
 loop-again c =
@@ -103,22 +88,5 @@ returns c =
 pub put-line-spec : {M : Type 1} → statement M
 put-line-spec =
     tie.close
-    (tie.spec
-    Inv-loop
-    μ-loop
-    slice-write-out
-    loop-holds
-    mul-v
-    shared-slice-read-v
-    sub-put-field
-    part-put-field-start
-    part-put-field-end
-    put-field-requires
-    add-at
-    add-i
-    loop-less
-    loop-again
-    slice-write-out-2
-    add-result
-    same-length
-    returns)
+    (tie.spec Inv-loop μ-loop slice-write-out loop-holds (λ c. omega arith) (λ c. omega arith) sub-put-field part-put-field-start (λ c. search needs)
+    put-field-requires add-at (λ c. omega arith) (λ c. omega arith) loop-again slice-write-out-2 add-result same-length returns)

@@ -24,9 +24,6 @@ next c =
     let l = c .before .before .before .loop in
     piece-on (a .l) (a .c) (a .up) (a .n) (l .from) (c .walk-on .result) (c .before .if1 .taken) (l .inv .0) (c .walk-on .ensures)
 
-begin-at-requires : tie.Need-begin-at-requires Inv-loop μ-loop
-begin-at-requires c κs = search needs
-
 loop-holds : tie.Need-loop-holds Inv-loop μ-loop
 unfolding beginning reachedAt
 loop-holds c =
@@ -35,9 +32,6 @@ loop-holds c =
 
 walk-on-requires : tie.Need-walk-on-requires Inv-loop μ-loop
 walk-on-requires c κs = let a = c .before .before .loop .inv .0 in (c .if1 .taken, (a .short, a .known))
-
-piece-width-requires : tie.Need-piece-width-requires Inv-loop μ-loop
-piece-width-requires c κs = search needs
 
 add-width : tie.Need-add-width Inv-loop μ-loop
 add-width c =
@@ -71,14 +65,4 @@ returns c =
 pub course-width-spec : {M : Type 1} → statement M
 course-width-spec =
     tie.close
-    (tie.spec
-    Inv-loop
-    μ-loop
-    begin-at-requires
-    loop-holds
-    walk-on-requires
-    piece-width-requires
-    add-width
-    loop-less
-    loop-again
-    returns)
+    (tie.spec Inv-loop μ-loop (λ c κs. search needs) loop-holds walk-on-requires (λ c κs. search needs) add-width loop-less loop-again returns)

@@ -6,7 +6,7 @@ use borrow.Author.Needs.{needs}
 use lib.ListN.{length, getD}
 use Rattle.level.specs.Level.{grains}
 use Rattle.course.specs.declared.Course.{Course}
-use Rattle.course.proofs.Near.{Short}
+use Rattle.course.specs.Headings.{Short}
 use Rattle.course.specs.Course.{noCourse}
 use Rattle.course_rates.specs.Ways.{headed}
 use Rattle.course_walk.specs.Walk.{beginning}
@@ -51,53 +51,8 @@ next c =
     course-next (a .t1) (a .end) (a .t2) (a .started) (in-loop c .before .before .before .before .smaller-count .result) (l .i) (s .good .1 .0 .1 .0 .1) (in-loop c .before .before .before .before .smaller-count .ensures) (omega arith) (l .l) _ _ _ _ _ (l .inv .1)
     (c .before .before .before .before .before .is-rising .ensures) (c .before .before .before .before .place-of .ensures .0) (c .ramp-of .ensures) (c .before .before .before .before .before .before .before .smaller-count2 .ensures) (c .before .before .before .before .before .before .end-of .ensures)
 
-smaller-count-requires : tie.Need-smaller-count-requires Inv-loop μ-loop
-smaller-count-requires c κs = search needs
-
-array-copy-out-first : tie.Need-array-copy-out-first Inv-loop μ-loop
-array-copy-out-first c = omega arith
-
-own-lists-requires : tie.Need-own-lists-requires Inv-loop μ-loop
-own-lists-requires c κs = search needs
-
 loop-holds : tie.Need-loop-holds Inv-loop μ-loop
 loop-holds c = let u = c .before .before .before .args .t1 in (omega arith, shared-own u (c .own-lists .result) _ _ (c .own-lists .ensures), omega arith, omega arith)
-
-mul-c : tie.Need-mul-c Inv-loop μ-loop
-mul-c c = omega arith
-
-array-copy-out-c : tie.Need-array-copy-out-c Inv-loop μ-loop
-array-copy-out-c c = omega arith
-
-add-i : tie.Need-add-i Inv-loop μ-loop
-add-i c = omega arith
-
-smaller-count-requires-2 : tie.Need-smaller-count-requires-2 Inv-loop μ-loop
-smaller-count-requires-2 c κs = search needs
-
-mul-end-of : tie.Need-mul-end-of Inv-loop μ-loop
-mul-end-of c = omega arith
-
-element-copy-out-end-of : tie.Need-element-copy-out-end-of Inv-loop μ-loop
-element-copy-out-end-of c = omega arith
-
-end-of-requires : tie.Need-end-of-requires Inv-loop μ-loop
-end-of-requires c κs = search needs
-
-is-rising-requires : tie.Need-is-rising-requires Inv-loop μ-loop
-is-rising-requires c κs = search needs
-
-place-of-requires : tie.Need-place-of-requires Inv-loop μ-loop
-place-of-requires c κs = search needs
-
-mul-l : tie.Need-mul-l Inv-loop μ-loop
-mul-l c = search needs
-
-element-copy-out-l : tie.Need-element-copy-out-l Inv-loop μ-loop
-element-copy-out-l c = search needs
-
-ramp-of-requires : tie.Need-ramp-of-requires Inv-loop μ-loop
-ramp-of-requires c κs = search needs
 
 course-width-requires : tie.Need-course-width-requires Inv-loop μ-loop
 course-width-requires c κs = next c .0
@@ -133,27 +88,7 @@ returns c =
 pub courses-width-spec : {M : Type 1} → statement M
 courses-width-spec =
     tie.close
-    (tie.spec
-    Inv-loop
-    μ-loop
-    smaller-count-requires
-    array-copy-out-first
-    own-lists-requires
-    loop-holds
-    mul-c
-    array-copy-out-c
-    add-i
-    smaller-count-requires-2
-    mul-end-of
-    element-copy-out-end-of
-    end-of-requires
-    is-rising-requires
-    place-of-requires
-    mul-l
-    element-copy-out-l
-    ramp-of-requires
-    course-width-requires
-    add-width
-    loop-less
-    loop-again
+    (tie.spec Inv-loop μ-loop (λ c κs. search needs) (λ c. omega arith) (λ c κs. search needs) loop-holds (λ c. omega arith) (λ c. omega arith)
+    (λ c. omega arith) (λ c κs. search needs) (λ c. omega arith) (λ c. omega arith) (λ c κs. search needs) (λ c κs. search needs)
+    (λ c κs. search needs) (λ c. search needs) (λ c. search needs) (λ c κs. search needs) course-width-requires add-width loop-less loop-again
     returns)

@@ -14,32 +14,8 @@ Inv-loop count fates n width₀ i₀ width i = (i ≤ n) × (width + length (fat
 abbrev μ-loop : tie.MeasureT-loop
 μ-loop count fates n width₀ i₀ width i = n - i
 
-smaller-count-requires : tie.Need-smaller-count-requires Inv-loop μ-loop
-smaller-count-requires c κs = search needs
-
 loop-holds : tie.Need-loop-holds Inv-loop μ-loop
 loop-holds c = (omega arith, omega arith, omega arith)
-
-add-number : tie.Need-add-number Inv-loop μ-loop
-add-number c = omega arith
-
-array-read-fate : tie.Need-array-read-fate Inv-loop μ-loop
-array-read-fate c = omega arith
-
-cast-fate : tie.Need-cast-fate Inv-loop μ-loop
-cast-fate c = search needs
-
-f-width-requires : tie.Need-f-width-requires Inv-loop μ-loop
-f-width-requires c κs = search needs
-
-add-width : tie.Need-add-width Inv-loop μ-loop
-add-width c = omega arith
-
-add-i : tie.Need-add-i Inv-loop μ-loop
-add-i c = omega arith
-
-loop-less : tie.Need-loop-less Inv-loop μ-loop
-loop-less c = omega arith
 
 loop-again : tie.Need-loop-again Inv-loop μ-loop
 loop-again c =
@@ -61,17 +37,5 @@ returns c =
 pub fates-width-spec : {M : Type 1} → statement M
 fates-width-spec =
     tie.close
-    (tie.spec
-    Inv-loop
-    μ-loop
-    smaller-count-requires
-    loop-holds
-    add-number
-    array-read-fate
-    cast-fate
-    f-width-requires
-    add-width
-    add-i
-    loop-less
-    loop-again
-    returns)
+    (tie.spec Inv-loop μ-loop (λ c κs. search needs) loop-holds (λ c. omega arith) (λ c. omega arith) (λ c. search needs) (λ c κs. search needs)
+    (λ c. omega arith) (λ c. omega arith) (λ c. omega arith) loop-again returns)

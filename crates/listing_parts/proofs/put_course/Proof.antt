@@ -35,9 +35,6 @@ room c =
     let left = linesLeft (a .l) (a .c) (a .up) (a .n) in
     lay-next (left (beginning (a .c) (a .c .begin))) (left (l .from .place)) (pieceLine (l .from .place) (to .place)) (left (to .place)) (a .out .now) (l .out) (l .at) (s .pre .1) (next c .line) (l .inv .1)
 
-begin-at-requires : tie.Need-begin-at-requires Inv-loop μ-loop
-begin-at-requires c κs = search needs
-
 loop-holds : tie.Need-loop-holds Inv-loop μ-loop
 unfolding beginning reachedAt
 loop-holds c =
@@ -53,9 +50,6 @@ sub-put-piece c = omega (arith, room (c .before .before))
 
 part-put-piece-start : tie.Need-part-put-piece-start Inv-loop μ-loop
 part-put-piece-start c = omega (arith, room (c .before .before))
-
-part-put-piece-end : tie.Need-part-put-piece-end Inv-loop μ-loop
-part-put-piece-end c = search needs
 
 put-piece-requires : tie.Need-put-piece-requires Inv-loop μ-loop
 put-piece-requires c κs = let l = c .before .before .before .before .before .before .loop in omega (arith, part-length (l .at) (l .out), room (c .before .before .before))
@@ -98,18 +92,5 @@ returns c =
 pub put-course-spec : {M : Type 1} → statement M
 put-course-spec =
     tie.close
-    (tie.spec
-    Inv-loop
-    μ-loop
-    begin-at-requires
-    loop-holds
-    walk-on-requires
-    sub-put-piece
-    part-put-piece-start
-    part-put-piece-end
-    put-piece-requires
-    add-at
-    loop-less
-    loop-again
-    same-length
-    returns)
+    (tie.spec Inv-loop μ-loop (λ c κs. search needs) loop-holds walk-on-requires sub-put-piece part-put-piece-start (λ c. search needs)
+    put-piece-requires add-at loop-less loop-again same-length returns)

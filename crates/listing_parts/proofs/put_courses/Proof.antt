@@ -6,7 +6,7 @@ use borrow.Author.Needs.{needs}
 use lib.ListN.{length, getD}
 use Rattle.level.specs.Level.{grains}
 use Rattle.course.specs.declared.Course.{Course}
-use Rattle.course.proofs.Near.{Short}
+use Rattle.course.specs.Headings.{Short}
 use Rattle.course.specs.Course.{noCourse}
 use Rattle.course_rates.specs.Ways.{headed}
 use Rattle.course_walk.specs.Walk.{beginning}
@@ -61,64 +61,16 @@ room c =
     let left = courses-left (a .t2) (a .end) (a .t3) (a .started) in
     lay-next (left 0) (left (l .i)) (lines-of c) (left (l .i + 1)) (a .out .now) (l .out) (l .at) (s .pre) (next c .1) (l .inv .2)
 
-smaller-count-requires : tie.Need-smaller-count-requires Inv-loop μ-loop
-smaller-count-requires c κs = search needs
-
-array-copy-out-first : tie.Need-array-copy-out-first Inv-loop μ-loop
-array-copy-out-first c = omega arith
-
-own-lists-requires : tie.Need-own-lists-requires Inv-loop μ-loop
-own-lists-requires c κs = search needs
-
 loop-holds : tie.Need-loop-holds Inv-loop μ-loop
 loop-holds c =
     let a = c .before .before .before .before .args in
     (omega arith, shared-own (a .t2) (c .own-lists .result) _ _ (c .own-lists .ensures), lay-none (courses-left (a .t2) (a .end) (a .t3) (a .started) 0) (a .out .now))
-
-mul-c : tie.Need-mul-c Inv-loop μ-loop
-mul-c c = omega arith
-
-array-copy-out-c : tie.Need-array-copy-out-c Inv-loop μ-loop
-array-copy-out-c c = omega arith
-
-add-i : tie.Need-add-i Inv-loop μ-loop
-add-i c = omega arith
-
-smaller-count-requires-2 : tie.Need-smaller-count-requires-2 Inv-loop μ-loop
-smaller-count-requires-2 c κs = search needs
-
-mul-end-of : tie.Need-mul-end-of Inv-loop μ-loop
-mul-end-of c = omega arith
-
-element-copy-out-end-of : tie.Need-element-copy-out-end-of Inv-loop μ-loop
-element-copy-out-end-of c = omega arith
-
-end-of-requires : tie.Need-end-of-requires Inv-loop μ-loop
-end-of-requires c κs = search needs
-
-is-rising-requires : tie.Need-is-rising-requires Inv-loop μ-loop
-is-rising-requires c κs = search needs
-
-place-of-requires : tie.Need-place-of-requires Inv-loop μ-loop
-place-of-requires c κs = search needs
-
-mul-l : tie.Need-mul-l Inv-loop μ-loop
-mul-l c = search needs
-
-element-copy-out-l : tie.Need-element-copy-out-l Inv-loop μ-loop
-element-copy-out-l c = search needs
-
-ramp-of-requires : tie.Need-ramp-of-requires Inv-loop μ-loop
-ramp-of-requires c κs = search needs
 
 sub-put-course : tie.Need-sub-put-course Inv-loop μ-loop
 sub-put-course c = omega (arith, room c)
 
 part-put-course-start : tie.Need-part-put-course-start Inv-loop μ-loop
 part-put-course-start c = omega (arith, room c)
-
-part-put-course-end : tie.Need-part-put-course-end Inv-loop μ-loop
-part-put-course-end c = search needs
 
 put-course-requires : tie.Need-put-course-requires Inv-loop μ-loop
 put-course-requires c κs = let l = in-loop (c .before) .before .loop in (next (c .before) .0, omega (arith, part-length (l .at) (l .out), room (c .before)))
@@ -161,31 +113,7 @@ returns c =
 pub put-courses-spec : {M : Type 1} → statement M
 put-courses-spec =
     tie.close
-    (tie.spec
-    Inv-loop
-    μ-loop
-    smaller-count-requires
-    array-copy-out-first
-    own-lists-requires
-    loop-holds
-    mul-c
-    array-copy-out-c
-    add-i
-    smaller-count-requires-2
-    mul-end-of
-    element-copy-out-end-of
-    end-of-requires
-    is-rising-requires
-    place-of-requires
-    mul-l
-    element-copy-out-l
-    ramp-of-requires
-    sub-put-course
-    part-put-course-start
-    part-put-course-end
-    put-course-requires
-    add-at
-    loop-less
-    loop-again
-    same-length
-    returns)
+    (tie.spec Inv-loop μ-loop (λ c κs. search needs) (λ c. omega arith) (λ c κs. search needs) loop-holds (λ c. omega arith) (λ c. omega arith)
+    (λ c. omega arith) (λ c κs. search needs) (λ c. omega arith) (λ c. omega arith) (λ c κs. search needs) (λ c κs. search needs)
+    (λ c κs. search needs) (λ c. search needs) (λ c. search needs) (λ c κs. search needs) sub-put-course part-put-course-start (λ c. search needs)
+    put-course-requires add-at loop-less loop-again same-length returns)

@@ -36,20 +36,8 @@ room c =
     let left = fates-left (a .t2) (a .count) in
     lay-next (left 0) (left (l .i)) (fLine (l .i + 1) (getD (a .t2) (l .i) 0)) (left (l .i + 1)) (a .out .now) (l .out) (l .at) (s .pre) (next c) (l .inv .1)
 
-smaller-count-requires : tie.Need-smaller-count-requires Inv-loop μ-loop
-smaller-count-requires c κs = search needs
-
 loop-holds : tie.Need-loop-holds Inv-loop μ-loop
 loop-holds c = let a = c .before .before .args in (omega arith, lay-none (fates-left (a .t2) (a .count) 0) (a .out .now))
-
-add-number : tie.Need-add-number Inv-loop μ-loop
-add-number c = omega arith
-
-array-read-fate : tie.Need-array-read-fate Inv-loop μ-loop
-array-read-fate c = omega arith
-
-cast-fate : tie.Need-cast-fate Inv-loop μ-loop
-cast-fate c = search needs
 
 sub-put-f : tie.Need-sub-put-f Inv-loop μ-loop
 sub-put-f c = omega (arith, room c)
@@ -57,20 +45,11 @@ sub-put-f c = omega (arith, room c)
 part-put-f-start : tie.Need-part-put-f-start Inv-loop μ-loop
 part-put-f-start c = omega (arith, room c)
 
-part-put-f-end : tie.Need-part-put-f-end Inv-loop μ-loop
-part-put-f-end c = search needs
-
 put-f-requires : tie.Need-put-f-requires Inv-loop μ-loop
 put-f-requires c κs = omega (arith, part-length (c .before .before .loop .at) (c .before .before .loop .out), room (c .before))
 
 add-at : tie.Need-add-at Inv-loop μ-loop
 add-at c = omega (arith, room (c .before .before .before .before), c .before .before .put-f .ensures .0)
-
-add-i : tie.Need-add-i Inv-loop μ-loop
-add-i c = omega arith
-
-loop-less : tie.Need-loop-less Inv-loop μ-loop
-loop-less c = omega arith
 
 loop-again : tie.Need-loop-again Inv-loop μ-loop
 loop-again c =
@@ -103,21 +82,5 @@ returns c =
 pub put-fates-spec : {M : Type 1} → statement M
 put-fates-spec =
     tie.close
-    (tie.spec
-    Inv-loop
-    μ-loop
-    smaller-count-requires
-    loop-holds
-    add-number
-    array-read-fate
-    cast-fate
-    sub-put-f
-    part-put-f-start
-    part-put-f-end
-    put-f-requires
-    add-at
-    add-i
-    loop-less
-    loop-again
-    same-length
-    returns)
+    (tie.spec Inv-loop μ-loop (λ c κs. search needs) loop-holds (λ c. omega arith) (λ c. omega arith) (λ c. search needs) sub-put-f part-put-f-start
+    (λ c. search needs) put-f-requires add-at (λ c. omega arith) (λ c. omega arith) loop-again same-length returns)

@@ -48,15 +48,6 @@ room c =
 loop-holds : tie.Need-loop-holds Inv-loop μ-loop
 loop-holds c = let a = c .before .args in (omega arith, lay-none (quantities-left (quantityAt (a .sums .now)) (a .halves) 0) (a .out .now))
 
-twice-at-requires : tie.Need-twice-at-requires Inv-loop μ-loop
-twice-at-requires c κs = omega arith
-
-quantity-of-requires : tie.Need-quantity-of-requires Inv-loop μ-loop
-quantity-of-requires c κs = search needs
-
-add-first : tie.Need-add-first Inv-loop μ-loop
-add-first c = omega arith
-
 run-end-requires : tie.Need-run-end-requires Inv-loop μ-loop
 run-end-requires c κs = (omega arith, omega arith, c .quantity-of .ensures)
 
@@ -65,9 +56,6 @@ sub-put-q c = omega (arith, room c)
 
 part-put-q-start : tie.Need-part-put-q-start Inv-loop μ-loop
 part-put-q-start c = omega (arith, room c)
-
-part-put-q-end : tie.Need-part-put-q-end Inv-loop μ-loop
-part-put-q-end c = search needs
 
 put-q-requires : tie.Need-put-q-requires Inv-loop μ-loop
 put-q-requires c κs = let l = c .before .before .before .before .before .loop in omega (arith, part-length (l .at) (l .out), room (c .before))
@@ -111,20 +99,5 @@ returns c =
 pub put-quantities-spec : {M : Type 1} → statement M
 put-quantities-spec =
     tie.close
-    (tie.spec
-    Inv-loop
-    μ-loop
-    loop-holds
-    twice-at-requires
-    quantity-of-requires
-    add-first
-    run-end-requires
-    sub-put-q
-    part-put-q-start
-    part-put-q-end
-    put-q-requires
-    add-at
-    loop-less
-    loop-again
-    same-length
-    returns)
+    (tie.spec Inv-loop μ-loop loop-holds (λ c κs. omega arith) (λ c κs. search needs) (λ c. omega arith) run-end-requires sub-put-q part-put-q-start
+    (λ c. search needs) put-q-requires add-at loop-less loop-again same-length returns)

@@ -19,26 +19,8 @@ abbrev μ-loop : tie.MeasureT-loop
 loop-holds : tie.Need-loop-holds Inv-loop μ-loop
 loop-holds c = (omega arith, omega arith, omega arith)
 
-twice-at-requires : tie.Need-twice-at-requires Inv-loop μ-loop
-twice-at-requires c κs = omega arith
-
-quantity-of-requires : tie.Need-quantity-of-requires Inv-loop μ-loop
-quantity-of-requires c κs = search needs
-
-add-first : tie.Need-add-first Inv-loop μ-loop
-add-first c = omega arith
-
 run-end-requires : tie.Need-run-end-requires Inv-loop μ-loop
 run-end-requires c κs = (omega arith, omega arith, c .quantity-of .ensures)
-
-q-width-requires : tie.Need-q-width-requires Inv-loop μ-loop
-q-width-requires c κs = search needs
-
-add-width : tie.Need-add-width Inv-loop μ-loop
-add-width c = omega arith
-
-loop-less : tie.Need-loop-less Inv-loop μ-loop
-loop-less c = omega arith
 
 loop-again : tie.Need-loop-again Inv-loop μ-loop
 loop-again c =
@@ -63,16 +45,5 @@ returns c =
 pub quantities-width-spec : {M : Type 1} → statement M
 quantities-width-spec =
     tie.close
-    (tie.spec
-    Inv-loop
-    μ-loop
-    loop-holds
-    twice-at-requires
-    quantity-of-requires
-    add-first
-    run-end-requires
-    q-width-requires
-    add-width
-    loop-less
-    loop-again
-    returns)
+    (tie.spec Inv-loop μ-loop loop-holds (λ c κs. omega arith) (λ c κs. search needs) (λ c. omega arith) run-end-requires (λ c κs. search needs)
+    (λ c. omega arith) (λ c. omega arith) loop-again returns)

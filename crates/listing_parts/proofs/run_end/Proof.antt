@@ -19,15 +19,6 @@ abbrev μ-loop : tie.MeasureT-loop
 loop-holds : tie.Need-loop-holds Inv-loop μ-loop
 loop-holds c = (omega arith, c .pre .0, refl)
 
-add-i : tie.Need-add-i Inv-loop μ-loop
-add-i c = omega arith
-
-twice-at-requires : tie.Need-twice-at-requires Inv-loop μ-loop
-twice-at-requires c κs = omega arith
-
-loop-less : tie.Need-loop-less Inv-loop μ-loop
-loop-less c = omega arith
-
 loop-again : tie.Need-loop-again Inv-loop μ-loop
 loop-again c =
     let s = c .before .before .before .before in
@@ -35,18 +26,12 @@ loop-again c =
     let same = sym (quantity-is (s .args .sums .now) (l .i)) ∙ ap rounded (sym (c .before .twice-at .ensures) ∙ c .if1 .taken) ∙ sym (s .pre .2) in
     (omega arith, omega arith, run-on (s .args .sums .now) (l .i) (s .args .end) (s .args .kw) (omega arith) same ∙ l .inv .2)
 
-quantity-of-requires : tie.Need-quantity-of-requires Inv-loop μ-loop
-quantity-of-requires c κs = search needs
-
 returns : tie.Need-returns Inv-loop μ-loop
 returns c =
     let s = c .before .before .before .before .before .before in
     let l = c .before .before .before .before .before .loop in
     let q = quantity-here (s .args .sums .now) (l .i) (c .before .before .before .twice-at .result) (c .before .quantity-of .result) (c .before .before .before .twice-at .ensures) (c .before .quantity-of .ensures) in
     (run-ends (s .args .sums .now) (l .i) (s .args .end) (s .args .kw) (omega arith) (λ e. omega (arith, q)) ∙ l .inv .2, l .inv .0, l .inv .1)
-
-loop-less-2 : tie.Need-loop-less-2 Inv-loop μ-loop
-loop-less-2 c = omega arith
 
 loop-again-2 : tie.Need-loop-again-2 Inv-loop μ-loop
 loop-again-2 c =
@@ -64,16 +49,5 @@ returns-2 c =
 pub run-end-spec : {M : Type 1} → statement M
 run-end-spec =
     tie.close
-    (tie.spec
-    Inv-loop
-    μ-loop
-    loop-holds
-    add-i
-    twice-at-requires
-    loop-less
-    loop-again
-    quantity-of-requires
-    returns
-    loop-less-2
-    loop-again-2
-    returns-2)
+    (tie.spec Inv-loop μ-loop loop-holds (λ c. omega arith) (λ c κs. omega arith) (λ c. omega arith) loop-again (λ c κs. search needs) returns
+    (λ c. omega arith) loop-again-2 returns-2)

@@ -5,9 +5,6 @@ use Rattle.listing_print.proofs.Whole.{holds, ask-open}
 use Rattle.listing_print.proofs.list.Statement.{statement}
 use Rattle.listing_print.proofs.list.Tie as tie
 
-refused-requires : tie.Need-refused-requires
-refused-requires c κs = search needs
-
 returns : tie.Need-returns
 returns c =
     let s = c .before .before .before .before in
@@ -17,12 +14,5 @@ returns c =
 list-closed-requires : tie.Need-list-closed-requires
 list-closed-requires c κs = (holds (c .before .before .before .before .args .day .closed) (c .before .if1 .left), λ e. never e)
 
-same-length : tie.Need-same-length
-same-length c = search needs
-
-returns-2 : tie.Need-returns-2
-returns-2 c = search needs
-
 pub list-spec : {M : Type 1} → statement M
-list-spec =
-    tie.close (tie.spec refused-requires returns list-closed-requires same-length returns-2)
+list-spec = tie.close (tie.spec (λ c κs. search needs) returns list-closed-requires (λ c. search needs) (λ c. search needs))

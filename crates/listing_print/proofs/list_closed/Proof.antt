@@ -14,12 +14,6 @@ use Rattle.listing_print.proofs.list_closed.Tie as tie
 fits : (c : tie.Joined1) → let a = c .before .before .args in length (printedDay (a .day)) ≤ length (a .out .now)
 fits c = elim (c .if1 .came) [ inl m ↦ omega (arith, m .1 .ensures, m .2 .left) | inr k ↦ let s = c .before .before in s .pre .1 (holds (s .args .fits) (k .left)) ]
 
-day-width-requires : tie.Need-day-width-requires
-day-width-requires c κs = search needs
-
-refused-requires : tie.Need-refused-requires
-refused-requires c κs = search needs
-
 returns : tie.Need-returns
 returns c =
     let s = c .before .before .before .before .before in
@@ -28,12 +22,6 @@ returns c =
 
 put-day-requires : tie.Need-put-day-requires
 put-day-requires c κs = fits (c .before)
-
-accepted-requires : tie.Need-accepted-requires
-accepted-requires c κs = search needs
-
-same-length : tie.Need-same-length
-same-length c = search needs
 
 returns-2 : tie.Need-returns-2
 returns-2 c =
@@ -45,11 +33,4 @@ returns-2 c =
 pub list-closed-spec : {M : Type 1} → statement M
 list-closed-spec =
     tie.close
-    (tie.spec
-    day-width-requires
-    refused-requires
-    returns
-    put-day-requires
-    accepted-requires
-    same-length
-    returns-2)
+    (tie.spec (λ c κs. search needs) (λ c κs. search needs) returns put-day-requires (λ c κs. search needs) (λ c. search needs) returns-2)

@@ -107,9 +107,6 @@ sub-put-courses c = omega (arith, room-s (c .before .before))
 part-put-courses-start : tie.Need-part-put-courses-start
 part-put-courses-start c = omega (arith, room-s (c .before .before))
 
-part-put-courses-end : tie.Need-part-put-courses-end
-part-put-courses-end c = search needs
-
 put-courses-requires : tie.Need-put-courses-requires
 put-courses-requires c κs = let b = c .before .before .before in omega (arith, part-length (b .before .before .put-fates .result) (out-f b), room-s b)
 
@@ -122,17 +119,11 @@ sub-put-quantities c = omega (arith, room-q c)
 part-put-quantities-start : tie.Need-part-put-quantities-start
 part-put-quantities-start c = omega (arith, room-q c)
 
-part-put-quantities-end : tie.Need-part-put-quantities-end
-part-put-quantities-end c = search needs
-
 put-quantities-requires : tie.Need-put-quantities-requires
 put-quantities-requires c κs = let b = c .before .before .before in omega (arith, part-length (at-s b) (out-s b), room-q b)
 
 add-at-2 : tie.Need-add-at-2
 add-at-2 c = omega (arith, room-q (c .before .before .before .before .before .before), c .before .before .put-quantities .ensures .0)
-
-closing-of-requires : tie.Need-closing-of-requires
-closing-of-requires c κs = search needs
 
 -- the line that is written is the day's
 line-e : (c : tie.After-closing-of) → closingLine (c .closing-of .result) ≡ lineE (start (at-fates (at-courses (c .before .before .before))) .args .t2)
@@ -144,17 +135,11 @@ sub-put-closing c = omega (arith, room-e (c .before .before .before))
 part-put-closing-start : tie.Need-part-put-closing-start
 part-put-closing-start c = omega (arith, room-e (c .before .before .before))
 
-part-put-closing-end : tie.Need-part-put-closing-end
-part-put-closing-end c = search needs
-
 put-closing-requires : tie.Need-put-closing-requires
 put-closing-requires c κs = let b = c .before .before .before .before in omega (arith, part-length (at-q b) (out-q b), room-e b, ap length (line-e (c .before)))
 
 add-at-3 : tie.Need-add-at-3
 add-at-3 c = omega (arith, room-e (c .before .before .before .before .before .before .before), c .before .before .put-closing .ensures .0, ap length (line-e (c .before .before .before .before)))
-
-same-length : tie.Need-same-length
-same-length c = search needs
 
 returns : tie.Need-returns
 returns c =
@@ -172,23 +157,6 @@ returns c =
 pub put-day-spec : {M : Type 1} → statement M
 put-day-spec =
     tie.close
-    (tie.spec
-    put-fates-requires
-    sub-put-courses
-    part-put-courses-start
-    part-put-courses-end
-    put-courses-requires
-    add-at
-    sub-put-quantities
-    part-put-quantities-start
-    part-put-quantities-end
-    put-quantities-requires
-    add-at-2
-    closing-of-requires
-    sub-put-closing
-    part-put-closing-start
-    part-put-closing-end
-    put-closing-requires
-    add-at-3
-    same-length
-    returns)
+    (tie.spec put-fates-requires sub-put-courses part-put-courses-start (λ c. search needs) put-courses-requires add-at sub-put-quantities
+    part-put-quantities-start (λ c. search needs) put-quantities-requires add-at-2 (λ c κs. search needs) sub-put-closing part-put-closing-start
+    (λ c. search needs) put-closing-requires add-at-3 (λ c. search needs) returns)

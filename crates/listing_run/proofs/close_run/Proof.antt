@@ -28,20 +28,8 @@ refuses : (a : Answer) (d : Day) (k : ℕ) (o : List ℕ) (n : ℕ) → (record 
     (n ≡ ranResult (endedBy d k) o) × (o ≡ ranLent (endedBy d k) o)
 refuses a d k o n e out q = let f = refused-run a d o out in (q ∙ f .0 ∙ ap (λ (r : Ran). ranResult r o) e, f .1 ∙ ap (λ (r : Ran). ranLent r o) e)
 
-answer-result-requires : tie.Need-answer-result-requires
-answer-result-requires c κs = search needs
-
 returns : tie.Need-returns
 returns c = let s = c .before .before .before in refuses (Refused UnknownKind) (openDay (s .args .taken)) (s .args .kind) (s .args .out .now) _ (end-none _ _ (c .before .if1 .taken)) refl (c .answer-result .ensures)
-
-close-front-requires : tie.Need-close-front-requires
-close-front-requires c κs = search needs
-
-is-accepted-requires : tie.Need-is-accepted-requires
-is-accepted-requires c κs = search needs
-
-answer-result-requires-2 : tie.Need-answer-result-requires-2
-answer-result-requires-2 c κs = search needs
 
 returns-2 : tie.Need-returns-2
 returns-2 c =
@@ -49,15 +37,6 @@ returns-2 c =
     let early = c .before .before .before .close-front in
     let no = is-refused (early .result) _ (c .before .before .is-accepted .ensures) (c .before .if2 .taken) in
     refuses (early .result) (openDay (s .args .taken)) (s .args .kind) (s .args .out .now) _ (end-close _ _ (c .before .before .before .before .if1 .left) _ (close-early _ (early .result) (early .ensures) no)) no (c .answer-result2 .ensures)
-
-find-close-requires : tie.Need-find-close-requires
-find-close-requires c κs = search needs
-
-is-accepted-requires-2 : tie.Need-is-accepted-requires-2
-is-accepted-requires-2 c κs = search needs
-
-answer-result-requires-3 : tie.Need-answer-result-requires-3
-answer-result-requires-3 c κs = search needs
 
 returns-3 : tie.Need-returns-3
 returns-3 c =
@@ -69,9 +48,6 @@ returns-3 c =
     let no = is-refused (read .result .answer) _ (c .before .before .is-accepted2 .ensures) (c .before .if3 .taken) in
     refuses (read .result .answer) (openDay (s .args .taken)) (s .args .kind) (s .args .out .now) _
     (end-close _ _ (p .before .before .before .before .if1 .left) _ (close-refused _ (early .result) (early .ensures) first (read .result) (read .ensures) no)) no (c .answer-result3 .ensures)
-
-closed-day-requires : tie.Need-closed-day-requires
-closed-day-requires c κs = search needs
 
 -- the closed day
 closes : (c : tie.After-closed-day) → let s = c .before .before .before .before .before .before .before .before .before .before in (record { answer = Accepted; day = c .closed-day .result }) ≡ endedBy (openDay (s .args .taken)) (s .args .kind)
@@ -91,12 +67,6 @@ list-closed-requires c κs =
       λ f. omega (arith, leb→le suffices (length (s .args .out .now)) (rw f tt), ap (λ (r : Ran). length (printedDay (r .day))) e, s .pre (sym (ap (λ (r : Ran). r .answer) e))),
     )
 
-listed-result-requires : tie.Need-listed-result-requires
-listed-result-requires c κs = search needs
-
-same-length : tie.Need-same-length
-same-length c = search needs
-
 returns-4 : tie.Need-returns-4
 returns-4 c =
     let s = c .before .before .before .before .before .before .before .before .before .before .before .before .before .before .before in
@@ -109,19 +79,6 @@ returns-4 c =
 pub close-run-spec : {M : Type 1} → statement M
 close-run-spec =
     tie.close
-    (tie.spec
-    answer-result-requires
-    returns
-    close-front-requires
-    is-accepted-requires
-    answer-result-requires-2
-    returns-2
-    find-close-requires
-    is-accepted-requires-2
-    answer-result-requires-3
-    returns-3
-    closed-day-requires
-    list-closed-requires
-    listed-result-requires
-    same-length
+    (tie.spec (λ c κs. search needs) returns (λ c κs. search needs) (λ c κs. search needs) (λ c κs. search needs) returns-2 (λ c κs. search needs)
+    (λ c κs. search needs) (λ c κs. search needs) returns-3 (λ c κs. search needs) list-closed-requires (λ c κs. search needs) (λ c. search needs)
     returns-4)

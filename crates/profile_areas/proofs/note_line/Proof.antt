@@ -18,12 +18,6 @@ Inv-loop sums₀ total up level rate from to half b₀ x₀ at₀ v₀ sum₀ su
 abbrev μ-loop : tie.MeasureT-loop
 μ-loop sums₀ total up level rate from to half b₀ x₀ at₀ v₀ sum₀ sums b x at v sum = to - at
 
-cast-b : tie.Need-cast-b Inv-loop μ-loop
-cast-b c = omega arith
-
-mul-x : tie.Need-mul-x Inv-loop μ-loop
-mul-x c = omega arith
-
 loop-holds : tie.Need-loop-holds Inv-loop μ-loop
 loop-holds s = line-begun (headed (s .args .up)) (s .args .level) (s .args .rate) (s .args .from) (s .args .to) (summed (s .args .from) (s .args .sums .now) (s .args .total)) (s .pre .within) (s .pre .low) _ _ _ refl refl (s .pre .later) (s .pre .fits)
 
@@ -33,9 +27,6 @@ add-b c = let l = c .before .loop in omega (arith, l .inv .boundary, l .inv .beg
 add-x : tie.Need-add-x Inv-loop μ-loop
 add-x c = let l = c .before .loop in omega (arith, l .inv .boundary, l .inv .begun, l .inv .within, c .before .before .pre .within, c .loop-test .taken)
 
-smaller-requires : tie.Need-smaller-requires Inv-loop μ-loop
-smaller-requires c κs = search needs
-
 -- the step lies in one half-hour
 ahead : (c : tie.After-smaller Inv-loop μ-loop) →
     let l = c .before .before .loop in
@@ -44,9 +35,6 @@ ahead c = let s = c .before .before .before in let l = c .before .before .loop i
 
 sub-time : tie.Need-sub-time Inv-loop μ-loop
 sub-time c = omega (arith, ahead c .2)
-
-cast-time : tie.Need-cast-time Inv-loop μ-loop
-cast-time c = search needs
 
 mul-moved : tie.Need-mul-moved Inv-loop μ-loop
 mul-moved c = let s = c .before .before .before in let l = c .before .before .loop in let f = step-low (headed (s .args .up)) (s .args .level) (s .args .rate) (s .args .from) (s .args .to) (summed (s .args .from) (s .args .sums .now) (s .args .total)) (s .pre .within) (s .pre .low) (l .sums) (l .b) (l .x) (l .at) (l .v) (l .sum) (c .smaller .result) (l .inv) (c .before .loop-test .taken) (c .smaller .ensures) in omega (arith, f)
@@ -102,24 +90,5 @@ returns c =
 pub note-line-spec : {M : Type 1} → statement M
 note-line-spec =
     tie.close
-    (tie.spec
-    Inv-loop
-    μ-loop
-    cast-b
-    mul-x
-    loop-holds
-    add-b
-    add-x
-    smaller-requires
-    sub-time
-    cast-time
-    mul-moved
-    moved-requires
-    add-sum
-    mul-sum
-    add-sum-2
-    mul-sums
-    element-write-sums
-    loop-less
-    loop-again
-    returns)
+    (tie.spec Inv-loop μ-loop (λ c. omega arith) (λ c. omega arith) loop-holds add-b add-x (λ c κs. search needs) sub-time (λ c. search needs)
+    mul-moved moved-requires add-sum mul-sum add-sum-2 mul-sums element-write-sums loop-less loop-again returns)

@@ -22,24 +22,6 @@ returns c =
       s .pre .fits,
     )
 
-add-half : tie.Need-add-half
-add-half c = search needs
-
-sub-time : tie.Need-sub-time
-sub-time c = search needs
-
-cast-time : tie.Need-cast-time
-cast-time c = search needs
-
-mul-if2 : tie.Need-mul-if2
-mul-if2 c = search needs
-
-gap-between-requires : tie.Need-gap-between-requires
-gap-between-requires c κs = search needs
-
-div-note-line : tie.Need-div-note-line
-div-note-line c = search needs
-
 note-line-requires : tie.Need-note-line-requires
 note-line-requires c κs =
     let s = c .before .before .before .before .before .before .before .before .before .before in
@@ -65,12 +47,6 @@ returns-2 c =
     subst (λ (w : ℕ). Adds (lineFrom (headed (s .args .up)) (p .level) (w / d) (p .second)) (summed (p .second) (s .args .sums .now) (s .args .total)) (summed (q .second) (r .last .0) (r .result)) × Fits (summed (q .second) (r .last .0) (r .result)))
     (c .before .before .gap-between .ensures) (r .ensures)
 
-cast-b : tie.Need-cast-b
-cast-b c = search needs
-
-add-sum : tie.Need-add-sum
-add-sum c = search needs
-
 -- there is room for its area
 fits : (c : tie.After-struct-known8) → let s = c .before .before .before .before .before .before .before .before .before .before in s .args .total + (s .args .q .second - s .args .p .second) * (s .args .p .level + s .args .q .level) < 18446744073709551616
 fits c =
@@ -84,12 +60,6 @@ mul-sum c = let f = fits c in omega (arith, f)
 add-sum-2 : tie.Need-add-sum-2
 add-sum-2 c = let f = fits c in omega (arith, f)
 
-mul-sums : tie.Need-mul-sums
-mul-sums c = search needs
-
-element-write-sums : tie.Need-element-write-sums
-element-write-sums c = search needs
-
 returns-3 : tie.Need-returns-3
 returns-3 c =
     let s = c .before .before .before .before .before .before .before .before .before .before in
@@ -99,20 +69,5 @@ returns-3 c =
 pub note-piece-spec : {M : Type 1} → statement M
 note-piece-spec =
     tie.close
-    (tie.spec
-    returns
-    add-half
-    sub-time
-    cast-time
-    mul-if2
-    gap-between-requires
-    div-note-line
-    note-line-requires
-    returns-2
-    cast-b
-    add-sum
-    mul-sum
-    add-sum-2
-    mul-sums
-    element-write-sums
-    returns-3)
+    (tie.spec returns (λ c. search needs) (λ c. search needs) (λ c. search needs) (λ c. search needs) (λ c κs. search needs) (λ c. search needs)
+    note-line-requires returns-2 (λ c. search needs) (λ c. search needs) mul-sum add-sum-2 (λ c. search needs) (λ c. search needs) returns-3)

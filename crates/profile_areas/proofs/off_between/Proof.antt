@@ -11,14 +11,8 @@ returns c = between-from _ _ _ (c .if1 .taken)
 returns-2 : tie.Need-returns-2
 returns-2 c = between-to _ _ _ (omega arith) (c .if2 .taken)
 
-sub-held-off : tie.Need-sub-held-off
-sub-held-off c = search needs
-
-held-off-requires : tie.Need-held-off-requires
-held-off-requires c κs = search needs
-
 returns-3 : tie.Need-returns-3
 returns-3 c = c .held-off .ensures ∙ between-off _ _ _ (omega arith) (omega arith)
 
 pub off-between-spec : {M : Type 1} → statement M
-off-between-spec = tie.close (tie.spec returns returns-2 sub-held-off held-off-requires returns-3)
+off-between-spec = tie.close (tie.spec returns returns-2 (λ c. search needs) (λ c κs. search needs) returns-3)

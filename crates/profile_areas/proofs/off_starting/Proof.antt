@@ -4,9 +4,6 @@ use borrow.Author.Needs.{needs}
 use Rattle.profile_areas.proofs.off_starting.Statement.{statement}
 use Rattle.profile_areas.proofs.off_starting.Tie as tie
 
-held-off-requires : tie.Need-held-off-requires
-held-off-requires c κs = search needs
-
 returns : tie.Need-returns
 returns c = c .held-off .ensures ∙ starting-off _ _ (c .before .if1 .taken)
 
@@ -14,4 +11,4 @@ returns-2 : tie.Need-returns-2
 returns-2 c = starting-on _ _ (c .if1 .left)
 
 pub off-starting-spec : {M : Type 1} → statement M
-off-starting-spec = tie.close (tie.spec held-off-requires returns returns-2)
+off-starting-spec = tie.close (tie.spec (λ c κs. search needs) returns returns-2)

@@ -77,14 +77,4 @@ returns-2 c =
 pub pass-to-spec : {M : Type 1} → statement M
 pass-to-spec =
     tie.close
-    (tie.spec
-    Inv-loop
-    μ-loop
-    loop-holds
-    walk-on-requires
-    off-between-requires
-    returns
-    note-piece-requires
-    loop-less
-    loop-again
-    returns-2)
+    (tie.spec Inv-loop μ-loop loop-holds walk-on-requires off-between-requires returns note-piece-requires loop-less loop-again returns-2)

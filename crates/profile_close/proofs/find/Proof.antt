@@ -16,15 +16,6 @@ use borrow.Author.Needs.{needs}
 use Rattle.profile_close.proofs.find.Statement.{statement}
 use Rattle.profile_close.proofs.find.Tie as tie
 
-mul-validate : tie.Need-mul-validate
-mul-validate c = search needs
-
-validate-requires : tie.Need-validate-requires
-validate-requires c κs = search needs
-
-start-course-requires : tie.Need-start-course-requires
-start-course-requires c κs = search needs
-
 -- a place for each instruction, and figures of 32 bits
 places : (s : tie.Start) → length (s .args .t .instructions) ≡ instructionPlaces
 places s = sym (length-map (s .args .t .instructions) (instruction.the-field .into)) ∙ s .good .0 .1 .1 .1 .1 .1 .1 .1 .0 .1 .0 .1
@@ -42,9 +33,6 @@ follow-day-requires : tie.Need-follow-day-requires
 follow-day-requires c κs =
     let s = c .before .before .before .before .before in
     rw (c .start-course .ensures, c .before .before .validate .ensures) (acts-fit (s .args .t) (s .args .halves) (places s) (s .pre) (words s))
-
-smaller-count-requires : tie.Need-smaller-count-requires
-smaller-count-requires c κs = search needs
 
 lay-fates-requires : tie.Need-lay-fates-requires
 lay-fates-requires c κs =
@@ -72,11 +60,4 @@ returns c =
 pub find-spec : {M : Type 1} → statement M
 find-spec =
     tie.close
-    (tie.spec
-    mul-validate
-    validate-requires
-    start-course-requires
-    follow-day-requires
-    smaller-count-requires
-    lay-fates-requires
-    returns)
+    (tie.spec (λ c. search needs) (λ c κs. search needs) (λ c κs. search needs) follow-day-requires (λ c κs. search needs) lay-fates-requires returns)

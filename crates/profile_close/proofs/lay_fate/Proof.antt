@@ -7,23 +7,11 @@ use Rattle.profile_close.proofs.lay_fate.Tie as tie
 returns : tie.Need-returns
 returns c = overlaid-none _ _ _ (c .if1 .taken)
 
-sub-at : tie.Need-sub-at
-sub-at c = search needs
-
-cast-at : tie.Need-cast-at
-cast-at c = search needs
-
 returns-2 : tie.Need-returns-2
 returns-2 c = overlaid-out _ _ _ (c .before .if1 .left) (omega arith)
 
-element-copy-out-if3 : tie.Need-element-copy-out-if3
-element-copy-out-if3 c = search needs
-
 returns-3 : tie.Need-returns-3
 returns-3 c = overlaid-one _ _ _ (c .before .before .before .if1 .left) (omega arith) (c .if3 .taken)
-
-element-write-next : tie.Need-element-write-next
-element-write-next c = search needs
 
 returns-4 : tie.Need-returns-4
 returns-4 c = overlaid-set _ _ _ (c .before .before .before .if1 .left) (omega arith) (c .if3 .left)
@@ -31,12 +19,4 @@ returns-4 c = overlaid-set _ _ _ (c .before .before .before .if1 .left) (omega a
 pub lay-fate-spec : {M : Type 1} → statement M
 lay-fate-spec =
     tie.close
-    (tie.spec
-    returns
-    sub-at
-    cast-at
-    returns-2
-    element-copy-out-if3
-    returns-3
-    element-write-next
-    returns-4)
+    (tie.spec returns (λ c. search needs) (λ c. search needs) returns-2 (λ c. search needs) returns-3 (λ c. search needs) returns-4)

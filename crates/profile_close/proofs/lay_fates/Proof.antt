@@ -14,30 +14,6 @@ abbrev μ-loop : tie.MeasureT-loop
 loop-holds : tie.Need-loop-holds Inv-loop μ-loop
 loop-holds c = record { within = omega arith; few = omega arith; over = overlaid-start _ _ _ _ }
 
-sub-o : tie.Need-sub-o Inv-loop μ-loop
-sub-o c = omega arith
-
-mul-o : tie.Need-mul-o Inv-loop μ-loop
-mul-o c = omega arith
-
-array-copy-out-o : tie.Need-array-copy-out-o Inv-loop μ-loop
-array-copy-out-o c = omega arith
-
-sub-fate : tie.Need-sub-fate Inv-loop μ-loop
-sub-fate c = omega arith
-
-array-read-fate : tie.Need-array-read-fate Inv-loop μ-loop
-array-read-fate c = omega arith
-
-lay-fate-requires : tie.Need-lay-fate-requires Inv-loop μ-loop
-lay-fate-requires c κs = omega arith
-
-sub-i : tie.Need-sub-i Inv-loop μ-loop
-sub-i c = omega arith
-
-loop-less : tie.Need-loop-less Inv-loop μ-loop
-loop-less c = omega arith
-
 loop-again : tie.Need-loop-again Inv-loop μ-loop
 unfolding overlaid
 loop-again c = let s = c .before .before .before .before in
@@ -57,17 +33,5 @@ returns c = let s = c .before .before in
 pub lay-fates-spec : {M : Type 1} → statement M
 lay-fates-spec =
     tie.close
-    (tie.spec
-    Inv-loop
-    μ-loop
-    loop-holds
-    sub-o
-    mul-o
-    array-copy-out-o
-    sub-fate
-    array-read-fate
-    lay-fate-requires
-    sub-i
-    loop-less
-    loop-again
-    returns)
+    (tie.spec Inv-loop μ-loop loop-holds (λ c. omega arith) (λ c. omega arith) (λ c. omega arith) (λ c. omega arith) (λ c. omega arith)
+    (λ c κs. omega arith) (λ c. omega arith) (λ c. omega arith) loop-again returns)

@@ -4,18 +4,6 @@ use borrow.Author.Needs.{needs}
 use Rattle.profile_effects.proofs.heat_by.Statement.{statement}
 use Rattle.profile_effects.proofs.heat_by.Tie as tie
 
-cast-hot : tie.Need-cast-hot
-cast-hot c = search needs
-
-mul-hot : tie.Need-mul-hot
-mul-hot c = search needs
-
-cast-warm : tie.Need-cast-warm
-cast-warm c = search needs
-
-mul-warm : tie.Need-mul-warm
-mul-warm c = search needs
-
 returns : tie.Need-returns
 returns c = heat-hot _ _ (omega arith)
 
@@ -26,4 +14,4 @@ returns-3 : tie.Need-returns-3
 returns-3 c = heat-cold _ _ (omega arith) (omega arith)
 
 pub heat-by-spec : {M : Type 1} → statement M
-heat-by-spec = tie.close (tie.spec cast-hot mul-hot cast-warm mul-warm returns returns-2 returns-3)
+heat-by-spec = tie.close (tie.spec (λ c. search needs) (λ c. search needs) (λ c. search needs) (λ c. search needs) returns returns-2 returns-3)

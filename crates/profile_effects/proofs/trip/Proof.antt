@@ -3,12 +3,9 @@ use borrow.Author.Needs.{needs}
 use Rattle.profile_effects.proofs.trip.Statement.{statement}
 use Rattle.profile_effects.proofs.trip.Tie as tie
 
-unless-requires : tie.Need-unless-requires
-unless-requires c κs = search needs
-
 returns : tie.Need-returns
 unfolding outcomeBy
 returns c = λ u. c .unless .ensures
 
 pub trip-spec : {M : Type 1} → statement M
-trip-spec = tie.close (tie.spec unless-requires returns)
+trip-spec = tie.close (tie.spec (λ c κs. search needs) returns)

@@ -5,15 +5,9 @@ use borrow.Author.Needs.{needs}
 use Rattle.profile_follow.proofs.begin_walk.Statement.{statement}
 use Rattle.profile_follow.proofs.begin_walk.Tie as tie
 
-no-course-requires : tie.Need-no-course-requires
-no-course-requires c κs = search needs
-
-array-set-from-courses : tie.Need-array-set-from-courses
-array-set-from-courses c = search needs
-
 returns : tie.Need-returns
 unfolding walkOf filled
 returns c = rw (c .before .no-course .ensures) refl
 
 pub begin-walk-spec : {M : Type 1} → statement M
-begin-walk-spec = tie.close (tie.spec no-course-requires array-set-from-courses returns)
+begin-walk-spec = tie.close (tie.spec (λ c κs. search needs) (λ c. search needs) returns)

@@ -14,23 +14,8 @@ Inv-loop w end halves kept₀ b₀ kept b = Clearing halves kept₀ kept b
 abbrev μ-loop : tie.MeasureT-loop
 μ-loop w end halves kept₀ b₀ kept b = boundaryPlaces - b
 
-add-b : tie.Need-add-b Inv-loop μ-loop
-add-b c = omega arith
-
 loop-holds : tie.Need-loop-holds Inv-loop μ-loop
 loop-holds c = clearing-start (c .args .halves) (c .args .sums) (c .good .1 .0 .1 .0 .1) (omega arith)
-
-mul-kept : tie.Need-mul-kept Inv-loop μ-loop
-mul-kept c = omega arith
-
-array-write-kept : tie.Need-array-write-kept Inv-loop μ-loop
-array-write-kept c = omega arith
-
-add-b-2 : tie.Need-add-b-2 Inv-loop μ-loop
-add-b-2 c = omega arith
-
-loop-less : tie.Need-loop-less Inv-loop μ-loop
-loop-less c = omega arith
 
 loop-again : tie.Need-loop-again Inv-loop μ-loop
 loop-again c = let s = c .before .before in clearing-next (s .args .halves) (s .args .sums) (s .good .1 .0 .1 .0 .1) (c .before .loop .kept) (c .before .loop .b) (c .before .loop .inv) (omega arith)
@@ -45,14 +30,5 @@ returns c =
 pub end-day-spec : {M : Type 1} → statement M
 end-day-spec =
     tie.close
-    (tie.spec
-    Inv-loop
-    μ-loop
-    add-b
-    loop-holds
-    mul-kept
-    array-write-kept
-    add-b-2
-    loop-less
-    loop-again
+    (tie.spec Inv-loop μ-loop (λ c. omega arith) loop-holds (λ c. omega arith) (λ c. omega arith) (λ c. omega arith) (λ c. omega arith) loop-again
     returns)

@@ -46,15 +46,6 @@ abbrev μ-loop : tie.MeasureT-loop
 begin-walk-requires : tie.Need-begin-walk-requires Inv-loop μ-loop
 begin-walk-requires c κs = search needs
 
-is-rising-requires : tie.Need-is-rising-requires Inv-loop μ-loop
-is-rising-requires c κs = search needs
-
-own-lists-requires : tie.Need-own-lists-requires Inv-loop μ-loop
-own-lists-requires c κs = search needs
-
-set-out-requires : tie.Need-set-out-requires Inv-loop μ-loop
-set-out-requires c κs = search needs
-
 mul-end : tie.Need-mul-end Inv-loop μ-loop
 mul-end c = omega (arith, c .before .before .before .before .pre .long)
 
@@ -128,9 +119,6 @@ within k = omega (arith, order k .soon, start k .pre .long)
 
 acts-soon : (k : tie.At-loop Inv-loop μ-loop) → k .loop .w .acted < start k .args .n → acting (act k) ≤ mostSeconds
 acts-soon k lt = omega (arith, within k, ap (secondOf (end k)) (left-is k lt))
-
-place-in-requires : tie.Need-place-in-requires Inv-loop μ-loop
-place-in-requires c κs = search needs
 
 mul-o : tie.Need-mul-o Inv-loop μ-loop
 mul-o c = omega (arith, c .place-in .ensures)
@@ -218,9 +206,6 @@ state-is b =
     ∙ watching-at (unit k) (l .w .now) (l .g .up) (a .pass-to .result .ahead) (a .pass-to .result .later) (goal k)
     (past a .watched (unit k) (l .w .now .off) (f .on .lists) (f .on .watching) .1) (past a .there)
 
-state-at-requires : tie.Need-state-at-requires Inv-loop μ-loop
-state-at-requires c κs = search needs
-
 -- ---- the day's end
 note-piece-requires : tie.Need-note-piece-requires Inv-loop μ-loop
 note-piece-requires c κs = cut (c .before .before .before .before .before)
@@ -271,9 +256,6 @@ room e = omega (arith, going-on e, start (here e) .pre .few, here e .loop .inv .
 add-w : tie.Need-add-w Inv-loop μ-loop
 add-w c = omega (arith, room c .0)
 
-outcome-of-requires : tie.Need-outcome-of-requires Inv-loop μ-loop
-outcome-of-requires c κs = search needs
-
 -- what it comes to
 outcome-is : (c : tie.After-outcome-of Inv-loop μ-loop) → c .outcome-of .result ≡ comesTo byRule (unit (here (c .before))) (here (c .before) .loop .w .now) (act (here (c .before)))
 outcome-is c =
@@ -289,9 +271,6 @@ enum-told c = search needs
 element-write-w : tie.Need-element-write-w Inv-loop μ-loop
 element-write-w c = omega (arith, room (c .before .before .before) .0)
 
-went-to-requires : tie.Need-went-to-requires Inv-loop μ-loop
-went-to-requires c κs = search needs
-
 loop-less : tie.Need-loop-less Inv-loop μ-loop
 loop-less c = omega (arith, going-on (c .before .before .before .before))
 
@@ -306,9 +285,6 @@ loop-again c =
           (sofar-on (unit k) (end k) (first k) (all k) (act k) (later k) (l .w) (wentTo (l .g .up) (passed e .pass-to .result)) (l .l) (passed e .pass-to .last .0) (now-acting e) (room e .0)
           (sym (outcome-is (c .before .before .before)) ∙ c .before .enum-told .given .1)),
     )
-
-enum-known-out : tie.Need-enum-known-out Inv-loop μ-loop
-enum-known-out c = search needs
 
 note-piece-requires-2 : tie.Need-note-piece-requires-2 Inv-loop μ-loop
 note-piece-requires-2 c κs = cut (c .before .before .before .before .before .before .before .before .before)
@@ -329,24 +305,6 @@ add-w-2 c = omega (arith, room (c .before .before .before .before .before .befor
 
 element-write-w-2 : tie.Need-element-write-w-2 Inv-loop μ-loop
 element-write-w-2 c = omega (arith, room (c .before .before .before .before .before .before .before .before) .0)
-
-is-rising-requires-2 : tie.Need-is-rising-requires-2 Inv-loop μ-loop
-is-rising-requires-2 c κs = search needs
-
-place-of-requires : tie.Need-place-of-requires Inv-loop μ-loop
-place-of-requires c κs = search needs
-
-mul-l : tie.Need-mul-l Inv-loop μ-loop
-mul-l c = search needs
-
-element-copy-out-l : tie.Need-element-copy-out-l Inv-loop μ-loop
-element-copy-out-l c = search needs
-
-ramp-of-requires : tie.Need-ramp-of-requires Inv-loop μ-loop
-ramp-of-requires c κs = search needs
-
-set-out-requires-2 : tie.Need-set-out-requires-2 Inv-loop μ-loop
-set-out-requires-2 c κs = search needs
 
 loop-less-2 : tie.Need-loop-less-2 Inv-loop μ-loop
 loop-less-2 c = omega (arith, going-on (c .before .before .before .before .before .before .before .before .before .before .before .before .before .before .before))
@@ -383,43 +341,8 @@ loop-again-2 c =
 pub follow-day-spec : {M : Type 1} → statement M
 follow-day-spec =
     tie.close
-    (tie.spec
-    Inv-loop
-    μ-loop
-    begin-walk-requires
-    is-rising-requires
-    own-lists-requires
-    set-out-requires
-    mul-end
-    loop-holds
-    place-in-requires
-    mul-o
-    array-copy-out-o
-    next-second-requires
-    pass-to-requires
-    state-at-requires
-    note-piece-requires
-    end-day-requires
-    returns
-    add-w
-    outcome-of-requires
-    enum-told
-    element-write-w
-    went-to-requires
-    loop-less
-    loop-again
-    enum-known-out
-    note-piece-requires-2
-    begin-course-requires
-    mul-d
-    element-set-from-d
-    add-w-2
-    element-write-w-2
-    is-rising-requires-2
-    place-of-requires
-    mul-l
-    element-copy-out-l
-    ramp-of-requires
-    set-out-requires-2
-    loop-less-2
-    loop-again-2)
+    (tie.spec Inv-loop μ-loop begin-walk-requires (λ c κs. search needs) (λ c κs. search needs) (λ c κs. search needs) mul-end loop-holds
+    (λ c κs. search needs) mul-o array-copy-out-o next-second-requires pass-to-requires (λ c κs. search needs) note-piece-requires end-day-requires
+    returns add-w (λ c κs. search needs) enum-told element-write-w (λ c κs. search needs) loop-less loop-again (λ c. search needs)
+    note-piece-requires-2 begin-course-requires mul-d element-set-from-d add-w-2 element-write-w-2 (λ c κs. search needs) (λ c κs. search needs)
+    (λ c. search needs) (λ c. search needs) (λ c κs. search needs) (λ c κs. search needs) loop-less-2 loop-again-2)

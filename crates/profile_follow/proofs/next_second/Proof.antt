@@ -8,8 +8,5 @@ acting-second-requires c κs = c .before .pre (c .if1 .taken)
 returns : tie.Need-returns
 returns c = rw (c .before .if1 .taken) (c .acting-second .ensures)
 
-returns-2 : tie.Need-returns-2
-returns-2 c = search needs
-
 pub next-second-spec : {M : Type 1} → statement M
-next-second-spec = tie.close (tie.spec acting-second-requires returns returns-2)
+next-second-spec = tie.close (tie.spec acting-second-requires returns (λ c. search needs))

@@ -4,15 +4,9 @@ use borrow.Author.Needs.{needs}
 use Rattle.profile_follow.proofs.set_out.Statement.{statement}
 use Rattle.profile_follow.proofs.set_out.Tie as tie
 
-begin-at-requires : tie.Need-begin-at-requires
-begin-at-requires c κs = search needs
-
-off-starting-requires : tie.Need-off-starting-requires
-off-starting-requires c κs = search needs
-
 returns : tie.Need-returns
 unfolding setOut beginning
 returns c = λ k. record { up = c .before .before .before .args .up; reached = c .before .begin-at .ensures k; off = c .off-starting .ensures k; total = c .before .before .before .args .total }
 
 pub set-out-spec : {M : Type 1} → statement M
-set-out-spec = tie.close (tie.spec begin-at-requires off-starting-requires returns)
+set-out-spec = tie.close (tie.spec (λ c κs. search needs) (λ c κs. search needs) returns)

@@ -8,12 +8,9 @@ returns : tie.Need-returns
 unfolding rounded
 returns c = omega arith
 
-add-result : tie.Need-add-result
-add-result c = search needs
-
 returns-2 : tie.Need-returns-2
 unfolding rounded
 returns-2 c = omega arith
 
 pub quantity-of-spec : {M : Type 1} → statement M
-quantity-of-spec = tie.close (tie.spec returns add-result returns-2)
+quantity-of-spec = tie.close (tie.spec returns (λ c. search needs) returns-2)

@@ -13,35 +13,8 @@ Inv-loop halves sums limit end i₀ i = (i ≤ halves) × ((most : ℕ) → limi
 abbrev μ-loop : tie.MeasureT-loop
 μ-loop halves sums limit end i₀ i = halves - i
 
-cast-limit : tie.Need-cast-limit Inv-loop μ-loop
-cast-limit c = search needs
-
-mul-limit : tie.Need-mul-limit Inv-loop μ-loop
-mul-limit c = omega arith
-
-add-limit : tie.Need-add-limit Inv-loop μ-loop
-add-limit c = omega arith
-
 loop-holds : tie.Need-loop-holds Inv-loop μ-loop
 loop-holds c = (omega arith, λ m e. ap (someAbove m (c .before .args .t2) 0) {x = c .before .args .halves - 0} {y = c .before .args .halves} (omega arith))
-
-mul-before : tie.Need-mul-before Inv-loop μ-loop
-mul-before c = omega arith
-
-array-read-before : tie.Need-array-read-before Inv-loop μ-loop
-array-read-before c = omega arith
-
-add-i : tie.Need-add-i Inv-loop μ-loop
-add-i c = omega arith
-
-mul-after : tie.Need-mul-after Inv-loop μ-loop
-mul-after c = omega arith
-
-array-read-after : tie.Need-array-read-after Inv-loop μ-loop
-array-read-after c = omega arith
-
-loop-less : tie.Need-loop-less Inv-loop μ-loop
-loop-less c = omega arith
 
 loop-again : tie.Need-loop-again Inv-loop μ-loop
 loop-again c =
@@ -54,9 +27,6 @@ returns c =
     let s = c .before .before .before .before .before in
     let l = c .before .before .before .loop in
     sym (above-here (s .args .u .maximum) (s .args .t2) (s .args .halves) (l .i) (omega arith) (omega arith)) ∙ l .inv .1 (s .args .u .maximum) refl
-
-loop-less-2 : tie.Need-loop-less-2 Inv-loop μ-loop
-loop-less-2 c = omega arith
 
 loop-again-2 : tie.Need-loop-again-2 Inv-loop μ-loop
 loop-again-2 c =
@@ -73,21 +43,5 @@ returns-2 c =
 pub quantity-too-high-spec : {M : Type 1} → statement M
 quantity-too-high-spec =
     tie.close
-    (tie.spec
-    Inv-loop
-    μ-loop
-    cast-limit
-    mul-limit
-    add-limit
-    loop-holds
-    mul-before
-    array-read-before
-    add-i
-    mul-after
-    array-read-after
-    loop-less
-    loop-again
-    returns
-    loop-less-2
-    loop-again-2
-    returns-2)
+    (tie.spec Inv-loop μ-loop (λ c. search needs) (λ c. omega arith) (λ c. omega arith) loop-holds (λ c. omega arith) (λ c. omega arith)
+    (λ c. omega arith) (λ c. omega arith) (λ c. omega arith) (λ c. omega arith) loop-again returns (λ c. omega arith) loop-again-2 returns-2)

@@ -4,27 +4,6 @@ use Rattle.records.specs.Codes.{meaningOf}
 use Rattle.records_bytes.proofs.decode.Statement.{statement}
 use Rattle.records_bytes.proofs.decode.Tie as tie
 
-means-requires : tie.Need-means-requires
-means-requires c κs = search needs
-
-means-requires-2 : tie.Need-means-requires-2
-means-requires-2 c κs = search needs
-
-means-requires-3 : tie.Need-means-requires-3
-means-requires-3 c κs = search needs
-
-means-requires-4 : tie.Need-means-requires-4
-means-requires-4 c κs = search needs
-
-means-requires-5 : tie.Need-means-requires-5
-means-requires-5 c κs = search needs
-
-means-requires-6 : tie.Need-means-requires-6
-means-requires-6 c κs = search needs
-
-means-requires-7 : tie.Need-means-requires-7
-means-requires-7 c κs = search needs
-
 returns : tie.Need-returns
 unfolding meaningOf
 returns c = rw (c .before .match .keys1) (c .means .ensures)
@@ -62,19 +41,5 @@ returns-8 c =
 pub decode-spec : {M : Type 1} → statement M
 decode-spec =
     tie.close
-    (tie.spec
-    means-requires
-    means-requires-2
-    means-requires-3
-    means-requires-4
-    means-requires-5
-    means-requires-6
-    means-requires-7
-    returns
-    returns-2
-    returns-3
-    returns-4
-    returns-5
-    returns-6
-    returns-7
-    returns-8)
+    (tie.spec (λ c κs. search needs) (λ c κs. search needs) (λ c κs. search needs) (λ c κs. search needs) (λ c κs. search needs)
+    (λ c κs. search needs) (λ c κs. search needs) returns returns-2 returns-3 returns-4 returns-5 returns-6 returns-7 returns-8)

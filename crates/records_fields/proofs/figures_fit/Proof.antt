@@ -4,9 +4,6 @@ use Rattle.records.specs.Fields.{figuresFit}
 use Rattle.records_fields.proofs.figures_fit.Statement.{statement}
 use Rattle.records_fields.proofs.figures_fit.Tie as tie
 
-same-code-requires : tie.Need-same-code-requires
-same-code-requires c κs = search needs
-
 returns : tie.Need-returns
 unfolding figuresFit
 returns c = rw (sym (c .before .before .before .before .same-code .ensures) ∙ c .before .before .before .if1 .taken)
@@ -16,4 +13,4 @@ unfolding figuresFit
 returns-2 c = rw (sym (c .before .before .before .before .same-code .ensures) ∙ c .before .before .before .if1 .left)
 
 pub figures-fit-spec : {M : Type 1} → statement M
-figures-fit-spec = tie.close (tie.spec same-code-requires returns returns-2)
+figures-fit-spec = tie.close (tie.spec (λ c κs. search needs) returns returns-2)

@@ -12,14 +12,8 @@ returns c = rw (c .if1 .taken)
 returns-2 : tie.Need-returns-2
 returns-2 c = effective-late _ _ _ (c .before .before .if1 .left) (omega arith)
 
-mul-if3 : tie.Need-mul-if3
-mul-if3 c = search needs
-
 returns-3 : tie.Need-returns-3
 returns-3 c = issue-out _ _ _ (c .before .before .before .before .if1 .left) (omega arith) (omega arith)
-
-figures-fit-requires : tie.Need-figures-fit-requires
-figures-fit-requires c κs = search needs
 
 returns-4 : tie.Need-returns-4
 returns-4 c = instruction-taken _ _ _ (c .before .before .before .before .before .before .if1 .left) (omega arith) (omega arith) _ (c .before .figures-fit .ensures) (c .if4 .taken)
@@ -28,6 +22,4 @@ returns-5 : tie.Need-returns-5
 returns-5 c = figures-out _ _ _ (c .before .before .before .before .before .before .if1 .left) (omega arith) (omega arith) _ (c .before .figures-fit .ensures) (c .if4 .left)
 
 pub instruction-answer-spec : {M : Type 1} → statement M
-instruction-answer-spec =
-    tie.close
-    (tie.spec returns returns-2 mul-if3 returns-3 figures-fit-requires returns-4 returns-5)
+instruction-answer-spec = tie.close (tie.spec returns returns-2 (λ c. search needs) returns-3 (λ c κs. search needs) returns-4 returns-5)

@@ -3,9 +3,6 @@ use borrow.Author.Needs.{needs}
 use Rattle.records_fields.proofs.opening_answer.Statement.{statement}
 use Rattle.records_fields.proofs.opening_answer.Tie as tie
 
-cast-wide : tie.Need-cast-wide
-cast-wide c = search needs
-
 returns : tie.Need-returns
 unfolding openingFits
 returns c = rw (c .if1 .taken)
@@ -15,4 +12,4 @@ unfolding openingFits
 returns-2 c = rw (c .if1 .left)
 
 pub opening-answer-spec : {M : Type 1} → statement M
-opening-answer-spec = tie.close (tie.spec cast-wide returns returns-2)
+opening-answer-spec = tie.close (tie.spec (λ c. search needs) returns returns-2)

@@ -7,39 +7,6 @@ use borrow.Author.Needs.{needs}
 use Rattle.records_fields.proofs.read_instruction.Statement.{statement}
 use Rattle.records_fields.proofs.read_instruction.Tie as tie
 
-byte-requires : tie.Need-byte-requires
-byte-requires c κs = search needs
-
-decode-requires : tie.Need-decode-requires
-decode-requires c κs = search needs
-
-is-unknown-requires : tie.Need-is-unknown-requires
-is-unknown-requires c κs = search needs
-
-number-requires : tie.Need-number-requires
-number-requires c κs = search needs
-
-number-requires-2 : tie.Need-number-requires-2
-number-requires-2 c κs = search needs
-
-issue-of-requires : tie.Need-issue-of-requires
-issue-of-requires c κs = search needs
-
-meaning-in-requires : tie.Need-meaning-in-requires
-meaning-in-requires c κs = search needs
-
-number-requires-3 : tie.Need-number-requires-3
-number-requires-3 c κs = search needs
-
-number-requires-4 : tie.Need-number-requires-4
-number-requires-4 c κs = search needs
-
-number-requires-5 : tie.Need-number-requires-5
-number-requires-5 c κs = search needs
-
-instruction-answer-requires : tie.Need-instruction-answer-requires
-instruction-answer-requires c κs = search needs
-
 returns : tie.Need-returns
 unfolding instructionOf
 returns c =
@@ -60,16 +27,5 @@ returns c =
 pub read-instruction-spec : {M : Type 1} → statement M
 read-instruction-spec =
     tie.close
-    (tie.spec
-    byte-requires
-    decode-requires
-    is-unknown-requires
-    number-requires
-    number-requires-2
-    issue-of-requires
-    meaning-in-requires
-    number-requires-3
-    number-requires-4
-    number-requires-5
-    instruction-answer-requires
-    returns)
+    (tie.spec (λ c κs. search needs) (λ c κs. search needs) (λ c κs. search needs) (λ c κs. search needs) (λ c κs. search needs)
+    (λ c κs. search needs) (λ c κs. search needs) (λ c κs. search needs) (λ c κs. search needs) (λ c κs. search needs) (λ c κs. search needs) returns)

@@ -9,21 +9,6 @@ use borrow.Author.Needs.{needs}
 use Rattle.records_fields.proofs.read_opening.Statement.{statement}
 use Rattle.records_fields.proofs.read_opening.Tie as tie
 
-number-requires : tie.Need-number-requires
-number-requires c κs = search needs
-
-number-requires-2 : tie.Need-number-requires-2
-number-requires-2 c κs = search needs
-
-number-requires-3 : tie.Need-number-requires-3
-number-requires-3 c κs = search needs
-
-number-requires-4 : tie.Need-number-requires-4
-number-requires-4 c κs = search needs
-
-opening-answer-requires : tie.Need-opening-answer-requires
-opening-answer-requires c κs = search needs
-
 returns : tie.Need-returns
 unfolding openingOf openingAnswer
 returns c =
@@ -41,10 +26,4 @@ returns c =
 pub read-opening-spec : {M : Type 1} → statement M
 read-opening-spec =
     tie.close
-    (tie.spec
-    number-requires
-    number-requires-2
-    number-requires-3
-    number-requires-4
-    opening-answer-requires
-    returns)
+    (tie.spec (λ c κs. search needs) (λ c κs. search needs) (λ c κs. search needs) (λ c κs. search needs) (λ c κs. search needs) returns)

@@ -19,30 +19,6 @@ abbrev μ-loop : tie.MeasureT-loop
 loop-holds : tie.Need-loop-holds Inv-loop μ-loop
 loop-holds c = (search needs, refl)
 
-mul-v : tie.Need-mul-v Inv-loop μ-loop
-mul-v c = omega arith
-
-array-read-v : tie.Need-array-read-v Inv-loop μ-loop
-array-read-v c = omega arith
-
-mul-low : tie.Need-mul-low Inv-loop μ-loop
-mul-low c = omega arith
-
-array-read-low : tie.Need-array-read-low Inv-loop μ-loop
-array-read-low c = omega arith
-
-mul-high : tie.Need-mul-high Inv-loop μ-loop
-mul-high c = omega arith
-
-array-read-high : tie.Need-array-read-high Inv-loop μ-loop
-array-read-high c = omega arith
-
-add-i : tie.Need-add-i Inv-loop μ-loop
-add-i c = omega arith
-
-loop-less : tie.Need-loop-less Inv-loop μ-loop
-loop-less c = omega arith
-
 loop-again : tie.Need-loop-again Inv-loop μ-loop
 unfolding lowsOf highsOf unitRanges columnRanges rampRanges aLevel aMaximum aRate aHold aBoundary
 loop-again c =
@@ -59,17 +35,5 @@ returns c =
 pub all-fit-spec : {M : Type 1} → statement M
 all-fit-spec =
     tie.close
-    (tie.spec
-    Inv-loop
-    μ-loop
-    loop-holds
-    mul-v
-    array-read-v
-    mul-low
-    array-read-low
-    mul-high
-    array-read-high
-    add-i
-    loop-less
-    loop-again
-    returns)
+    (tie.spec Inv-loop μ-loop loop-holds (λ c. omega arith) (λ c. omega arith) (λ c. omega arith) (λ c. omega arith) (λ c. omega arith)
+    (λ c. omega arith) (λ c. omega arith) (λ c. omega arith) loop-again returns)

@@ -19,22 +19,10 @@ loop-holds : tie.Need-loop-holds Inv-loop μ-loop
 unfolding falls
 loop-holds c = (search needs, refl)
 
-mul-here : tie.Need-mul-here Inv-loop μ-loop
-mul-here c = omega arith
-
-shared-slice-read-here : tie.Need-shared-slice-read-here Inv-loop μ-loop
-shared-slice-read-here c = omega arith
-
 returns : tie.Need-returns Inv-loop μ-loop
 returns c =
     let l = c .before .before .before .loop in
     sym (fall-here _ (l .before) (l .i) (omega arith) (c .if1 .taken)) ∙ l .inv .1
-
-add-i : tie.Need-add-i Inv-loop μ-loop
-add-i c = omega arith
-
-loop-less : tie.Need-loop-less Inv-loop μ-loop
-loop-less c = omega arith
 
 loop-again : tie.Need-loop-again Inv-loop μ-loop
 loop-again c =
@@ -49,14 +37,4 @@ returns-2 c =
 pub breaks-fall-spec : {M : Type 1} → statement M
 breaks-fall-spec =
     tie.close
-    (tie.spec
-    Inv-loop
-    μ-loop
-    loop-holds
-    mul-here
-    shared-slice-read-here
-    returns
-    add-i
-    loop-less
-    loop-again
-    returns-2)
+    (tie.spec Inv-loop μ-loop loop-holds (λ c. omega arith) (λ c. omega arith) returns (λ c. omega arith) (λ c. omega arith) loop-again returns-2)

@@ -6,15 +6,6 @@ use borrow.Author.Needs.{needs}
 use Rattle.records_unit.proofs.read_unit.Statement.{statement}
 use Rattle.records_unit.proofs.read_unit.Tie as tie
 
-unit-numbers-requires : tie.Need-unit-numbers-requires
-unit-numbers-requires c κs = search needs
-
-unit-of-requires : tie.Need-unit-of-requires
-unit-of-requires c κs = search needs
-
-unit-answer-requires : tie.Need-unit-answer-requires
-unit-answer-requires c κs = search needs
-
 returns : tie.Need-returns
 unfolding unitAnswer
 returns c =
@@ -24,5 +15,4 @@ returns c =
     λ i. record { answer = answer i; unit = unit i }
 
 pub read-unit-spec : {M : Type 1} → statement M
-read-unit-spec =
-    tie.close (tie.spec unit-numbers-requires unit-of-requires unit-answer-requires returns)
+read-unit-spec = tie.close (tie.spec (λ c κs. search needs) (λ c κs. search needs) (λ c κs. search needs) returns)

@@ -3,21 +3,6 @@ use Rattle.records.specs.Fields.{disagrees}
 use Rattle.records_unit.proofs.unit_disagrees.Statement.{statement}
 use Rattle.records_unit.proofs.unit_disagrees.Tie as tie
 
-columns-fall-requires : tie.Need-columns-fall-requires
-columns-fall-requires c κs = search needs
-
-breaks-fall-requires : tie.Need-breaks-fall-requires
-breaks-fall-requires c κs = search needs
-
-breaks-fall-requires-2 : tie.Need-breaks-fall-requires-2
-breaks-fall-requires-2 c κs = search needs
-
-breaks-fall-requires-3 : tie.Need-breaks-fall-requires-3
-breaks-fall-requires-3 c κs = search needs
-
-some-block-above-requires : tie.Need-some-block-above-requires
-some-block-above-requires c κs = search needs
-
 returns : tie.Need-returns
 unfolding disagrees
 returns c =
@@ -29,10 +14,4 @@ returns c =
 pub unit-disagrees-spec : {M : Type 1} → statement M
 unit-disagrees-spec =
     tie.close
-    (tie.spec
-    columns-fall-requires
-    breaks-fall-requires
-    breaks-fall-requires-2
-    breaks-fall-requires-3
-    some-block-above-requires
-    returns)
+    (tie.spec (λ c κs. search needs) (λ c κs. search needs) (λ c κs. search needs) (λ c κs. search needs) (λ c κs. search needs) returns)

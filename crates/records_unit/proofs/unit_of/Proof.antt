@@ -6,54 +6,6 @@ use Rattle.records.specs.Records.{triggerOf, columnOf, unitOf}
 use Rattle.records_unit.proofs.unit_of.Statement.{statement}
 use Rattle.records_unit.proofs.unit_of.Tie as tie
 
-column-of-requires : tie.Need-column-of-requires
-column-of-requires c κs = search needs
-
-column-of-requires-2 : tie.Need-column-of-requires-2
-column-of-requires-2 c κs = search needs
-
-column-of-requires-3 : tie.Need-column-of-requires-3
-column-of-requires-3 c κs = search needs
-
-ramp-at-requires : tie.Need-ramp-at-requires
-ramp-at-requires c κs = search needs
-
-trigger-of-requires : tie.Need-trigger-of-requires
-trigger-of-requires c κs = search needs
-
-trigger-of-requires-2 : tie.Need-trigger-of-requires-2
-trigger-of-requires-2 c κs = search needs
-
-trigger-of-requires-3 : tie.Need-trigger-of-requires-3
-trigger-of-requires-3 c κs = search needs
-
-ramp-at-requires-2 : tie.Need-ramp-at-requires-2
-ramp-at-requires-2 c κs = search needs
-
-array-read-t19 : tie.Need-array-read-t19
-array-read-t19 c = search needs
-
-array-read-t22 : tie.Need-array-read-t22
-array-read-t22 c = search needs
-
-array-read-t19-2 : tie.Need-array-read-t19-2
-array-read-t19-2 c = search needs
-
-array-read-t22-2 : tie.Need-array-read-t22-2
-array-read-t22-2 c = search needs
-
-array-read-t19-3 : tie.Need-array-read-t19-3
-array-read-t19-3 c = search needs
-
-array-read-t31 : tie.Need-array-read-t31
-array-read-t31 c = search needs
-
-array-read-t34 : tie.Need-array-read-t34
-array-read-t34 c = search needs
-
-array-read-t37 : tie.Need-array-read-t37
-array-read-t37 c = search needs
-
 returns : tie.Need-returns
 unfolding unitOf
 returns c =
@@ -83,21 +35,6 @@ returns c =
 pub unit-of-spec : {M : Type 1} → statement M
 unit-of-spec =
     tie.close
-    (tie.spec
-    column-of-requires
-    column-of-requires-2
-    column-of-requires-3
-    ramp-at-requires
-    trigger-of-requires
-    trigger-of-requires-2
-    trigger-of-requires-3
-    ramp-at-requires-2
-    array-read-t19
-    array-read-t22
-    array-read-t19-2
-    array-read-t22-2
-    array-read-t19-3
-    array-read-t31
-    array-read-t34
-    array-read-t37
-    returns)
+    (tie.spec (λ c κs. search needs) (λ c κs. search needs) (λ c κs. search needs) (λ c κs. search needs) (λ c κs. search needs)
+    (λ c κs. search needs) (λ c κs. search needs) (λ c κs. search needs) (λ c. search needs) (λ c. search needs) (λ c. search needs)
+    (λ c. search needs) (λ c. search needs) (λ c. search needs) (λ c. search needs) (λ c. search needs) returns)

@@ -8,11 +8,8 @@ use Rattle.validation_groups.proofs.earlier.Tie as tie
 returns : tie.Need-returns
 returns c = earlier-past _ _ _ (omega arith)
 
-smaller-requires : tie.Need-smaller-requires
-smaller-requires c κs = search needs
-
 returns-2 : tie.Need-returns-2
 returns-2 c = c .smaller .ensures ∙ earlier-from _ _ _ (omega arith)
 
 pub earlier-spec : {M : Type 1} → statement M
-earlier-spec = tie.close (tie.spec returns smaller-requires returns-2)
+earlier-spec = tie.close (tie.spec returns (λ c κs. search needs) returns-2)

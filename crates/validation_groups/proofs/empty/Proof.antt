@@ -3,12 +3,9 @@ use borrow.Author.Needs.{needs}
 use Rattle.validation_groups.proofs.empty.Statement.{statement}
 use Rattle.validation_groups.proofs.empty.Tie as tie
 
-no-one-requires : tie.Need-no-one-requires
-no-one-requires c κs = search needs
-
 returns : tie.Need-returns
 unfolding filled
 returns c = rw (c .no-one .ensures)
 
 pub empty-spec : {M : Type 1} → statement M
-empty-spec = tie.close (tie.spec no-one-requires returns)
+empty-spec = tie.close (tie.spec (λ c κs. search needs) returns)

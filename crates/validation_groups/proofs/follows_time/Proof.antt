@@ -9,19 +9,9 @@ returns : tie.Need-returns
 unfolding followsTime
 returns c = rw (le-ltb 0 (c .before .args .at) (omega arith))
 
-sub-result : tie.Need-sub-result
-sub-result c = search needs
-
-mul-result : tie.Need-mul-result
-mul-result c = search needs
-
-element-copy-out-result : tie.Need-element-copy-out-result
-element-copy-out-result c = search needs
-
 returns-2 : tie.Need-returns-2
 unfolding followsTime
 returns-2 c = rw (lt-ltb 0 (c .before .before .args .at) (omega arith))
 
 pub follows-time-spec : {M : Type 1} → statement M
-follows-time-spec =
-    tie.close (tie.spec returns sub-result mul-result element-copy-out-result returns-2)
+follows-time-spec = tie.close (tie.spec returns (λ c. search needs) (λ c. search needs) (λ c. search needs) returns-2)

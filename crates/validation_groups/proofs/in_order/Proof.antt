@@ -16,23 +16,11 @@ abbrev μ-loop : tie.MeasureT-loop
 loop-holds : tie.Need-loop-holds Inv-loop μ-loop
 loop-holds c = (omega arith, refl)
 
-mul-t : tie.Need-mul-t Inv-loop μ-loop
-mul-t c = omega arith
-
-element-copy-out-t : tie.Need-element-copy-out-t Inv-loop μ-loop
-element-copy-out-t c = omega arith
-
 returns : tie.Need-returns Inv-loop μ-loop
 returns c =
     let a = c .before .before .before .before .args in
     let l = c .before .before .before .loop in
     rises-not (a .times .now) (a .n) (omega arith) (l .before) (l .i) (omega arith) (omega arith) ∙ l .inv .1
-
-add-i : tie.Need-add-i Inv-loop μ-loop
-add-i c = omega arith
-
-loop-less : tie.Need-loop-less Inv-loop μ-loop
-loop-less c = omega arith
 
 loop-again : tie.Need-loop-again Inv-loop μ-loop
 loop-again c =
@@ -49,14 +37,4 @@ returns-2 c =
 pub in-order-spec : {M : Type 1} → statement M
 in-order-spec =
     tie.close
-    (tie.spec
-    Inv-loop
-    μ-loop
-    loop-holds
-    mul-t
-    element-copy-out-t
-    returns
-    add-i
-    loop-less
-    loop-again
-    returns-2)
+    (tie.spec Inv-loop μ-loop loop-holds (λ c. omega arith) (λ c. omega arith) returns (λ c. omega arith) (λ c. omega arith) loop-again returns-2)

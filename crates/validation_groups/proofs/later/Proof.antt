@@ -7,11 +7,8 @@ use Rattle.validation_groups.proofs.later.Tie as tie
 returns : tie.Need-returns
 returns c = later-other _ _ _ _ (c .if1 .taken)
 
-larger-requires : tie.Need-larger-requires
-larger-requires c κs = search needs
-
 returns-2 : tie.Need-returns-2
 returns-2 c = c .larger .ensures ∙ later-same _ _ _ _ (c .before .if1 .left)
 
 pub later-spec : {M : Type 1} → statement M
-later-spec = tie.close (tie.spec returns larger-requires returns-2)
+later-spec = tie.close (tie.spec returns (λ c κs. search needs) returns-2)

@@ -4,12 +4,6 @@ use borrow.Author.Needs.{needs}
 use Rattle.validation_groups.proofs.push_found.Statement.{statement}
 use Rattle.validation_groups.proofs.push_found.Tie as tie
 
-enum-known-found : tie.Need-enum-known-found
-enum-known-found c = search needs
-
-push-requires : tie.Need-push-requires
-push-requires c κs = search needs
-
 enum-told : tie.Need-enum-told
 enum-told c = search needs
 
@@ -22,4 +16,4 @@ unfolding joined
 returns-2 c = sym (ap (joined (c .before .before .args .s)) (c .enum-told .given .1))
 
 pub push-found-spec : {M : Type 1} → statement M
-push-found-spec = tie.close (tie.spec enum-known-found push-requires enum-told returns returns-2)
+push-found-spec = tie.close (tie.spec (λ c. search needs) (λ c κs. search needs) enum-told returns returns-2)

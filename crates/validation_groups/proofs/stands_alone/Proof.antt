@@ -9,25 +9,10 @@ use Rattle.validation_groups.proofs.stands_alone.Tie as tie
 returns : tie.Need-returns
 returns c = rw (not-true (c .before .args .ordered) (c .if1 .taken))
 
-mul-t : tie.Need-mul-t
-mul-t c = search needs
-
-element-copy-out-t : tie.Need-element-copy-out-t
-element-copy-out-t c = search needs
-
-add-has-time : tie.Need-add-has-time
-add-has-time c = search needs
-
-has-time-requires : tie.Need-has-time-requires
-has-time-requires c κs = search needs
-
 returns-2 : tie.Need-returns-2
 returns-2 c =
     let s = c .before .before .before .before in
     rw (not-false (s .args .ordered) (c .before .before .before .if1 .left)) (alone-no-next (s .args .times .now) (s .args .n) (s .args .at) (sym (c .before .has-time .ensures) ∙ c .if2 .taken))
-
-follows-time-requires : tie.Need-follows-time-requires
-follows-time-requires c κs = search needs
 
 returns-3 : tie.Need-returns-3
 returns-3 c =
@@ -37,12 +22,4 @@ returns-3 c =
 pub stands-alone-spec : {M : Type 1} → statement M
 stands-alone-spec =
     tie.close
-    (tie.spec
-    returns
-    mul-t
-    element-copy-out-t
-    add-has-time
-    has-time-requires
-    returns-2
-    follows-time-requires
-    returns-3)
+    (tie.spec returns (λ c. search needs) (λ c. search needs) (λ c. search needs) (λ c κs. search needs) returns-2 (λ c κs. search needs) returns-3)

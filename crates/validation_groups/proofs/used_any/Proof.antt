@@ -24,9 +24,6 @@ numbers s = numbered 1 (take (s .args .n) (s .args .instructions))
 room : (s : tie.Start Inv-loop μ-loop) → s .args .n ≤ length (s .args .instructions)
 room s = omega (arith, s .good .0 .1 .0 .1)
 
-empty-requires : tie.Need-empty-requires Inv-loop μ-loop
-empty-requires c κs = search needs
-
 loop-holds : tie.Need-loop-holds Inv-loop μ-loop
 loop-holds c =
     let s = c .before in
@@ -44,21 +41,6 @@ returns c =
     let a = s .args in
     let t = c .before .next-time .ensures ∙ next-is (s .pre .1) (a .end) (l .t) in
     (begun-all (rw (used-stop (a .end) (numbers s) (a .n - l .i) (l .t) (omega (arith, t))) at (l .inv .2)), omega arith)
-
-used-at-requires : tie.Need-used-at-requires Inv-loop μ-loop
-used-at-requires c κs = search needs
-
-push-found-requires : tie.Need-push-found-requires Inv-loop μ-loop
-push-found-requires c κs = search needs
-
-add-t : tie.Need-add-t Inv-loop μ-loop
-add-t c = omega arith
-
-add-i : tie.Need-add-i Inv-loop μ-loop
-add-i c = omega arith
-
-loop-less : tie.Need-loop-less Inv-loop μ-loop
-loop-less c = omega arith
 
 loop-again : tie.Need-loop-again Inv-loop μ-loop
 loop-again c =
@@ -90,17 +72,5 @@ returns-2 c =
 pub used-any-spec : {M : Type 1} → statement M
 used-any-spec =
     tie.close
-    (tie.spec
-    Inv-loop
-    μ-loop
-    empty-requires
-    loop-holds
-    next-time-requires
-    returns
-    used-at-requires
-    push-found-requires
-    add-t
-    add-i
-    loop-less
-    loop-again
-    returns-2)
+    (tie.spec Inv-loop μ-loop (λ c κs. search needs) loop-holds next-time-requires returns (λ c κs. search needs) (λ c κs. search needs)
+    (λ c. omega arith) (λ c. omega arith) (λ c. omega arith) loop-again returns-2)

@@ -45,18 +45,6 @@ loop-holds c =
     let s = c .before .args in
     (omega arith, walked-none (those (inGroup (take (s .n) (numbered 1 (take (s .n) (s .t1)))) (s .t)) (take (s .n) (numbered 1 (take (s .n) (s .t1))))))
 
-add-i : tie.Need-add-i Inv-loop μ-loop
-add-i c = omega arith
-
-mul-if1 : tie.Need-mul-if1 Inv-loop μ-loop
-mul-if1 c = omega arith
-
-element-copy-out-if1 : tie.Need-element-copy-out-if1 Inv-loop μ-loop
-element-copy-out-if1 c = omega arith
-
-loop-less : tie.Need-loop-less Inv-loop μ-loop
-loop-less c = omega arith
-
 -- of one at the time t
 left-is : (s : tie.Start Inv-loop μ-loop) (i : ℕ) → i < s .args .n → getD (s .args .times .now) i 0 ≡ s .args .t →
     supersededAmong (take (s .args .n) (s .args .times .now)) (take (s .args .n) (s .args .issues .now)) (s .args .t) (getD (s .args .issues .now) i 0) ≡ superseded (take (s .args .n) (numbers s)) (getD (numbers s) i noNumbered)
@@ -75,15 +63,6 @@ loop-again c =
     let e : inGroup (take n os) (s .args .t) (getD os (l .i) noNumbered) ≡ false = group-other (take n os) (s .args .t) (getD os (l .i) noNumbered) (λ q. c .if1 .taken (at ∙ q)) in
     (omega arith, rw (those-skip os n (inGroup (take n os) (s .args .t)) (l .i) noNumbered (omega arith) (fits s) e) at (l .inv .1))
 
-mul-if2 : tie.Need-mul-if2 Inv-loop μ-loop
-mul-if2 c = omega arith
-
-element-copy-out-if2 : tie.Need-element-copy-out-if2 Inv-loop μ-loop
-element-copy-out-if2 c = omega arith
-
-loop-less-2 : tie.Need-loop-less-2 Inv-loop μ-loop
-loop-less-2 c = omega arith
-
 loop-again-2 : tie.Need-loop-again-2 Inv-loop μ-loop
 loop-again-2 c =
     let s = c .before .before .before .before .before .before .before in
@@ -93,33 +72,6 @@ loop-again-2 c =
     let o = getD os (l .i) noNumbered in
     let u : superseded (take n os) o ≡ true = sym (left-is s (l .i) (omega arith) (c .before .before .if1 .left)) ∙ lt-ltb _ _ (rw (c .before .before .before .before .before .before .latest-at .ensures) at (c .if2 .taken)) in
     (omega arith, rw (those-skip os n (inGroup (take n os) (s .args .t)) (l .i) noNumbered (omega arith) (fits s) (group-gone (take n os) (s .args .t) o u)) at (l .inv .1))
-
-mul-instruction : tie.Need-mul-instruction Inv-loop μ-loop
-mul-instruction c = omega arith
-
-array-copy-out-instruction : tie.Need-array-copy-out-instruction Inv-loop μ-loop
-array-copy-out-instruction c = omega arith
-
-number-at-requires : tie.Need-number-at-requires Inv-loop μ-loop
-number-at-requires c κs = search needs
-
-better-requires : tie.Need-better-requires Inv-loop μ-loop
-better-requires c κs = search needs
-
-of-code-requires : tie.Need-of-code-requires Inv-loop μ-loop
-of-code-requires c κs = search needs
-
-or-else-requires : tie.Need-or-else-requires Inv-loop μ-loop
-or-else-requires c κs = search needs
-
-of-code-requires-2 : tie.Need-of-code-requires-2 Inv-loop μ-loop
-of-code-requires-2 c κs = search needs
-
-or-else-requires-2 : tie.Need-or-else-requires-2 Inv-loop μ-loop
-or-else-requires-2 c κs = search needs
-
-loop-less-3 : tie.Need-loop-less-3 Inv-loop μ-loop
-loop-less-3 c = omega arith
 
 loop-again-3 : tie.Need-loop-again-3 Inv-loop μ-loop
 loop-again-3 c =
@@ -135,9 +87,6 @@ loop-again-3 c =
     let w = rw (those-keep os n (inGroup (take n os) (s .args .t)) (l .i) noNumbered (omega arith) (fits s) e) at (l .inv .1) in
     (omega arith, walked-more (c .before .before .before .before .before .number-at .result) (c .before .before .before .before .better .ensures) (c .before .before .or-else .ensures ∙ ap (orElse (foundList (l .sync))) (c .before .before .before .of-code .ensures)) (c .or-else2 .ensures ∙ ap (orElse (foundList (l .desy))) (c .before .of-code2 .ensures)) (rw (number-here (s .args .t1) n (room s) (l .i) (omega arith) ∙ sym (c .before .before .before .before .before .number-at .ensures)) at w))
 
-used-of-requires : tie.Need-used-of-requires Inv-loop μ-loop
-used-of-requires c κs = search needs
-
 returns : tie.Need-returns Inv-loop μ-loop
 unfolding group inGroup
 returns c =
@@ -150,29 +99,7 @@ returns c =
 pub used-at-spec : {M : Type 1} → statement M
 used-at-spec =
     tie.close
-    (tie.spec
-    Inv-loop
-    μ-loop
-    latest-at-requires
-    loop-holds
-    add-i
-    mul-if1
-    element-copy-out-if1
-    loop-less
-    loop-again
-    mul-if2
-    element-copy-out-if2
-    loop-less-2
-    loop-again-2
-    mul-instruction
-    array-copy-out-instruction
-    number-at-requires
-    better-requires
-    of-code-requires
-    or-else-requires
-    of-code-requires-2
-    or-else-requires-2
-    loop-less-3
-    loop-again-3
-    used-of-requires
-    returns)
+    (tie.spec Inv-loop μ-loop latest-at-requires loop-holds (λ c. omega arith) (λ c. omega arith) (λ c. omega arith) (λ c. omega arith) loop-again
+    (λ c. omega arith) (λ c. omega arith) (λ c. omega arith) loop-again-2 (λ c. omega arith) (λ c. omega arith) (λ c κs. search needs)
+    (λ c κs. search needs) (λ c κs. search needs) (λ c κs. search needs) (λ c κs. search needs) (λ c κs. search needs) (λ c. omega arith)
+    loop-again-3 (λ c κs. search needs) returns)

@@ -9,14 +9,5 @@ used-ordered-requires c κs =
     let s = c .before in
     (s .pre .0, s .pre .2, rises-rising (s .args .times .now) (s .args .n) (s .pre .1) (sym (s .pre .3) ∙ c .if1 .taken))
 
-returns : tie.Need-returns
-returns c = search needs
-
-used-any-requires : tie.Need-used-any-requires
-used-any-requires c κs = search needs
-
-returns-2 : tie.Need-returns-2
-returns-2 c = search needs
-
 pub used-in-spec : {M : Type 1} → statement M
-used-in-spec = tie.close (tie.spec used-ordered-requires returns used-any-requires returns-2)
+used-in-spec = tie.close (tie.spec used-ordered-requires (λ c. search needs) (λ c κs. search needs) (λ c. search needs))

@@ -20,9 +20,6 @@ Inv-loop times issues n end instructions out₀ i₀ out i = (i ≤ n) × (out .
 abbrev μ-loop : tie.MeasureT-loop
 μ-loop times issues n end instructions out₀ i₀ out i = n - i
 
-empty-requires : tie.Need-empty-requires Inv-loop μ-loop
-empty-requires c κs = search needs
-
 -- as entered, with their numbers
 abbrev numbers : tie.Start Inv-loop μ-loop → List Numbered
 numbers s = numbered 1 (take (s .args .n) (s .args .t1))
@@ -41,47 +38,11 @@ loop-holds c =
     let s = c .before in
     (omega arith, rw (c .empty .ensures) (omega arith), rw (c .empty .ensures) (reached-none (s .args .end) (numbers s) (s .args .times .now) (s .args .n) (long s) (at s) (s .pre .2)))
 
-mul-t : tie.Need-mul-t Inv-loop μ-loop
-mul-t c = omega arith
-
-element-copy-out-t : tie.Need-element-copy-out-t Inv-loop μ-loop
-element-copy-out-t c = omega arith
-
 returns : tie.Need-returns Inv-loop μ-loop
 returns c =
     let s = c .before .before .before .before .before in
     let l = c .before .before .before .loop in
     (begun-all (reached-late (s .args .end) (numbers s) (s .args .times .now) (s .args .n) (long s) (at s) (s .pre .2) (l .i) (l .out) (l .inv .2) (omega arith) (c .if1 .taken)), omega arith)
-
-add-run-end : tie.Need-add-run-end Inv-loop μ-loop
-add-run-end c = omega arith
-
-run-end-requires : tie.Need-run-end-requires Inv-loop μ-loop
-run-end-requires c κs = search needs
-
-add-if2 : tie.Need-add-if2 Inv-loop μ-loop
-add-if2 c = omega arith
-
-mul-instruction : tie.Need-mul-instruction Inv-loop μ-loop
-mul-instruction c = omega arith
-
-array-copy-out-instruction : tie.Need-array-copy-out-instruction Inv-loop μ-loop
-array-copy-out-instruction c = omega arith
-
-number-at-requires : tie.Need-number-at-requires Inv-loop μ-loop
-number-at-requires c κs = search needs
-
-mul-o : tie.Need-mul-o Inv-loop μ-loop
-mul-o c = omega arith
-
-element-set-from-o : tie.Need-element-set-from-o Inv-loop μ-loop
-element-set-from-o c = omega arith
-
-add-out : tie.Need-add-out Inv-loop μ-loop
-add-out c = omega arith
-
-loop-less : tie.Need-loop-less Inv-loop μ-loop
-loop-less c = omega arith
 
 loop-again : tie.Need-loop-again Inv-loop μ-loop
 unfolding pushed joined
@@ -93,21 +54,6 @@ loop-again c =
     let one = rw (c .before .before .if2 .taken) at run in
     let e = ap (λ (x : Numbered). x ∷ []) (c .number-at .ensures ∙ sym (number-here (s .args .t1) (s .args .n) (room s) (l .i) (omega arith))) ∙ reached-alone (s .args .end) os (s .args .times .now) (s .args .n) (long s) (at s) (s .pre .2) (l .i) (l .out) (l .inv .2) (omega arith) one in
     (run .ends, omega (arith, run .starts), reached-more (s .args .end) os (s .args .times .now) (s .args .n) (long s) (at s) (s .pre .2) (l .i) (l .out) (l .inv .2) (c .before .before .before .run-end .result) (One (c .number-at .result)) (omega arith) (omega arith) (omega arith) run e)
-
-used-at-requires : tie.Need-used-at-requires Inv-loop μ-loop
-used-at-requires c κs = search needs
-
-enum-known-u : tie.Need-enum-known-u Inv-loop μ-loop
-enum-known-u c = search needs
-
-mul-o-2 : tie.Need-mul-o-2 Inv-loop μ-loop
-mul-o-2 c = omega arith
-
-element-set-from-o-2 : tie.Need-element-set-from-o-2 Inv-loop μ-loop
-element-set-from-o-2 c = omega arith
-
-add-out-2 : tie.Need-add-out-2 Inv-loop μ-loop
-add-out-2 c = omega arith
 
 loop-less-2 : tie.Need-loop-less-2 Inv-loop μ-loop
 loop-less-2 c = omega (arith, c .before .before .before .before .before .run-end .ensures .starts)
@@ -126,9 +72,6 @@ loop-again-2 c =
 
 enum-told : tie.Need-enum-told Inv-loop μ-loop
 enum-told c = search needs
-
-loop-less-3 : tie.Need-loop-less-3 Inv-loop μ-loop
-loop-less-3 c = omega arith
 
 loop-again-3 : tie.Need-loop-again-3 Inv-loop μ-loop
 unfolding pushed joined
@@ -151,33 +94,7 @@ returns-2 c =
 pub used-ordered-spec : {M : Type 1} → statement M
 used-ordered-spec =
     tie.close
-    (tie.spec
-    Inv-loop
-    μ-loop
-    empty-requires
-    loop-holds
-    mul-t
-    element-copy-out-t
-    returns
-    add-run-end
-    run-end-requires
-    add-if2
-    mul-instruction
-    array-copy-out-instruction
-    number-at-requires
-    mul-o
-    element-set-from-o
-    add-out
-    loop-less
-    loop-again
-    used-at-requires
-    enum-known-u
-    mul-o-2
-    element-set-from-o-2
-    add-out-2
-    loop-less-2
-    loop-again-2
-    enum-told
-    loop-less-3
-    loop-again-3
-    returns-2)
+    (tie.spec Inv-loop μ-loop (λ c κs. search needs) loop-holds (λ c. omega arith) (λ c. omega arith) returns (λ c. omega arith)
+    (λ c κs. search needs) (λ c. omega arith) (λ c. omega arith) (λ c. omega arith) (λ c κs. search needs) (λ c. omega arith) (λ c. omega arith)
+    (λ c. omega arith) (λ c. omega arith) loop-again (λ c κs. search needs) (λ c. search needs) (λ c. omega arith) (λ c. omega arith)
+    (λ c. omega arith) loop-less-2 loop-again-2 enum-told (λ c. omega arith) loop-again-3 returns-2)

@@ -21,9 +21,6 @@ Inv-loop kept late n out₀ i₀ out i = (i ≤ n) × (out .acting ≤ i) × (ou
 abbrev μ-loop : tie.MeasureT-loop
 μ-loop kept late n out₀ i₀ out i = n - i
 
-no-one-requires : tie.Need-no-one-requires Inv-loop μ-loop
-no-one-requires c κs = search needs
-
 -- forty places
 kept-long : (s : tie.Start Inv-loop μ-loop) → length (s .args .t1 .items) ≡ instructionPlaces
 kept-long s = simp map-length at (s .good .0 .1 .1 .0 .1 .0 .1)
@@ -34,15 +31,6 @@ loop-holds c =
     let s = c .before .args in
     (omega arith, omega arith, refl, λ end f. rw (c .no-one .ensures) (begun-none (actors end (take (s .t1 .count) (s .t1 .items)))))
 
-add-i : tie.Need-add-i Inv-loop μ-loop
-add-i c = omega arith
-
-array-read-if1 : tie.Need-array-read-if1 Inv-loop μ-loop
-array-read-if1 c = omega arith
-
-loop-less : tie.Need-loop-less Inv-loop μ-loop
-loop-less c = omega arith
-
 loop-again : tie.Need-loop-again Inv-loop μ-loop
 loop-again c =
     let s = c .before .before .before .before in
@@ -50,24 +38,6 @@ loop-again c =
     let ks = s .args .t1 .items in
     let n = s .args .t1 .count in
     (omega arith, omega arith, l .inv .2, λ end f. rw (actors-skip ks n (omega (arith, kept-long s)) end (l .i) (omega arith) (λ q. c .if1 .taken (f (l .i) (omega arith) ∙ q))) at (l .inv .3 end f))
-
-mul-o : tie.Need-mul-o Inv-loop μ-loop
-mul-o c = omega arith
-
-element-copy-out-o : tie.Need-element-copy-out-o Inv-loop μ-loop
-element-copy-out-o c = omega arith
-
-mul-o-2 : tie.Need-mul-o-2 Inv-loop μ-loop
-mul-o-2 c = omega arith
-
-element-set-from-o : tie.Need-element-set-from-o Inv-loop μ-loop
-element-set-from-o c = omega arith
-
-add-out : tie.Need-add-out Inv-loop μ-loop
-add-out c = omega arith
-
-loop-less-2 : tie.Need-loop-less-2 Inv-loop μ-loop
-loop-less-2 c = omega arith
 
 loop-again-2 : tie.Need-loop-again-2 Inv-loop μ-loop
 loop-again-2 c =
@@ -90,20 +60,5 @@ returns c =
 pub acts-of-spec : {M : Type 1} → statement M
 acts-of-spec =
     tie.close
-    (tie.spec
-    Inv-loop
-    μ-loop
-    no-one-requires
-    loop-holds
-    add-i
-    array-read-if1
-    loop-less
-    loop-again
-    mul-o
-    element-copy-out-o
-    mul-o-2
-    element-set-from-o
-    add-out
-    loop-less-2
-    loop-again-2
-    returns)
+    (tie.spec Inv-loop μ-loop (λ c κs. search needs) loop-holds (λ c. omega arith) (λ c. omega arith) (λ c. omega arith) loop-again
+    (λ c. omega arith) (λ c. omega arith) (λ c. omega arith) (λ c. omega arith) (λ c. omega arith) (λ c. omega arith) loop-again-2 returns)

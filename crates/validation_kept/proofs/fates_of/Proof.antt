@@ -24,30 +24,6 @@ loop-holds : tie.Need-loop-holds Inv-loop μ-loop
 unfolding filled fatesTo
 loop-holds c = (omega arith, refl, λ h. absurd (omega arith))
 
-add-i : tie.Need-add-i Inv-loop μ-loop
-add-i c = omega arith
-
-latest-of-requires : tie.Need-latest-of-requires Inv-loop μ-loop
-latest-of-requires c κs = search needs
-
-mul-superseded : tie.Need-mul-superseded Inv-loop μ-loop
-mul-superseded c = omega arith
-
-element-copy-out-superseded : tie.Need-element-copy-out-superseded Inv-loop μ-loop
-element-copy-out-superseded c = omega arith
-
-array-read-fate : tie.Need-array-read-fate Inv-loop μ-loop
-array-read-fate c = omega arith
-
-final-fate-requires : tie.Need-final-fate-requires Inv-loop μ-loop
-final-fate-requires c κs = search needs
-
-array-write-out : tie.Need-array-write-out Inv-loop μ-loop
-array-write-out c = omega arith
-
-loop-less : tie.Need-loop-less Inv-loop μ-loop
-loop-less c = omega arith
-
 loop-again : tie.Need-loop-again Inv-loop μ-loop
 loop-again c =
     let a = c .before .before .before .before .before .args in
@@ -65,17 +41,5 @@ returns c =
 pub fates-of-spec : {M : Type 1} → statement M
 fates-of-spec =
     tie.close
-    (tie.spec
-    Inv-loop
-    μ-loop
-    loop-holds
-    add-i
-    latest-of-requires
-    mul-superseded
-    element-copy-out-superseded
-    array-read-fate
-    final-fate-requires
-    array-write-out
-    loop-less
-    loop-again
-    returns)
+    (tie.spec Inv-loop μ-loop loop-holds (λ c. omega arith) (λ c κs. search needs) (λ c. omega arith) (λ c. omega arith) (λ c. omega arith)
+    (λ c κs. search needs) (λ c. omega arith) (λ c. omega arith) loop-again returns)

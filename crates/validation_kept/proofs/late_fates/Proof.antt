@@ -28,27 +28,6 @@ loop-holds c =
     let a = c .args in
     (omega arith, refl, λ ks g t. (sym (acting-none (left-none ks (a .n) (a .n) (omega arith))), λ j p q. absurd (omega arith)))
 
-sub-i : tie.Need-sub-i Inv-loop μ-loop
-sub-i c = omega arith
-
-mul-own : tie.Need-mul-own Inv-loop μ-loop
-mul-own c = omega arith
-
-element-copy-out-own : tie.Need-element-copy-out-own Inv-loop μ-loop
-element-copy-out-own c = omega arith
-
-late-fate-requires : tie.Need-late-fate-requires Inv-loop μ-loop
-late-fate-requires c κs = search needs
-
-array-write-out : tie.Need-array-write-out Inv-loop μ-loop
-array-write-out c = omega arith
-
-smaller-long-requires : tie.Need-smaller-long-requires Inv-loop μ-loop
-smaller-long-requires c κs = search needs
-
-loop-less : tie.Need-loop-less Inv-loop μ-loop
-loop-less c = omega arith
-
 -- one more from the back
 set-at : (fates : List ℕ) (i v : ℕ) (at : ℕ → ℕ) → i < length fates → v ≡ at i → (j : ℕ) → ((j ≡ i → ⊥) → getD fates j 0 ≡ at j) → getD (set fates i v) j 0 ≡ at j
 set-at fates i v at h e j r = elim (ℕ-discrete j i) [
@@ -83,16 +62,5 @@ returns c =
 pub late-fates-spec : {M : Type 1} → statement M
 late-fates-spec =
     tie.close
-    (tie.spec
-    Inv-loop
-    μ-loop
-    loop-holds
-    sub-i
-    mul-own
-    element-copy-out-own
-    late-fate-requires
-    array-write-out
-    smaller-long-requires
-    loop-less
-    loop-again
-    returns)
+    (tie.spec Inv-loop μ-loop loop-holds (λ c. omega arith) (λ c. omega arith) (λ c. omega arith) (λ c κs. search needs) (λ c. omega arith)
+    (λ c κs. search needs) (λ c. omega arith) loop-again returns)

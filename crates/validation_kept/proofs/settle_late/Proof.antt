@@ -23,21 +23,6 @@ abbrev μ-loop : tie.MeasureT-loop
 loop-holds : tie.Need-loop-holds Inv-loop μ-loop
 loop-holds c = (omega arith, omega (arith, c .good .1 .1 .1 .0 .1 .0 .1), λ end ks g k f. refl)
 
-mul-number : tie.Need-mul-number Inv-loop μ-loop
-mul-number c = omega arith
-
-element-copy-out-number : tie.Need-element-copy-out-number Inv-loop μ-loop
-element-copy-out-number c = omega arith
-
-array-read-fate : tie.Need-array-read-fate Inv-loop μ-loop
-array-read-fate c = omega arith
-
-add-i : tie.Need-add-i Inv-loop μ-loop
-add-i c = omega arith
-
-loop-less : tie.Need-loop-less Inv-loop μ-loop
-loop-less c = omega arith
-
 -- the one at the place i has its fate
 more : (x : tie.In-loop Inv-loop μ-loop) (next : List ℕ) → next ≡ settleFate (x .before .loop .out) (getD (x .before .before .args .numbers .now) (x .before .loop .i) 0) (getD (x .before .before .args .t3) (x .before .loop .i) 0) →
     (end : ℕ) (ks : List Numbered) → x .before .before .args .n ≤ length ks → Noted entryNumber (x .before .before .args .numbers .now) ks (x .before .before .args .n) → LateFates end ks (x .before .before .args .n) (x .before .before .args .t3) →
@@ -52,35 +37,17 @@ loop-again : tie.Need-loop-again Inv-loop μ-loop
 loop-again c =
     (omega arith, c .before .before .before .loop .inv .1, more (c .before .before) _ (settle-zero _ _ _ (c .if1 .taken)))
 
-place-of-requires : tie.Need-place-of-requires Inv-loop μ-loop
-place-of-requires c κs = search needs
-
-loop-less-2 : tie.Need-loop-less-2 Inv-loop μ-loop
-loop-less-2 c = omega arith
-
 loop-again-2 : tie.Need-loop-again-2 Inv-loop μ-loop
 loop-again-2 c =
     let x = c .before .before .before .before in
     let long = x .before .loop .inv .1 in
     (omega arith, long, more x _ (settle-large _ _ _ long (omega arith)))
 
-array-read-if3 : tie.Need-array-read-if3 Inv-loop μ-loop
-array-read-if3 c = omega arith
-
-loop-less-3 : tie.Need-loop-less-3 Inv-loop μ-loop
-loop-less-3 c = omega arith
-
 loop-again-3 : tie.Need-loop-again-3 Inv-loop μ-loop
 loop-again-3 c =
     let x = c .before .before .before .before .before in
     let place = c .before .before .place-of .ensures in
     (omega arith, x .before .loop .inv .1, more x _ (settle-done _ _ _ (omega arith) (rw place at (c .if3 .taken))))
-
-array-write-out : tie.Need-array-write-out Inv-loop μ-loop
-array-write-out c = omega arith
-
-loop-less-4 : tie.Need-loop-less-4 Inv-loop μ-loop
-loop-less-4 c = omega arith
 
 loop-again-4 : tie.Need-loop-again-4 Inv-loop μ-loop
 loop-again-4 c =
@@ -98,23 +65,6 @@ returns c =
 pub settle-late-spec : {M : Type 1} → statement M
 settle-late-spec =
     tie.close
-    (tie.spec
-    Inv-loop
-    μ-loop
-    loop-holds
-    mul-number
-    element-copy-out-number
-    array-read-fate
-    add-i
-    loop-less
-    loop-again
-    place-of-requires
-    loop-less-2
-    loop-again-2
-    array-read-if3
-    loop-less-3
-    loop-again-3
-    array-write-out
-    loop-less-4
-    loop-again-4
-    returns)
+    (tie.spec Inv-loop μ-loop loop-holds (λ c. omega arith) (λ c. omega arith) (λ c. omega arith) (λ c. omega arith) (λ c. omega arith) loop-again
+    (λ c κs. search needs) (λ c. omega arith) loop-again-2 (λ c. omega arith) (λ c. omega arith) loop-again-3 (λ c. omega arith) (λ c. omega arith)
+    loop-again-4 returns)

@@ -19,30 +19,6 @@ loop-holds c =
     let s = c .args in
     (omega arith, omega arith, omega arith, timed-none (s .t1) (s .times .now) (s .issues .now))
 
-mul-instruction : tie.Need-mul-instruction Inv-loop μ-loop
-mul-instruction c = omega arith
-
-array-copy-out-instruction : tie.Need-array-copy-out-instruction Inv-loop μ-loop
-array-copy-out-instruction c = omega arith
-
-mul-times : tie.Need-mul-times Inv-loop μ-loop
-mul-times c = omega arith
-
-element-write-times : tie.Need-element-write-times Inv-loop μ-loop
-element-write-times c = omega arith
-
-mul-issues : tie.Need-mul-issues Inv-loop μ-loop
-mul-issues c = omega arith
-
-element-write-issues : tie.Need-element-write-issues Inv-loop μ-loop
-element-write-issues c = omega arith
-
-add-i : tie.Need-add-i Inv-loop μ-loop
-add-i c = omega arith
-
-loop-less : tie.Need-loop-less Inv-loop μ-loop
-loop-less c = omega arith
-
 loop-again : tie.Need-loop-again Inv-loop μ-loop
 loop-again c =
     let s = c .before .before .before in
@@ -60,17 +36,5 @@ returns c =
 pub time-all-spec : {M : Type 1} → statement M
 time-all-spec =
     tie.close
-    (tie.spec
-    Inv-loop
-    μ-loop
-    loop-holds
-    mul-instruction
-    array-copy-out-instruction
-    mul-times
-    element-write-times
-    mul-issues
-    element-write-issues
-    add-i
-    loop-less
-    loop-again
-    returns)
+    (tie.spec Inv-loop μ-loop loop-holds (λ c. omega arith) (λ c. omega arith) (λ c. omega arith) (λ c. omega arith) (λ c. omega arith)
+    (λ c. omega arith) (λ c. omega arith) (λ c. omega arith) loop-again returns)

@@ -14,43 +14,16 @@ use borrow.Author.Needs.{needs}
 use Rattle.validation_kept.proofs.validate.Statement.{statement}
 use Rattle.validation_kept.proofs.validate.Tie as tie
 
-none-entered-requires : tie.Need-none-entered-requires
-none-entered-requires c κs = search needs
-
 returns : tie.Need-returns
 unfolding filled
 returns c =
     let a = c .before .before .args in
     c .none-entered .ensures ∙ nothing-entered (a .instructions) (a .count) (a .end) (c .before .if1 .taken)
 
-smaller-count-requires : tie.Need-smaller-count-requires
-smaller-count-requires c κs = search needs
-
-time-all-requires : tie.Need-time-all-requires
-time-all-requires c κs = search needs
-
-in-order-requires : tie.Need-in-order-requires
-in-order-requires c κs = search needs
-
-used-in-requires : tie.Need-used-in-requires
-used-in-requires c κs = search needs
-
-check-all-requires : tie.Need-check-all-requires
-check-all-requires c κs = search needs
-
-late-fates-requires : tie.Need-late-fates-requires
-late-fates-requires c κs = search needs
-
-settle-late-requires : tie.Need-settle-late-requires
-settle-late-requires c κs = search needs
-
 fates-of-requires : tie.Need-fates-of-requires
 fates-of-requires c κs =
     let q = c .before .before .before .before .before .before .before .before .before .before .before .before .before .before .before .time-all .ensures in
     (omega (arith, c .before .before .before .before .before .before .before .before .before .before .before .before .before .before .before .before .before .before .smaller-count .ensures), q .0, q .1, c .before .before .before .before .before .before .before .before .before .before .before .before .before .in-order .ensures)
-
-acts-of-requires : tie.Need-acts-of-requires
-acts-of-requires c κs = search needs
 
 returns-2 : tie.Need-returns-2
 returns-2 c =
@@ -76,16 +49,5 @@ returns-2 c =
 pub validate-spec : {M : Type 1} → statement M
 validate-spec =
     tie.close
-    (tie.spec
-    none-entered-requires
-    returns
-    smaller-count-requires
-    time-all-requires
-    in-order-requires
-    used-in-requires
-    check-all-requires
-    late-fates-requires
-    settle-late-requires
-    fates-of-requires
-    acts-of-requires
-    returns-2)
+    (tie.spec (λ c κs. search needs) returns (λ c κs. search needs) (λ c κs. search needs) (λ c κs. search needs) (λ c κs. search needs)
+    (λ c κs. search needs) (λ c κs. search needs) (λ c κs. search needs) fates-of-requires (λ c κs. search needs) returns-2)

@@ -3,12 +3,6 @@ use borrow.Author.Needs.{needs}
 use Rattle.validation_rank.proofs.better.Statement.{statement}
 use Rattle.validation_rank.proofs.better.Tie as tie
 
-enum-known-best : tie.Need-enum-known-best
-enum-known-best c = search needs
-
-higher-requires : tie.Need-higher-requires
-higher-requires c κs = search needs
-
 enum-told : tie.Need-enum-told
 enum-told c = search needs
 
@@ -19,4 +13,4 @@ returns-2 : tie.Need-returns-2
 returns-2 c = better-none _ _ (c .enum-told .given .1)
 
 pub better-spec : {M : Type 1} → statement M
-better-spec = tie.close (tie.spec enum-known-best higher-requires enum-told returns returns-2)
+better-spec = tie.close (tie.spec (λ c. search needs) (λ c κs. search needs) enum-told returns returns-2)

@@ -4,9 +4,6 @@ use borrow.Author.Needs.{needs}
 use Rattle.validation_rank.proofs.higher.Statement.{statement}
 use Rattle.validation_rank.proofs.higher.Tie as tie
 
-goes-before-requires : tie.Need-goes-before-requires
-goes-before-requires c κs = search needs
-
 returns : tie.Need-returns
 returns c = higher-yes _ _ (sym (c .before .goes-before .ensures) ∙ c .if1 .taken)
 
@@ -14,4 +11,4 @@ returns-2 : tie.Need-returns-2
 returns-2 c = higher-no _ _ (sym (c .before .goes-before .ensures) ∙ c .if1 .left)
 
 pub higher-spec : {M : Type 1} → statement M
-higher-spec = tie.close (tie.spec goes-before-requires returns returns-2)
+higher-spec = tie.close (tie.spec (λ c κs. search needs) returns returns-2)

@@ -7,17 +7,8 @@ use borrow.Author.Needs.{needs}
 use Rattle.validation_rank.proofs.merge.Statement.{statement}
 use Rattle.validation_rank.proofs.merge.Tie as tie
 
-has-code-requires : tie.Need-has-code-requires
-has-code-requires c κs = search needs
-
 returns : tie.Need-returns
 returns c = λ g e. merged-other _ _ (sym (c .before .has-code .ensures) ∙ not-true _ (c .if1 .taken))
-
-enum-known-carrier : tie.Need-enum-known-carrier
-enum-known-carrier c = search needs
-
-carry-requires : tie.Need-carry-requires
-carry-requires c κs = search needs
 
 enum-told : tie.Need-enum-told
 enum-told c = search needs
@@ -33,13 +24,4 @@ returns-3 c =
     λ g e. merged-alone g (a .highest) (a .carrier) (sym (c .before .before .before .has-code .ensures) ∙ not-false _ (c .before .before .if1 .left)) e (c .enum-told .given .1)
 
 pub merge-spec : {M : Type 1} → statement M
-merge-spec =
-    tie.close
-    (tie.spec
-    has-code-requires
-    returns
-    enum-known-carrier
-    carry-requires
-    enum-told
-    returns-2
-    returns-3)
+merge-spec = tie.close (tie.spec (λ c κs. search needs) returns (λ c. search needs) (λ c κs. search needs) enum-told returns-2 returns-3)

@@ -4,9 +4,6 @@ use borrow.Author.Needs.{needs}
 use Rattle.validation_rank.proofs.of_code.Statement.{statement}
 use Rattle.validation_rank.proofs.of_code.Tie as tie
 
-has-code-requires : tie.Need-has-code-requires
-has-code-requires c κs = search needs
-
 returns : tie.Need-returns
 returns c = code-same _ _ (sym (c .before .has-code .ensures) ∙ c .if1 .taken)
 
@@ -14,4 +11,4 @@ returns-2 : tie.Need-returns-2
 returns-2 c = code-other _ _ (sym (c .before .has-code .ensures) ∙ c .if1 .left)
 
 pub of-code-spec : {M : Type 1} → statement M
-of-code-spec = tie.close (tie.spec has-code-requires returns returns-2)
+of-code-spec = tie.close (tie.spec (λ c κs. search needs) returns returns-2)

@@ -6,15 +6,6 @@ use borrow.Author.Needs.{needs}
 use Rattle.validation_rank.proofs.used_of.Statement.{statement}
 use Rattle.validation_rank.proofs.used_of.Tie as tie
 
-enum-known-best : tie.Need-enum-known-best
-enum-known-best c = search needs
-
-or-else-requires : tie.Need-or-else-requires
-or-else-requires c κs = search needs
-
-merge-requires : tie.Need-merge-requires
-merge-requires c κs = search needs
-
 enum-told : tie.Need-enum-told
 enum-told c = search needs
 
@@ -27,6 +18,4 @@ returns-2 c =
     λ g p q r. used-none g (sym (ap foundList (c .enum-told .given .1)) ∙ p)
 
 pub used-of-spec : {M : Type 1} → statement M
-used-of-spec =
-    tie.close
-    (tie.spec enum-known-best or-else-requires merge-requires enum-told returns returns-2)
+used-of-spec = tie.close (tie.spec (λ c. search needs) (λ c κs. search needs) (λ c κs. search needs) enum-told returns returns-2)

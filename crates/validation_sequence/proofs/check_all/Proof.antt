@@ -27,21 +27,6 @@ loop-holds c =
     let s = c .before in
     checks-none (s .args .used .count) (s .args .used .items) _ (s .args .fates .now) (s .args .numbers .now) (s .args .times .now) (s .pre .0) (used-long s) refl (s .pre .1) (s .pre .2) (s .pre .3)
 
-mul-o : tie.Need-mul-o Inv-loop μ-loop
-mul-o c = omega arith
-
-array-copy-out-o : tie.Need-array-copy-out-o Inv-loop μ-loop
-array-copy-out-o c = omega arith
-
-add-i : tie.Need-add-i Inv-loop μ-loop
-add-i c = omega arith
-
-latest-sync-requires : tie.Need-latest-sync-requires Inv-loop μ-loop
-latest-sync-requires c κs = search needs
-
-has-code-requires : tie.Need-has-code-requires Inv-loop μ-loop
-has-code-requires c κs = search needs
-
 -- the latest kept SYNC is as noted
 module _ (x : tie.After-has-code Inv-loop μ-loop) where
   place-is : x .before .latest-sync .result ≡ syncPlace (x .before .before .before .before .before .loop .items) (x .before .before .before .before .before .loop .count)
@@ -49,9 +34,6 @@ module _ (x : tie.After-has-code Inv-loop μ-loop) where
 
   place-low : x .before .latest-sync .result ≤ x .before .before .before .before .before .loop .count
   place-low = let l = x .before .before .before .before .before .loop in omega (arith, place-is, sync-le (l .items) (l .count))
-
-place-before-requires : tie.Need-place-before-requires Inv-loop μ-loop
-place-before-requires c κs = search needs
 
 mul-sync : tie.Need-mul-sync Inv-loop μ-loop
 mul-sync c = omega (arith, place-low (c .before .before))
@@ -65,9 +47,6 @@ fail-one-requires c κs =
     let l = x .before .before .before .before .before .loop in
     (place-low x, omega arith, l .inv .fates-long)
 
-loop-less : tie.Need-loop-less Inv-loop μ-loop
-loop-less c = omega arith
-
 loop-again : tie.Need-loop-again Inv-loop μ-loop
 loop-again c =
     let x = c .before .before .before .before .before .before in
@@ -78,24 +57,6 @@ loop-again c =
     let r = c .fail-one in
     let f = check-fail (checking (l .items) (l .count) (l .fates)) o fail (r .ensures .2 (l .items) (l .inv .stepped .named) (place-is x) sync) in
     checks-on (l .inv) (omega arith) (r .result) (r .last .1 .1 .1 .1 .1 .0) (r .ensures .0) (r .ensures .1) f
-
-place-before-requires-2 : tie.Need-place-before-requires-2 Inv-loop μ-loop
-place-before-requires-2 c κs = search needs
-
-mul-last : tie.Need-mul-last Inv-loop μ-loop
-mul-last c = omega arith
-
-array-copy-out-last : tie.Need-array-copy-out-last Inv-loop μ-loop
-array-copy-out-last c = omega arith
-
-is-repeat-requires : tie.Need-is-repeat-requires Inv-loop μ-loop
-is-repeat-requires c κs = search needs
-
-put-fate-requires : tie.Need-put-fate-requires Inv-loop μ-loop
-put-fate-requires c κs = search needs
-
-loop-less-2 : tie.Need-loop-less-2 Inv-loop μ-loop
-loop-less-2 c = omega arith
 
 loop-again-2 : tie.Need-loop-again-2 Inv-loop μ-loop
 unfolding withFate
@@ -109,42 +70,6 @@ loop-again-2 c =
     let e = c .put-fate .ensures in
     let f = check-repeat (checking (l .items) (l .count) (l .fates)) o other told in
     checks-on (l .inv) (omega arith) (l .count) _ (omega arith) (ap length e ∙ (set-length (l .fates) (o .number) 3 ∙ l .inv .fates-long)) (rw e f)
-
-mul-items : tie.Need-mul-items Inv-loop μ-loop
-mul-items c = omega arith
-
-array-set-from-items : tie.Need-array-set-from-items Inv-loop μ-loop
-array-set-from-items c = omega arith
-
-sync-with-requires : tie.Need-sync-with-requires Inv-loop μ-loop
-sync-with-requires c κs = search needs
-
-mul-places : tie.Need-mul-places Inv-loop μ-loop
-mul-places c = omega arith
-
-array-write-places : tie.Need-array-write-places Inv-loop μ-loop
-array-write-places c = omega arith
-
-mul-numbers : tie.Need-mul-numbers Inv-loop μ-loop
-mul-numbers c = omega arith
-
-element-write-numbers : tie.Need-element-write-numbers Inv-loop μ-loop
-element-write-numbers c = omega arith
-
-acting-time-requires : tie.Need-acting-time-requires Inv-loop μ-loop
-acting-time-requires c κs = search needs
-
-mul-times : tie.Need-mul-times Inv-loop μ-loop
-mul-times c = omega arith
-
-element-write-times : tie.Need-element-write-times Inv-loop μ-loop
-element-write-times c = omega arith
-
-add-count : tie.Need-add-count Inv-loop μ-loop
-add-count c = omega arith
-
-loop-less-3 : tie.Need-loop-less-3 Inv-loop μ-loop
-loop-less-3 c = omega arith
 
 loop-again-3 : tie.Need-loop-again-3 Inv-loop μ-loop
 loop-again-3 c =
@@ -169,39 +94,8 @@ returns c =
 pub check-all-spec : {M : Type 1} → statement M
 check-all-spec =
     tie.close
-    (tie.spec
-    Inv-loop
-    μ-loop
-    loop-holds
-    mul-o
-    array-copy-out-o
-    add-i
-    latest-sync-requires
-    has-code-requires
-    place-before-requires
-    mul-sync
-    array-copy-out-sync
-    fail-one-requires
-    loop-less
-    loop-again
-    place-before-requires-2
-    mul-last
-    array-copy-out-last
-    is-repeat-requires
-    put-fate-requires
-    loop-less-2
-    loop-again-2
-    mul-items
-    array-set-from-items
-    sync-with-requires
-    mul-places
-    array-write-places
-    mul-numbers
-    element-write-numbers
-    acting-time-requires
-    mul-times
-    element-write-times
-    add-count
-    loop-less-3
-    loop-again-3
-    returns)
+    (tie.spec Inv-loop μ-loop loop-holds (λ c. omega arith) (λ c. omega arith) (λ c. omega arith) (λ c κs. search needs) (λ c κs. search needs)
+    (λ c κs. search needs) mul-sync array-copy-out-sync fail-one-requires (λ c. omega arith) loop-again (λ c κs. search needs) (λ c. omega arith)
+    (λ c. omega arith) (λ c κs. search needs) (λ c κs. search needs) (λ c. omega arith) loop-again-2 (λ c. omega arith) (λ c. omega arith)
+    (λ c κs. search needs) (λ c. omega arith) (λ c. omega arith) (λ c. omega arith) (λ c. omega arith) (λ c κs. search needs) (λ c. omega arith)
+    (λ c. omega arith) (λ c. omega arith) (λ c. omega arith) loop-again-3 returns)

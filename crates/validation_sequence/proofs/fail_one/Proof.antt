@@ -17,9 +17,6 @@ use borrow.Author.Needs.{needs}
 use Rattle.validation_sequence.proofs.fail_one.Statement.{statement}
 use Rattle.validation_sequence.proofs.fail_one.Tie as tie
 
-put-fate-requires : tie.Need-put-fate-requires
-put-fate-requires c κs = search needs
-
 returns : tie.Need-returns
 unfolding withFate
 returns c =
@@ -30,12 +27,6 @@ returns c =
       ap length e ∙ (set-length (a .fates .now) (a .o .number) 5 ∙ s .pre .2),
       λ ks t p q. rw e (failed-none (checking ks (a .height) (a .fates .now)) (a .o) (sym p ∙ c .before .before .if1 .taken)),
     )
-
-within-hour-requires : tie.Need-within-hour-requires
-within-hour-requires c κs = search needs
-
-put-fate-requires-2 : tie.Need-put-fate-requires-2
-put-fate-requires-2 c κs = search needs
 
 -- the one before the place is a SYNC
 sync-told : (s : tie.Start) (ks : List Numbered) → s .args .place ≡ syncPlace ks (s .args .height) → s .args .sync ≡ getD ks (s .args .place - 1) noNumbered → 0 < s .args .place → same (effectOf (s .args .sync)) Sync ≡ true
@@ -53,12 +44,6 @@ returns-2 c =
       λ ks t p q. let w = sym (hour .ensures (sync-told s ks p q (omega arith))) ∙ not-true _ (c .before .before .if2 .taken) in
           rw e (failed-late (checking ks (a .height) (a .fates .now)) (a .o) (omega arith) (rw (q, p) at w)),
     )
-
-sub-below : tie.Need-sub-below
-sub-below c = search needs
-
-void-from-requires : tie.Need-void-from-requires
-void-from-requires c κs = search needs
 
 put-fate-requires-3 : tie.Need-put-fate-requires-3
 put-fate-requires-3 c κs = c .before .void-from .ensures .0
@@ -79,13 +64,5 @@ returns-3 c =
 pub fail-one-spec : {M : Type 1} → statement M
 fail-one-spec =
     tie.close
-    (tie.spec
-    put-fate-requires
-    returns
-    within-hour-requires
-    put-fate-requires-2
-    returns-2
-    sub-below
-    void-from-requires
-    put-fate-requires-3
-    returns-3)
+    (tie.spec (λ c κs. search needs) returns (λ c κs. search needs) (λ c κs. search needs) returns-2 (λ c. search needs) (λ c κs. search needs)
+    put-fate-requires-3 returns-3)

@@ -9,16 +9,10 @@ use Rattle.validation_sequence.proofs.is_repeat.Tie as tie
 returns : tie.Need-returns
 returns c = λ ks e. repeats-none _ _ ks _ e (c .if1 .taken)
 
-has-code-requires : tie.Need-has-code-requires
-has-code-requires c κs = search needs
-
 returns-2 : tie.Need-returns-2
 returns-2 c =
     let other = sym (c .before .has-code .ensures) ∙ not-true _ (c .if2 .taken) in
     λ ks e. repeats-other _ _ ks _ e (omega arith) other
-
-has-code-requires-2 : tie.Need-has-code-requires-2
-has-code-requires-2 c κs = search needs
 
 returns-3 : tie.Need-returns-3
 returns-3 c =
@@ -26,18 +20,12 @@ returns-3 c =
     let sync = sym (c .before .has-code2 .ensures) ∙ c .if3 .taken in
     λ ks e. repeats-sync _ _ ks _ e (omega arith) last sync
 
-has-code-requires-3 : tie.Need-has-code-requires-3
-has-code-requires-3 c κs = search needs
-
 returns-4 : tie.Need-returns-4
 returns-4 c =
     let last = sym (c .before .before .before .before .before .has-code .ensures) ∙ not-false _ (c .before .before .before .before .if2 .left) in
     let sync = sym (c .before .before .before .has-code2 .ensures) ∙ c .before .before .if3 .left in
     let desy = sym (c .before .has-code3 .ensures) ∙ c .if4 .taken in
     λ ks e. repeats-desy _ _ ks _ e (omega arith) last sync desy
-
-has-code-requires-4 : tie.Need-has-code-requires-4
-has-code-requires-4 c κs = search needs
 
 returns-5 : tie.Need-returns-5
 returns-5 c =
@@ -49,13 +37,5 @@ returns-5 c =
 pub is-repeat-spec : {M : Type 1} → statement M
 is-repeat-spec =
     tie.close
-    (tie.spec
-    returns
-    has-code-requires
-    returns-2
-    has-code-requires-2
-    returns-3
-    has-code-requires-3
-    returns-4
-    has-code-requires-4
+    (tie.spec returns (λ c κs. search needs) returns-2 (λ c κs. search needs) returns-3 (λ c κs. search needs) returns-4 (λ c κs. search needs)
     returns-5)

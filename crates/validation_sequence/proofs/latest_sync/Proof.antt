@@ -7,20 +7,10 @@ use Rattle.validation_sequence.proofs.latest_sync.Tie as tie
 returns : tie.Need-returns
 returns c = λ ks r. sync-none ks _ (c .if1 .taken)
 
-sub-result : tie.Need-sub-result
-sub-result c = search needs
-
-mul-result : tie.Need-mul-result
-mul-result c = search needs
-
-element-copy-out-result : tie.Need-element-copy-out-result
-element-copy-out-result c = search needs
-
 returns-2 : tie.Need-returns-2
 returns-2 c =
     let a = c .before .before .args in
     λ ks r. sync-noted (a .places .now) ks (a .height) (omega arith) r
 
 pub latest-sync-spec : {M : Type 1} → statement M
-latest-sync-spec =
-    tie.close (tie.spec returns sub-result mul-result element-copy-out-result returns-2)
+latest-sync-spec = tie.close (tie.spec returns (λ c. search needs) (λ c. search needs) (λ c. search needs) returns-2)

@@ -7,17 +7,11 @@ use Rattle.validation_sequence.proofs.put_fate.Tie as tie
 returns : tie.Need-returns
 returns c = set-zero _ _ _ (c .if1 .taken)
 
-place-of-requires : tie.Need-place-of-requires
-place-of-requires c κs = search needs
-
 returns-2 : tie.Need-returns-2
 returns-2 c = set-large _ _ _ (omega arith) (omega arith)
-
-element-write-fates : tie.Need-element-write-fates
-element-write-fates c = search needs
 
 returns-3 : tie.Need-returns-3
 returns-3 c = rw (c .before .place-of .ensures) (set-some _ _ _ (c .before .before .if1 .left))
 
 pub put-fate-spec : {M : Type 1} → statement M
-put-fate-spec = tie.close (tie.spec returns place-of-requires returns-2 element-write-fates returns-3)
+put-fate-spec = tie.close (tie.spec returns (λ c κs. search needs) returns-2 (λ c. search needs) returns-3)

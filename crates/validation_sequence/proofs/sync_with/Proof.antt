@@ -4,17 +4,11 @@ use borrow.Author.Needs.{needs}
 use Rattle.validation_sequence.proofs.sync_with.Statement.{statement}
 use Rattle.validation_sequence.proofs.sync_with.Tie as tie
 
-has-code-requires : tie.Need-has-code-requires
-has-code-requires c κs = search needs
-
 returns : tie.Need-returns
 returns c = rw (sym (c .before .has-code .ensures) ∙ not-true _ (c .if1 .taken))
-
-add-result : tie.Need-add-result
-add-result c = search needs
 
 returns-2 : tie.Need-returns-2
 returns-2 c = rw (sym (c .before .has-code .ensures) ∙ not-false _ (c .if1 .left))
 
 pub sync-with-spec : {M : Type 1} → statement M
-sync-with-spec = tie.close (tie.spec has-code-requires returns add-result returns-2)
+sync-with-spec = tie.close (tie.spec (λ c κs. search needs) returns (λ c. search needs) returns-2)

@@ -24,21 +24,6 @@ loop-holds c =
     let z : a .from - a .from ≡ 0 = omega arith in
     (omega arith, omega arith, omega arith, λ ks e. sym (ap (λ (k : ℕ). marked (a .fates .now) (map (mark 4) (stackFrom ks (a .from) k))) z ∙ voided-none (a .fates .now) ks (a .from)))
 
-mul-number : tie.Need-mul-number Inv-loop μ-loop
-mul-number c = omega arith
-
-element-copy-out-number : tie.Need-element-copy-out-number Inv-loop μ-loop
-element-copy-out-number c = omega arith
-
-put-fate-requires : tie.Need-put-fate-requires Inv-loop μ-loop
-put-fate-requires c κs = search needs
-
-add-i : tie.Need-add-i Inv-loop μ-loop
-add-i c = omega arith
-
-loop-less : tie.Need-loop-less Inv-loop μ-loop
-loop-less c = omega arith
-
 loop-again : tie.Need-loop-again Inv-loop μ-loop
 loop-again c =
     let a = c .before .before .before .before .before .args in
@@ -65,14 +50,5 @@ returns c =
 pub void-from-spec : {M : Type 1} → statement M
 void-from-spec =
     tie.close
-    (tie.spec
-    Inv-loop
-    μ-loop
-    loop-holds
-    mul-number
-    element-copy-out-number
-    put-fate-requires
-    add-i
-    loop-less
-    loop-again
-    returns)
+    (tie.spec Inv-loop μ-loop loop-holds (λ c. omega arith) (λ c. omega arith) (λ c κs. search needs) (λ c. omega arith) (λ c. omega arith)
+    loop-again returns)
