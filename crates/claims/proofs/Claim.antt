@@ -53,7 +53,8 @@ module _ (d : Day) (rs : List (List ℕ)) (m : Made d rs) (c : d .closed ≡ tru
   unfolding arraysOf foundFrom foundIn
   sums-stored =
       ap (λ (f : Finding). f .sums) (m .stored c)
-      ∙ filled-whole 0 boundaryPlaces (foundFrom rs .sums) (ap length (found-sums halfHours (takenIn rs)) ∙ list-length (recordedTo (spans halfHours (takenIn rs))) 0 (suc halfHours))
+      ∙ filled-whole 0 boundaryPlaces (foundFrom rs .sums)
+      (ap length (found-sums halfHours (takenIn rs)) ∙ list-length (recordedTo (spans halfHours (takenIn rs))) 0 (suc halfHours))
 
   fit : Fit (unitIn rs)
   unfolding unitIn
@@ -86,14 +87,16 @@ module _ (d : Day) (rs : List (List ℕ)) (m : Made d rs) (c : d .closed ≡ tru
   printed-near w e =
       quantities-near halfHours (spansFrom rs) chain drives (λ i. printedKw w (suc i))
       (λ i h. ap (λ (v : List ℕ). printedKw v (suc i)) e
-      ∙ (printed-kw (fatesIn d) (dayPieces (spansOf (d .taken .unit) daySeconds (coursesIn d))) (quantitiesIn d) (closingIn d) i (omega (arith, many)) ∙ quantity-is i h))
+      ∙ (printed-kw (fatesIn d) (dayPieces (spansOf (d .taken .unit) daySeconds (coursesIn d))) (quantitiesIn d) (closingIn d) i (omega (arith, many))
+      ∙ quantity-is i h))
 
   one-each : (w : List ℕ) → w ≡ printedDay d → Single w
   unfolding printedDay printedKw
   one-each w e h lo hi =
       let f : printedAt w h ≡ getD (quantitiesIn d) (h - 1) 0 ∷ [] =
       ap (λ (v : List ℕ). printedAt v h) e
-      ∙ printed (fatesIn d) (dayPieces (spansOf (d .taken .unit) daySeconds (coursesIn d))) (quantitiesIn d) (closingIn d) h lo (omega (arith, many)) in
+      ∙ printed (fatesIn d) (dayPieces (spansOf (d .taken .unit) daySeconds (coursesIn d))) (quantitiesIn d) (closingIn d) h lo (omega (arith, many))
+      in
       f ∙ ap (λ (l : List ℕ). firstOf l ∷ []) (sym f)
 
   demand : (ws : List (List ℕ)) → All (λ w. w ≡ printedDay d) ws → Demand3 (spansFrom rs) (quantitiesIn d) ws

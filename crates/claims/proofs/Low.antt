@@ -38,7 +38,9 @@ module _ (ns : List ℕ) (a : unitAnswer ns ≡ Accepted) where
   unfolding disagrees
   capacity-low =
       let u : UnitData = unitOf ns in
-      let e = or-false (some (λ (c : Column). falls (c .breaks)) (u .columns) || (falls (u .up .breaks) || (falls (u .down .breaks) || falls (u .deload .breaks)))) _ agrees .1 in
+      let e =
+      or-false (some (λ (c : Column). falls (c .breaks)) (u .columns) ||
+      (falls (u .up .breaks) || (falls (u .down .breaks) || falls (u .deload .breaks)))) _ agrees .1 in
       ltb-false (u .maximum) (u .capacity) (or-false (ltb (u .maximum) (u .capacity)) _ e .0)
 
   pub maximum-low : unitOf ns .maximum ≤ 2000000
@@ -51,7 +53,8 @@ heat-low b a =
     let o : Opening = openingOf b in
     let fit = is (openingFits o) a in
     let e = and-true (leb (o .target) 2000000) _ (and-true (leb (o .level) 120000000) _ fit .1) .1 in
-    leb-true (o .heat) 3 (and-true (leb 1 (o .heat)) (leb (o .heat) 3) (and-true (leb 1 (o .heat) && leb (o .heat) 3) (leb (o .off) 10000000) e .0) .1)
+    leb-true (o .heat) 3 (and-true (leb 1 (o .heat)) (leb (o .heat) 3)
+    (and-true (leb 1 (o .heat) && leb (o .heat) 3) (leb (o .off) 10000000) e .0) .1)
   where
     is : (x : Bool) → refusing (not x) OpeningField ≡ Accepted → x ≡ true
     is true e = refl

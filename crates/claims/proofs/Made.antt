@@ -48,7 +48,8 @@ front-body : (s : List ℕ) → bodyOf (front s) ≡ bodyOf s
 unfolding bodyOf
 front-body s =
     ap (λ (k : ℕ). take (sizeOf k - 1) (drop 1 (front s))) (front-kind s)
-    ∙ (ap (take (sizeOf (kindOf s) - 1)) (drop-front (sizeOf (kindOf s)) s (some-size (kindOf s))) ∙ take-take (sizeOf (kindOf s) - 1) (sizeOf (kindOf s) - 1) (drop 1 s) (omega arith))
+    ∙ (ap (take (sizeOf (kindOf s) - 1)) (drop-front (sizeOf (kindOf s)) s (some-size (kindOf s)))
+    ∙ take-take (sizeOf (kindOf s) - 1) (sizeOf (kindOf s) - 1) (drop 1 s) (omega arith))
 
 -- ---- one more record let in
 abbrev pub with-one : List (List ℕ) → List ℕ → List (List ℕ)
@@ -57,7 +58,8 @@ with-one rs s = rs ++ (front s ∷ [])
 those-append : (f : List ℕ → Bool) (xs ys : List (List ℕ)) → those f (xs ++ ys) ≡ those f xs ++ those f ys
 unfolding those
 those-append f [] ys = refl
-those-append f (x ∷ xs) ys = by-bool (f x) (λ e. simp e (ap (λ (l : List (List ℕ)). x ∷ l) (those-append f xs ys))) (λ e. simp e (those-append f xs ys))
+those-append f (x ∷ xs) ys =
+    by-bool (f x) (λ e. simp e (ap (λ (l : List (List ℕ)). x ∷ l) (those-append f xs ys))) (λ e. simp e (those-append f xs ys))
 
 some-append : (f : List ℕ → Bool) (xs : List (List ℕ)) (y : List ℕ) → some f (xs ++ (y ∷ [])) ≡ (f y || some f xs)
 unfolding some
@@ -73,7 +75,9 @@ some-append f (x ∷ xs) y = ap (λ (b : Bool). f x || b) (some-append f xs y) �
 none-those : (f : List ℕ → Bool) (xs : List (List ℕ)) → some f xs ≡ false → those f xs ≡ []
 unfolding some those
 none-those f [] e = refl
-none-those f (x ∷ xs) e = by-bool (f x) (λ t. never (sym e ∙ ap (λ (b : Bool). b || some f xs) t)) (λ t. simp t (none-those f xs (sym (ap (λ (b : Bool). b || some f xs) t) ∙ e)))
+none-those f (x ∷ xs) e =
+    by-bool (f x) (λ t. never (sym e ∙ ap (λ (b : Bool). b || some f xs) t))
+    (λ t. simp t (none-those f xs (sym (ap (λ (b : Bool). b || some f xs) t) ∙ e)))
 
 -- of the kind k
 module _ (k : ℕ) (rs : List (List ℕ)) (s : List ℕ) where
@@ -94,7 +98,8 @@ module _ (k : ℕ) (rs : List (List ℕ)) (s : List ℕ) where
   pub body-with : (kindOf s ≡ k → hasKind k rs ≡ false) → bodyOfKind k (with-one rs s) ≡ pick (eqb (kindOf s) k) (bodyOf s) (bodyOfKind k rs)
   unfolding bodyOfKind hasKind ofKind
   body-with first = ap (λ (l : List (List ℕ)). bodyOf (getD l 0 [])) of-with ∙ elim (ℕ-discrete (kindOf s) k) [
-    | yes e ↦ rw (eq-eqb (kindOf s) k e) (ap (λ (l : List (List ℕ)). bodyOf (getD (l ++ (front s ∷ [])) 0 [])) (none-those (λ r. eqb (kindOf r) k) rs (first e)) ∙ front-body s)
+    | yes e ↦ rw (eq-eqb (kindOf s) k e) (ap (λ (l : List (List ℕ)). bodyOf (getD (l ++ (front s ∷ [])) 0 []))
+        (none-those (λ r. eqb (kindOf r) k) rs (first e)) ∙ front-body s)
     | no n ↦ rw (ne-eqb (kindOf s) k n) (ap (λ (l : List (List ℕ)). bodyOf (getD l 0 [])) (append-nil (ofKind k rs)))
   ]
 
@@ -102,7 +107,8 @@ module _ (k : ℕ) (rs : List (List ℕ)) (s : List ℕ) where
 abbrev pub Once : (List ℕ → Type 0) → ℕ → List (List ℕ) → Type 0
 Once P k rs = hasKind k rs ≡ true → P (bodyOfKind k rs)
 
-pub once-with : (P : List ℕ → Type 0) (k : ℕ) (rs : List (List ℕ)) (s : List ℕ) → (kindOf s ≡ k → hasKind k rs ≡ false) → (kindOf s ≡ k → P (bodyOf s)) → Once P k rs → Once P k (with-one rs s)
+pub once-with : (P : List ℕ → Type 0) (k : ℕ) (rs : List (List ℕ)) (s : List ℕ) → (kindOf s ≡ k → hasKind k rs ≡ false) →
+    (kindOf s ≡ k → P (bodyOf s)) → Once P k rs → Once P k (with-one rs s)
 once-with P k rs s first new old h = subst P (sym (body-with k rs s first)) (elim (ℕ-discrete (kindOf s) k) [
   | yes e ↦ rw (eq-eqb (kindOf s) k e) (new e)
   | no n ↦ rw (ne-eqb (kindOf s) k n) (old (sym (has-with k rs s ∙ ap (λ (b : Bool). b || hasKind k rs) (ne-eqb (kindOf s) k n)) ∙ h))
@@ -120,7 +126,8 @@ module _ {A : Type 0} (read : List ℕ → A) (k : ℕ) (rs : List (List ℕ)) (
   pub many-with : reads (ofKind k (with-one rs s)) ≡ pick (eqb (kindOf s) k) (reads (ofKind k rs) ++ (read (bodyOf s) ∷ [])) (reads (ofKind k rs))
   many-with = ap reads (of-with k rs s) ∙ (map-append (ofKind k rs) (pick (eqb (kindOf s) k) (front s ∷ []) []) ∙ go (eqb (kindOf s) k))
     where
-      go : (b : Bool) → reads (ofKind k rs) ++ reads (pick b (front s ∷ []) []) ≡ pick b (reads (ofKind k rs) ++ (read (bodyOf s) ∷ [])) (reads (ofKind k rs))
+      go : (b : Bool) →
+          reads (ofKind k rs) ++ reads (pick b (front s ∷ []) []) ≡ pick b (reads (ofKind k rs) ++ (read (bodyOf s) ∷ [])) (reads (ofKind k rs))
       go true = ap (λ (x : List ℕ). reads (ofKind k rs) ++ (read x ∷ [])) (front-body s)
       go false = append-nil (reads (ofKind k rs))
 
@@ -144,12 +151,15 @@ module _ (rs : List (List ℕ)) (s : List ℕ) (may : MayCome rs s) where
   count-with : length (instructionsIn (with-one rs s)) ≡ pick (eqb k 3) (length (instructionsIn rs) + 1) (length (instructionsIn rs))
   count-with = ap length instructions-with ∙ go (eqb k 3)
     where
-      go : (c : Bool) → length (pick c (instructionsIn rs ++ (instructionOf b ∷ [])) (instructionsIn rs)) ≡ pick c (length (instructionsIn rs) + 1) (length (instructionsIn rs))
+      go : (c : Bool) →
+          length (pick c (instructionsIn rs ++ (instructionOf b ∷ [])) (instructionsIn rs)) ≡ pick c (length (instructionsIn rs) + 1)
+          (length (instructionsIn rs))
       go true = length-append (instructionsIn rs) (instructionOf b ∷ [])
       go false = refl
 
   places-with : filled instructionPlaces noInstruction (instructionsIn (with-one rs s))
-      ≡ pick (eqb k 3) (set (filled instructionPlaces noInstruction (instructionsIn rs)) (length (instructionsIn rs)) (instructionOf b)) (filled instructionPlaces noInstruction (instructionsIn rs))
+      ≡ pick (eqb k 3) (set (filled instructionPlaces noInstruction (instructionsIn rs)) (length (instructionsIn rs)) (instructionOf b))
+      (filled instructionPlaces noInstruction (instructionsIn rs))
   places-with = ap (filled instructionPlaces noInstruction) instructions-with ∙ elim (ℕ-discrete k 3) [
     | yes e ↦ rw (eq-eqb k 3 e) (sym (filled-push noInstruction instructionPlaces (instructionsIn rs) (instructionOf b) (may .instruction e)))
     | no n ↦ rw (ne-eqb k 3 n) refl
@@ -159,9 +169,13 @@ module _ (rs : List (List ℕ)) (s : List ℕ) (may : MayCome rs s) where
   unfolding takenIn takenWith unitIn openingIn
   taken-with = λ i. record {
     hasUnit = has-with 1 rs s i;
-    unit = (ap (λ (x : List ℕ). unitOf (numbers x 62)) (body-with 1 rs s (may .unit)) ∙ choose (λ (x : List ℕ). unitOf (numbers x 62)) (eqb k 1) b (bodyOfKind 1 rs)) i;
+    unit =
+        (ap (λ (x : List ℕ). unitOf (numbers x 62)) (body-with 1 rs s (may .unit))
+        ∙ choose (λ (x : List ℕ). unitOf (numbers x 62)) (eqb k 1) b (bodyOfKind 1 rs)) i;
     hasStart = has-with 2 rs s i;
-    start = (ap (λ (x : List ℕ). startOf (openingOf x)) (body-with 2 rs s (may .opening)) ∙ choose (λ (x : List ℕ). startOf (openingOf x)) (eqb k 2) b (bodyOfKind 2 rs)) i;
+    start =
+        (ap (λ (x : List ℕ). startOf (openingOf x)) (body-with 2 rs s (may .opening))
+        ∙ choose (λ (x : List ℕ). startOf (openingOf x)) (eqb k 2) b (bodyOfKind 2 rs)) i;
     count = count-with i;
     instructions = places-with i;
   }
@@ -178,7 +192,8 @@ UnitFits b = unitAnswer (numbers b 62) ≡ Accepted
 abbrev LowStart : Taken → Type 0
 LowStart t = t .hasStart ≡ true → (t .hasUnit ≡ true) × Low (t .unit) (t .start)
 
-low-with : (t : Taken) (k : ℕ) (b : List ℕ) → (k ≡ 1 → t .hasUnit ≡ false) → (k ≡ 2 → (t .hasUnit ≡ true) × Low (t .unit) (startOf (openingOf b))) → LowStart t → LowStart (takenWith t k b)
+low-with : (t : Taken) (k : ℕ) (b : List ℕ) → (k ≡ 1 → t .hasUnit ≡ false) → (k ≡ 2 → (t .hasUnit ≡ true) × Low (t .unit) (startOf (openingOf b))) →
+    LowStart t → LowStart (takenWith t k b)
 unfolding takenWith
 low-with t k b first new old = elim (ℕ-discrete k 1) [
   | yes e ↦ rw e (λ h. never (sym (first e) ∙ old h .0))
@@ -201,7 +216,8 @@ pub record Made (d : Day) (rs : List (List ℕ)) : Type 0 where
   pub stored : d .closed ≡ true → d .found ≡ arraysOf (foundFrom rs)
 
 pub made-empty : Made empty []
-unfolding empty noTaken takenIn hasKind some unitIn openingIn instructionsIn bodyOfKind ofKind those filled bodyOf kindOf sizeOf numbers unitOf columnOf triggerOf openingOf startOf
+unfolding empty noTaken takenIn hasKind some unitIn openingIn instructionsIn bodyOfKind ofKind those filled bodyOf kindOf sizeOf numbers unitOf
+    columnOf triggerOf openingOf startOf
 made-empty = record {
   taken = refl;
   fits = record { unit = λ e. never e; low = λ e. never e; few = omega arith };
@@ -239,15 +255,29 @@ module _ (d : Day) (rs : List (List ℕ)) (s : List ℕ) (m : Made d rs) (p : Pa
     unit = once-with UnitFits 1 rs s (may .unit) (λ e. p .unit e .fields) (m .fits .unit);
     low = subst LowStart (sym (taken-with rs s may))
         (low-with (takenIn rs) kind (bodyOf s) (may .unit)
-        (λ e. (sym has-unit ∙ p .opening e .unit, subst (λ (t : Taken). Low (t .unit) (startOf (openingOf (bodyOf s)))) (m .taken) (start-low (d .taken .unit) (bodyOf s) (p .opening e .fields) (p .opening e .low))))
+        (λ e. (
+          sym has-unit ∙ p .opening e .unit,
+          subst (λ (t : Taken). Low (t .unit) (startOf (openingOf (bodyOf s)))) (m .taken)
+              (start-low (d .taken .unit) (bodyOf s) (p .opening e .fields) (p .opening e .low)),
+        ))
         (m .fits .low));
     few = go;
   }
     where
       go : length (instructionsIn (with-one rs s)) ≤ instructionPlaces
       go = elim (ℕ-discrete kind 3) [
-        | yes e ↦ omega (arith, count-with rs s may ∙ ap (λ (c : Bool). pick c (length (instructionsIn rs) + 1) (length (instructionsIn rs))) (eq-eqb kind 3 e), may .instruction e)
-        | no n ↦ omega (arith, count-with rs s may ∙ ap (λ (c : Bool). pick c (length (instructionsIn rs) + 1) (length (instructionsIn rs))) (ne-eqb kind 3 n), m .fits .few)
+        | yes e ↦ omega (
+          arith,
+          count-with rs s may ∙ ap (λ (c : Bool). pick c (length (instructionsIn rs) + 1) (length (instructionsIn rs)))
+              (eq-eqb kind 3 e),
+          may .instruction e,
+        )
+        | no n ↦ omega (
+          arith,
+          count-with rs s may ∙ ap (λ (c : Bool). pick c (length (instructionsIn rs) + 1) (length (instructionsIn rs)))
+              (ne-eqb kind 3 n),
+          m .fits .few,
+        )
       ]
 
   -- only a close closes, and it takes nothing in
@@ -264,7 +294,9 @@ module _ (d : Day) (rs : List (List ℕ)) (s : List ℕ) (m : Made d rs) (p : Pa
     taken = ap (λ (t : Taken). takenWith t kind (bodyOf s)) (m .taken) ∙ sym (taken-with rs s may);
     fits = fits-with;
     started = λ h. has-with 2 rs s ∙ (ap (λ (b : Bool). eqb kind 2 || b) (sym has-start ∙ p .close (closes h) .started) ∙ go (eqb kind 2));
-    stored = λ h. ap (λ (k : ℕ). pick (eqb k 4) (arraysOf (foundIn paper (d .taken))) (d .found)) (closes h) ∙ ap (λ (t : Taken). arraysOf (foundIn paper t)) (sym (same-taken (closes h)));
+    stored =
+        λ h. ap (λ (k : ℕ). pick (eqb k 4) (arraysOf (foundIn paper (d .taken))) (d .found)) (closes h)
+        ∙ ap (λ (t : Taken). arraysOf (foundIn paper t)) (sym (same-taken (closes h)));
   }
     where
       go : (b : Bool) → (b || true) ≡ true

@@ -48,7 +48,8 @@ wide m h = omega arith
 
 pieces-wider : (m : ℕ) (ps : List Piece) → m ≤ 120000000 → All (PieceBelow mostSeconds m) ps → All (PieceBelow mostSeconds 120000000) ps
 pieces-wider m [] h b = tt
-pieces-wider m (p ∷ ps) h b = (record { from = b .0 .from; to = b .0 .to; enter = omega (arith, b .0 .enter); leave = omega (arith, b .0 .leave) }, pieces-wider m ps h (b .1))
+pieces-wider m (p ∷ ps) h b =
+    (record { from = b .0 .from; to = b .0 .to; enter = omega (arith, b .0 .enter); leave = omega (arith, b .0 .leave) }, pieces-wider m ps h (b .1))
 
 all-wider : (m : ℕ) (qs : List ℕ) → m ≤ 2000000 → All (λ (q : ℕ). q ≤ m) qs → All (λ (q : ℕ). q ≤ 2000000) qs
 all-wider m [] h b = tt
@@ -86,7 +87,8 @@ module _ (d : Day) (rs : List (List ℕ)) (m : Made d rs) (c : d .closed ≡ tru
   unfolding fatesIn arraysOf
   fates-stored =
       ap (λ (x : Finding). take (d .taken .count) (x .fates)) (m .stored c)
-      ∙ (ap (λ (k : ℕ). take k (filled instructionPlaces 0 (f .fates))) (count-is ∙ sym fates-are-many) ∙ filled-listed 0 instructionPlaces (f .fates) (omega (arith, fates-are-many, m .fits .few)))
+      ∙ (ap (λ (k : ℕ). take k (filled instructionPlaces 0 (f .fates))) (count-is ∙ sym fates-are-many)
+      ∙ filled-listed 0 instructionPlaces (f .fates) (omega (arith, fates-are-many, m .fits .few)))
 
   pub courses-stored : coursesIn d ≡ f .courses
   unfolding coursesIn arraysOf
@@ -100,7 +102,8 @@ module _ (d : Day) (rs : List (List ℕ)) (m : Made d rs) (c : d .closed ≡ tru
   unfolding quantitiesIn quantityAt foundFrom foundIn takenIn
   quantities-stored =
       ap (λ (l : List ℕ). listFrom (quantityAt l) 0 halfHours) (sums-stored d rs m c)
-      ∙ (list-same (quantityAt (f .sums)) (λ i. rounded (recordedIn (spansOf (unitIn rs) daySeconds (f .courses)) i)) 0 halfHours (λ i h. quantity-from-sums halfHours t i (omega arith))
+      ∙ (list-same (quantityAt (f .sums)) (λ i. rounded (recordedIn (spansOf (unitIn rs) daySeconds (f .courses)) i)) 0 halfHours
+      (λ i h. quantity-from-sums halfHours t i (omega arith))
       ∙ sym (found-quantities halfHours t))
 
   -- ---- figures
@@ -148,14 +151,17 @@ module _ (d : Day) (rs : List (List ℕ)) (m : Made d rs) (c : d .closed ≡ tru
 
   pieces-low : All (PieceBelow daySeconds (grains (unitIn rs .maximum))) (dayPieces (spansOf (unitIn rs) daySeconds (f .courses)))
   unfolding foundFrom foundIn takenIn
-  pieces-low = pieces-below (grains (unitIn rs .maximum)) 0 daySeconds daySeconds (omega arith) (spansOf (unitIn rs) daySeconds (f .courses)) (found-tiles halfHours t) spans-low
+  pieces-low =
+      pieces-below (grains (unitIn rs .maximum)) 0 daySeconds daySeconds (omega arith) (spansOf (unitIn rs) daySeconds (f .courses))
+      (found-tiles halfHours t) spans-low
 
   -- the printed day is what the definitions give from the records let in
   pub printed-is : printedDay d ≡ listing (f .fates) (dayPieces (spansOf (unitIn rs) daySeconds (f .courses))) (quantitiesIn d) closing
   unfolding printedDay
   printed-is =
       ap (λ (x : List ℕ). listing x (dayPieces (spansOf (d .taken .unit) daySeconds (coursesIn d))) (quantitiesIn d) (closingIn d)) fates-stored
-      ∙ (ap (λ (x : List Course). listing (f .fates) (dayPieces (spansOf (d .taken .unit) daySeconds x)) (quantitiesIn d) (closingIn d)) courses-stored
+      ∙ (ap (λ (x : List Course). listing (f .fates) (dayPieces (spansOf (d .taken .unit) daySeconds x)) (quantitiesIn d) (closingIn d))
+      courses-stored
       ∙ (ap (λ (x : UnitData). listing (f .fates) (dayPieces (spansOf x daySeconds (f .courses))) (quantitiesIn d) (closingIn d)) (unit-is d rs m c)
       ∙ ap (listing (f .fates) (dayPieces (spansOf (unitIn rs) daySeconds (f .courses))) (quantitiesIn d)) closing-stored))
 

@@ -80,7 +80,8 @@ made-after (sends s ∷ cs) d rs m =
     by-bool (accepted (answerOf d s))
     (λ e. let p : Passed (foundIn paper) d s = passed (foundIn paper) d s (is-accepted (answerOf d s) e) in
     let t : Day = dayWith (foundIn paper) d (kindOf s) (bodyOf s) in
-    rw (after-taken d s cs e, let-taken d s cs e) (rw (append-assoc rs (front s ∷ []) (letIn t cs)) at (made-after cs t (rs ++ (front s ∷ [])) (made-with d rs s m p))))
+    rw (after-taken d s cs e, let-taken d s cs e) (rw (append-assoc rs (front s ∷ []) (letIn t cs)) at
+    (made-after cs t (rs ++ (front s ∷ [])) (made-with d rs s m p))))
     (λ e. rw (after-refused d s cs e, let-refused d s cs e) (made-after cs d rs m))
 
 -- a closed day stays as it is

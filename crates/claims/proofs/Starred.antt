@@ -36,7 +36,11 @@ use Rattle.listing.specs.Program.{runBy, ranBy, printedRun, programBy}
 -- document 01's listing, byte by byte; quantities; fates; pieces (from, to, level, level); answers; fates
 abbrev pub expected : List (List ℕ)
 expected =
-    (70 ∷ 32 ∷ 49 ∷ 32 ∷ 48 ∷ 10 ∷ 83 ∷ 32 ∷ 48 ∷ 32 ∷ 49 ∷ 50 ∷ 48 ∷ 32 ∷ 54 ∷ 48 ∷ 48 ∷ 48 ∷ 48 ∷ 48 ∷ 48 ∷ 32 ∷ 54 ∷ 48 ∷ 48 ∷ 48 ∷ 48 ∷ 48 ∷ 48 ∷ 10 ∷ 83 ∷ 32 ∷ 49 ∷ 50 ∷ 48 ∷ 32 ∷ 51 ∷ 48 ∷ 48 ∷ 32 ∷ 54 ∷ 48 ∷ 48 ∷ 48 ∷ 48 ∷ 48 ∷ 48 ∷ 32 ∷ 54 ∷ 49 ∷ 56 ∷ 48 ∷ 48 ∷ 48 ∷ 48 ∷ 10 ∷ 83 ∷ 32 ∷ 51 ∷ 48 ∷ 48 ∷ 32 ∷ 56 ∷ 54 ∷ 52 ∷ 48 ∷ 48 ∷ 32 ∷ 54 ∷ 49 ∷ 56 ∷ 48 ∷ 48 ∷ 48 ∷ 48 ∷ 32 ∷ 54 ∷ 49 ∷ 56 ∷ 48 ∷ 48 ∷ 48 ∷ 48 ∷ 10 ∷ 81 ∷ 32 ∷ 49 ∷ 32 ∷ 49 ∷ 32 ∷ 49 ∷ 48 ∷ 50 ∷ 54 ∷ 53 ∷ 48 ∷ 10 ∷ 81 ∷ 32 ∷ 50 ∷ 32 ∷ 52 ∷ 56 ∷ 32 ∷ 49 ∷ 48 ∷ 51 ∷ 48 ∷ 48 ∷ 48 ∷ 10 ∷ 69 ∷ 32 ∷ 54 ∷ 49 ∷ 56 ∷ 48 ∷ 48 ∷ 48 ∷ 48 ∷ 32 ∷ 49 ∷ 48 ∷ 51 ∷ 48 ∷ 48 ∷ 48 ∷ 32 ∷ 49 ∷ 32 ∷ 48 ∷ 10 ∷ [])
+    (70 ∷ 32 ∷ 49 ∷ 32 ∷ 48 ∷ 10 ∷ 83 ∷ 32 ∷ 48 ∷ 32 ∷ 49 ∷ 50 ∷ 48 ∷ 32 ∷ 54 ∷ 48 ∷ 48 ∷ 48 ∷ 48 ∷ 48 ∷ 48 ∷ 32 ∷ 54 ∷ 48 ∷ 48 ∷ 48 ∷ 48 ∷ 48 ∷ 48 ∷
+    10 ∷ 83 ∷ 32 ∷ 49 ∷ 50 ∷ 48 ∷ 32 ∷ 51 ∷ 48 ∷ 48 ∷ 32 ∷ 54 ∷ 48 ∷ 48 ∷ 48 ∷ 48 ∷ 48 ∷ 48 ∷ 32 ∷ 54 ∷ 49 ∷ 56 ∷ 48 ∷ 48 ∷ 48 ∷ 48 ∷ 10 ∷ 83 ∷ 32
+    ∷ 51 ∷ 48 ∷ 48 ∷ 32 ∷ 56 ∷ 54 ∷ 52 ∷ 48 ∷ 48 ∷ 32 ∷ 54 ∷ 49 ∷ 56 ∷ 48 ∷ 48 ∷ 48 ∷ 48 ∷ 32 ∷ 54 ∷ 49 ∷ 56 ∷ 48 ∷ 48 ∷ 48 ∷ 48 ∷ 10 ∷ 81 ∷
+    32 ∷ 49 ∷ 32 ∷ 49 ∷ 32 ∷ 49 ∷ 48 ∷ 50 ∷ 54 ∷ 53 ∷ 48 ∷ 10 ∷ 81 ∷ 32 ∷ 50 ∷ 32 ∷ 52 ∷ 56 ∷ 32 ∷ 49 ∷ 48 ∷ 51 ∷ 48 ∷ 48 ∷ 48 ∷ 10 ∷ 69 ∷
+    32 ∷ 54 ∷ 49 ∷ 56 ∷ 48 ∷ 48 ∷ 48 ∷ 48 ∷ 32 ∷ 49 ∷ 48 ∷ 51 ∷ 48 ∷ 48 ∷ 48 ∷ 32 ∷ 49 ∷ 32 ∷ 48 ∷ 10 ∷ [])
     ∷ (1 ∷ [])
     ∷ (0 ∷ [])
     ∷ (4 ∷ 4 ∷ 5 ∷ [])
@@ -51,7 +55,27 @@ expected =
     ∷ []
 
 starred-by-segments : starred (foundIn twin) ≡ expected
-unfolding grains fromKw those some listFrom sum filled seconds recorded ticks exact rateProduct wholeWay area between recordedTick meaningOf inRange aLevel aMaximum aRate aHold aBoundary columnRanges rampRanges unitRanges fitFrom fallsBelow falls disagrees unitAnswer openingFits openingAnswer figuresFit instructionAnswer sizeOf numbers triggerOf columnOf unitOf openingOf issueOf instructionOf trajectoryOf heading toward gap distance inUse passed rateAt breaksInUse counting triggers nearest holding candidates nextStop holdAt arrived second after rateInForce stopsFrom segmentsOf momentAt levelAt rateOn stops segments plus ticksOf exactAt cut cuts exactTwice ratesOf inGrains placeOf columnFor replaced listsOf piece piecesOf piecesIn twiceArea numbered superseded group goesBefore highest present carrying merged usedOf nextTime usedFrom used repeats syncWithinHour fromSync beforeSync failed checkOne check acting overtaken lateFate actors lateMarks turned keptOf validated fateAmong fatesOf hasTime allowed allowance exactIn exactOf exactArea heatBy mwofTarget syncTarget outcomeBy stepped courseFrom underWay startCourse begun goesOn replaces stateAt follow beginOf spansOf inForce levelStarting levelEnding rateStarting recordedTwice recordedTo recordedIn rounded piecesTo twinTo twinIn dayPieces lastOf foundBy found held watchNext watch byRule arrival stateOn bySegments startOf noTaken takenWith entered noFinding arraysOf quantityAt foundIn empty dayWith fatesIn coursesIn quantitiesIn kindOf bodyOf aKind noBytes unknownKind tooFew secondOne beforeUnit tooMany notReady fieldAnswer tooHigh quantityTooHigh answerBy stepBy restOf digits decimal field fields line fLine sLine qLine eLine xLine fLines sLines runLines qLines listing printedDay listAnswer listOf lentAfter parted linesOf wordsOf isByte allDigits isDecimal valueFrom value enclosing inLines printedAt printedKw Rattle.claims.specs.Calls.after letIn wrote word words plainColumn unitRecord openingRecord instructionRecord usual tripAt failAt figures sent closedBy fatesBy firstQuantity piecesBy answerAfter starred ofKind hasKind bodyOfKind unitIn openingIn instructionsIn takenIn foundFrom spansFrom runBy ranBy printedRun programBy
+unfolding grains fromKw those some listFrom sum filled seconds recorded ticks exact rateProduct wholeWay area between recordedTick meaningOf inRange
+    aLevel aMaximum aRate aHold aBoundary columnRanges rampRanges unitRanges fitFrom fallsBelow falls disagrees unitAnswer openingFits openingAnswer
+    figuresFit instructionAnswer sizeOf numbers triggerOf columnOf unitOf openingOf issueOf instructionOf trajectoryOf heading toward gap distance
+    inUse passed rateAt breaksInUse counting triggers nearest holding candidates nextStop holdAt arrived second after rateInForce stopsFrom
+    segmentsOf momentAt levelAt rateOn stops segments plus ticksOf exactAt cut cuts exactTwice ratesOf inGrains placeOf columnFor replaced
+    listsOf piece piecesOf piecesIn twiceArea numbered superseded group goesBefore highest present carrying merged usedOf nextTime
+    usedFrom used repeats syncWithinHour fromSync beforeSync failed checkOne check acting overtaken lateFate actors lateMarks
+    turned keptOf validated fateAmong fatesOf hasTime allowed allowance exactIn exactOf exactArea heatBy mwofTarget syncTarget
+    outcomeBy stepped courseFrom underWay startCourse begun goesOn replaces stateAt follow beginOf spansOf inForce
+    levelStarting levelEnding rateStarting recordedTwice recordedTo recordedIn rounded piecesTo twinTo twinIn
+    dayPieces lastOf foundBy found held watchNext watch byRule arrival stateOn bySegments startOf noTaken
+    takenWith entered noFinding arraysOf quantityAt foundIn empty dayWith fatesIn coursesIn quantitiesIn
+    kindOf bodyOf aKind noBytes unknownKind tooFew secondOne beforeUnit tooMany notReady fieldAnswer
+    tooHigh quantityTooHigh answerBy stepBy restOf digits decimal field fields line fLine sLine qLine
+    eLine xLine fLines sLines runLines qLines listing printedDay listAnswer listOf lentAfter
+    parted linesOf wordsOf isByte allDigits isDecimal valueFrom value enclosing inLines
+    printedAt printedKw Rattle.claims.specs.Calls.after letIn wrote word words
+    plainColumn unitRecord openingRecord instructionRecord usual tripAt failAt figures
+    sent closedBy fatesBy firstQuantity piecesBy answerAfter starred ofKind
+    hasKind bodyOfKind unitIn openingIn instructionsIn takenIn foundFrom
+    spansFrom runBy ranBy printedRun programBy
 starred-by-segments = refl
 
 -- by the paper's own definitions

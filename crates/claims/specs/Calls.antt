@@ -9,7 +9,8 @@ use Rattle.day.specs.Day.{empty}
 use Rattle.day.specs.Step.{stepOf}
 use Rattle.listing.specs.Listing.{listOf, lentAfter}
 
--- "The calls are taking a record, close among them, and asking for a listing": a call is sent a record's slice, or lent a slice; both of any length and content
+-- "The calls are taking a record, close among them, and asking for a listing": a call is sent a record's slice, or lent a slice; both of any length
+-- and content
 pub data Call : Type 0 where
   sends : List ℕ → Call
   asks : List ℕ → Call

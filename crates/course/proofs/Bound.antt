@@ -23,7 +23,12 @@ module _ (p : ℕ) (h : 0 < p) (ls : List Segment) (ok : Ok p ls) where
   short : (a n : ℕ) → sum (exact p ls) a n ≤ sum (recordedTick p ls) a n + length ls * p * (wholeWay ls * p)
   short a n =
       let s : ℕ = length ls * p in
-      omega (arith, sum-lag (exact p ls) (wholeWay ls * p) (exact-top p ls) s a n, sum-le (λ j. exact p ls (j - s)) (recordedTick p ls) (recorded-above-delayed p h ls ok) a n)
+      omega (
+        arith,
+        sum-lag (exact p ls) (wholeWay ls * p) (exact-top p ls) s a n,
+        sum-le (λ j. exact p ls (j - s)) (recordedTick p ls)
+            (recorded-above-delayed p h ls ok) a n,
+      )
 
   -- B, over the n ticks from a
   pub bound-of-ticks : (a n : ℕ) →
@@ -32,7 +37,12 @@ module _ (p : ℕ) (h : 0 < p) (ls : List Segment) (ok : Ok p ls) where
   bound-of-ticks a n =
       let e = area-sums (exact p ls) a n in
       let r = area-sums (recordedTick p ls) a n in (
-        omega (arith, sum-le (recordedTick p ls) (exact p ls) (recorded-below-exact p h ls ok) a n, sum-le (recordedTick p ls) (exact p ls) (recorded-below-exact p h ls ok) (suc a) n),
+        omega (
+          arith,
+          sum-le (recordedTick p ls) (exact p ls) (recorded-below-exact p h ls ok) a n,
+          sum-le (recordedTick p ls) (exact p ls)
+              (recorded-below-exact p h ls ok) (suc a) n,
+        ),
         omega (arith, short a n, short (suc a) n),
       )
 

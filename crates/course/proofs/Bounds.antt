@@ -54,11 +54,15 @@ pub course-bound : (c : Trajectory) → Driven (c .lists) → (p : ℕ) → 0 < 
 unfolding exactAt
 course-bound c d p pos ok a n =
     rw (← as-many c d, ← ways-whole c d)
-    (bounds (heading c) (c .start) p _ (recorded (segments c)) (exact p (segments c)) (levelAt c) (exactAt p c) (level-segments c) (λ j. refl) (λ q j. fall c q p j)
+    (bounds (heading c) (c .start) p _ (recorded (segments c)) (exact p (segments c)) (levelAt c) (exactAt p c) (level-segments c) (λ j. refl)
+    (λ q j. fall c q p j)
     a n (bound-of-seconds p pos (segments c) ok a n))
 
 -- the product of the rates is one such number
 pub ticks-ok : (c : Trajectory) → (0 < ticksOf c) × Ok (ticksOf c) (segments c)
 unfolding ticksOf
-ticks-ok c =
-    (product-pos (segments c) (segments-valid c), product-ok (rateProduct (segments c)) (segments c) (dvd-refl (rateProduct (segments c))) (segments-valid c))
+ticks-ok c = (
+  product-pos (segments c) (segments-valid c),
+  product-ok (rateProduct (segments c)) (segments c) (dvd-refl (rateProduct (segments c)))
+      (segments-valid c),
+)

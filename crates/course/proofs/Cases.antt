@@ -26,14 +26,16 @@ abbrev paper : Trajectory
 paper = record { start = 6000000; target = 103000 * 60; lists = unit 1000 }
 
 paper-levels : levelAt paper 0 ∷ levelAt paper 179 ∷ levelAt paper 180 ∷ levelAt paper 181 ∷ [] ≡ 6000000 ∷ 6179000 ∷ 6180000 ∷ 6180000 ∷ []
-unfolding levelAt momentAt after second arrived rateAt nextStop candidates holdAt holding nearest triggers counting breaksInUse those passed inUse gap toward heading
+unfolding levelAt momentAt after second arrived rateAt nextStop candidates holdAt holding nearest triggers counting breaksInUse those passed inUse gap
+    toward heading
 paper-levels = refl
 
 abbrev short : Trajectory
 short = record { start = 6000000; target = 6030000; lists = unit 7000 }
 
 short-levels : levelAt short 4 ∷ levelAt short 5 ∷ levelAt short 6 ∷ [] ≡ 6028000 ∷ 6030000 ∷ 6030000 ∷ []
-unfolding levelAt momentAt after second arrived rateAt nextStop candidates holdAt holding nearest triggers counting breaksInUse those passed inUse gap toward heading
+unfolding levelAt momentAt after second arrived rateAt nextStop candidates holdAt holding nearest triggers counting breaksInUse those passed inUse gap
+    toward heading
 short-levels = refl
 
 short-stops : stops short ≡ 6030000 ∷ []
@@ -41,15 +43,18 @@ unfolding stops stopsFrom rateAt nextStop candidates holdAt holding nearest trig
 short-stops = refl
 
 -- the listing's course: the S lines from its acting second 120 on, less 120
-paper-pieces : piecesIn paper 0 86280 ≡ record { from = 0; to = 180; enter = 6000000; leave = 6180000 } ∷ record { from = 180; to = 86280; enter = 6180000; leave = 6180000 } ∷ []
-unfolding levelAt momentAt after second arrived rateAt nextStop candidates holdAt holding nearest triggers counting breaksInUse those passed inUse gap toward heading stops stopsFrom segments segmentsOf piecesIn piecesOf piece seconds
+paper-pieces : piecesIn paper 0 86280 ≡ record { from = 0; to = 180; enter = 6000000; leave = 6180000 } ∷ record
+    { from = 180; to = 86280; enter = 6180000; leave = 6180000 } ∷ []
+unfolding levelAt momentAt after second arrived rateAt nextStop candidates holdAt holding nearest triggers counting breaksInUse those passed inUse gap
+    toward heading stops stopsFrom segments segmentsOf piecesIn piecesOf piece seconds
 paper-pieces = refl
 
 -- five seconds, the last moving 2,000
 short-pieces : piecesIn short 0 10 ≡
     record { from = 0; to = 4; enter = 6000000; leave = 6028000 } ∷ record { from = 4; to = 5; enter = 6028000; leave = 6030000 } ∷
     record { from = 5; to = 10; enter = 6030000; leave = 6030000 } ∷ []
-unfolding levelAt momentAt after second arrived rateAt nextStop candidates holdAt holding nearest triggers counting breaksInUse those passed inUse gap toward heading stops stopsFrom segments segmentsOf piecesIn piecesOf piece seconds
+unfolding levelAt momentAt after second arrived rateAt nextStop candidates holdAt holding nearest triggers counting breaksInUse those passed inUse gap
+    toward heading stops stopsFrom segments segmentsOf piecesIn piecesOf piece seconds
 short-pieces = refl
 
 -- down to a dwell's own level: it holds at the two dwells of 800, added, and not at the target
@@ -73,5 +78,6 @@ fall-pieces : piecesIn fall 0 600 ≡
     record { from = 2; to = 4; enter = 900; leave = 800 } ∷ record { from = 4; to = 184; enter = 800; leave = 800 } ∷
     record { from = 184; to = 186; enter = 800; leave = 700 } ∷ record { from = 186; to = 189; enter = 700; leave = 610 } ∷
     record { from = 189; to = 190; enter = 610; leave = 600 } ∷ record { from = 190; to = 600; enter = 600; leave = 600 } ∷ []
-unfolding levelAt momentAt after second arrived rateAt nextStop candidates holdAt holding nearest triggers counting breaksInUse those passed inUse gap toward heading stops stopsFrom segments segmentsOf piecesIn piecesOf piece seconds
+unfolding levelAt momentAt after second arrived rateAt nextStop candidates holdAt holding nearest triggers counting breaksInUse those passed inUse gap
+    toward heading stops stopsFrom segments segmentsOf piecesIn piecesOf piece seconds
 fall-pieces = refl

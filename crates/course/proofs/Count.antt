@@ -56,8 +56,10 @@ pieces-count h n a v (l ∷ ls) =
     let reached : ℕ = min (a + seconds l) n in
     let end : ℕ = min (a + (seconds l + l .hold)) n in
     simp length-append
-    (sums (length (piece a (a + full) v near)) (length (piece (a + full) reached near stop)) (length (piece reached end stop stop)) (length (piecesOf h n end stop ls)) (pick (eqb (l .hold) 0) 0 1) (length ls) (holds ls)
-    (piece-one a (a + full) v near) (piece-one (a + full) reached near stop) (hold-piece a n stop (seconds l) (l .hold)) (pieces-count h n end stop ls))
+    (sums (length (piece a (a + full) v near)) (length (piece (a + full) reached near stop)) (length (piece reached end stop stop))
+    (length (piecesOf h n end stop ls)) (pick (eqb (l .hold) 0) 0 1) (length ls) (holds ls)
+    (piece-one a (a + full) v near) (piece-one (a + full) reached near stop) (hold-piece a n stop (seconds l) (l .hold))
+    (pieces-count h n end stop ls))
   where
     sums : (a b c d p m q : ℕ) → a ≤ 1 → b ≤ 1 → c ≤ p → d ≤ 2 * m + q + 1 → a + (b + (c + d)) ≤ 2 * suc m + (p + q) + 1
     sums a b c d p m q w x y z = omega arith
@@ -65,7 +67,8 @@ pieces-count h n a v (l ∷ ls) =
 -- ---- holds of stops: each trigger gives at most one
 
 -- those that pass a test, against those that pass one of two others
-either-length : (f g k : ℕ → Bool) → ((w : ℕ) → f w ≡ true → (g w || k w) ≡ true) → (ws : List ℕ) → length (those f ws) ≤ length (those g ws) + length (those k ws)
+either-length : (f g k : ℕ → Bool) → ((w : ℕ) → f w ≡ true → (g w || k w) ≡ true) → (ws : List ℕ) →
+    length (those f ws) ≤ length (those g ws) + length (those k ws)
 unfolding those
 either-length f g k h [] = omega arith
 either-length f g k h (w ∷ ws) = go (f w) (g w) (k w) (h w) (either-length f g k h ws)
@@ -105,7 +108,8 @@ unfolding those
 nothing [] = refl
 nothing (w ∷ ws) = nothing ws
 
-pub hold-stops : (h : Heading) (v : ℕ) (ws : List ℕ) → Ordered h v ws → (gs : List Trigger) → length (those (λ w. ltb 0 (holding w gs)) ws) ≤ length gs
+pub hold-stops : (h : Heading) (v : ℕ) (ws : List ℕ) → Ordered h v ws → (gs : List Trigger) →
+    length (those (λ w. ltb 0 (holding w gs)) ws) ≤ length gs
 unfolding holding
 hold-stops h v ws o [] = omega (arith, nothing ws)
 hold-stops h v ws o (g ∷ gs) =
@@ -142,7 +146,8 @@ module _ (h : Heading) (l : Lists) (t : ℕ) where
           go′ false = omega arith
       one false e = rw (eq-eqb (holdAt h l t w) 0 (no-hold h l t w e)) (omega arith)
 
-      go : (a b : Bool) → ltb 0 (holding w (triggers h l)) ≡ b → holds (segmentsOf h l t w ws) ≤ length (those (λ w. ltb 0 (holding w (triggers h l))) ws) →
+      go : (a b : Bool) → ltb 0 (holding w (triggers h l)) ≡ b →
+          holds (segmentsOf h l t w ws) ≤ length (those (λ w. ltb 0 (holding w (triggers h l))) ws) →
           holds (pick a [] (record { way = gap v w; rate = rateAt h l v; hold = holdAt h l t w } ∷ segmentsOf h l t w ws)) ≤
           length (pick b (w ∷ those (λ w. ltb 0 (holding w (triggers h l))) ws) (those (λ w. ltb 0 (holding w (triggers h l))) ws))
       go true b e ih = omega arith
@@ -152,7 +157,13 @@ module _ (h : Heading) (l : Lists) (t : ℕ) where
 triggers-five : (h : Heading) (l : Lists) → Shaped l → length (triggers h l) ≤ 5
 unfolding triggers
 triggers-five rising l s =
-    simp length-append (omega (arith, counting-length (λ v. ltb v (l .msg)) (l .soaks), counting-length (λ v. leb (l .msg) v) (l .dwells), s .soaks, s .dwells))
+    simp length-append (omega (
+      arith,
+      counting-length (λ v. ltb v (l .msg)) (l .soaks),
+      counting-length (λ v. leb (l .msg) v) (l .dwells),
+      s .soaks,
+      s .dwells,
+    ))
 triggers-five falling l s = omega (arith, counting-length (λ v. leb (l .msg) v) (l .dwells), s .dwells)
 
 pub at-most-thirty-two-pieces : (c : Trajectory) → Shaped (c .lists) → (a n : ℕ) → length (piecesIn c a n) ≤ 32

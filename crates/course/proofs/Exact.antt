@@ -46,7 +46,8 @@ module _ (f : ℕ → ℕ) (lo hi : ℕ) (up : lo ≤ hi) where
   unfolding cut
   cut-span u v c r h =
       elim (decLe (min v hi) (max u lo)) [
-        | yes g ↦ let e : min v hi - max u lo ≡ 0 = omega arith in rw (e, zero-mul) (sym (span-none f (max u lo) (min v hi) g) ∙ ap (area f (max u lo)) e)
+        | yes g ↦ let e : min v hi - max u lo ≡ 0 = omega arith in rw (e, zero-mul)
+            (sym (span-none f (max u lo) (min v hi) g) ∙ ap (area f (max u lo)) e)
         | no g ↦ span-line f u v c r (max u lo) (min v hi) h (omega arith) (omega arith) (omega arith)
       ]
 
@@ -117,7 +118,15 @@ module _ (p : ℕ) (f : ℕ → ℕ) (lo hi : ℕ) (up : lo ≤ hi) where
     cuts-both (l ∷ ls) u =
         let t : ℕ = u + ticks p l in
         let d : ℕ = u + ticks p l + l .hold * p in
-        omega (arith, cut-both u t, cut-both t d, cuts-both ls d, ap (λ x. x * (2 * c)) (time u t (omega arith)), ap (λ x. x * (2 * c)) (time t d (omega arith)))
+        omega (
+          arith,
+          cut-both u t,
+          cut-both t d,
+          cuts-both ls d,
+          ap (λ x. x * (2 * c)) (time u t (omega arith)),
+          ap (λ x. x * (2 * c))
+              (time t d (omega arith)),
+        )
 
 pub cuts-none : (p : ℕ) (f : ℕ → ℕ) (lo hi : ℕ) → hi ≤ lo → (ls : List Segment) (u : ℕ) → cuts p f u ls lo hi ≡ 0
 unfolding cuts cut

@@ -245,6 +245,13 @@ near-fewer falling v t (w ∷ ws) m e p q =
 pub near-fewer-all : (h : Heading) (v t : ℕ) (ws : List ℕ) (m : ℕ) → nearest h v t (t ∷ ws) ≡ m → Past h v t → ahead h m (t ∷ ws) < ahead h v (t ∷ ws)
 near-fewer-all h v t ws m e p =
     elim (ℕ-discrete m t) [
-      | yes q ↦ omega (arith, ap (λ x. ahead h x (t ∷ ws)) q, ahead-no h t t ws (short-refl h t), ahead-yes h v t ws p, ahead-le h v t ws (past-short h v t p))
+      | yes q ↦ omega (
+        arith,
+        ap (λ x. ahead h x (t ∷ ws)) q,
+        ahead-no h t t ws (short-refl h t),
+        ahead-yes h v t ws p,
+        ahead-le h v t ws
+            (past-short h v t p),
+      )
       | no q ↦ near-fewer h v t (t ∷ ws) m e p q
     ]

@@ -66,7 +66,9 @@ module _ (h : Heading) (f : ℕ → ℕ) (v x y m k r u w : ℕ) where
           q,
           record {
             rate = r;
-            along = λ i le. along-of h v m (i * r) u (f (x + i)) (room-less h v (m + i * r) k (omega (arith, z .0, mul-le-mul-right r le)) room) e (z .1 i le);
+            along =
+                λ i le. along-of h v m (i * r) u (f (x + i)) (room-less h v (m + i * r) k (omega (arith, z .0, mul-le-mul-right r le)) room) e
+                (z .1 i le);
             ends = e′ ∙ sym last;
           },
           refl,
@@ -111,7 +113,8 @@ module _ (l : Segment) (ls : List Segment) (ok : SegmentValid l) where
 -- the three pieces of a leg that begins at second a with the level v, cut at n
 module _ (h : Heading) (f : ℕ → ℕ) (n a v full reached held : ℕ) (l : Segment) (ls : List Segment) (ok : SegmentValid l) (p : a ≤ n)
     (room : Room h v (l .way))
-    (is-full : full ≡ min (l .way / l .rate) (n - a)) (is-reached : reached ≡ min (a + seconds l) n) (is-held : held ≡ min (a + (seconds l + l .hold)) n)
+    (is-full : full ≡ min (l .way / l .rate) (n - a)) (is-reached : reached ≡ min (a + seconds l) n)
+    (is-held : held ≡ min (a + (seconds l + l .hold)) n)
     (g : a < n → (k : ℕ) → a ≤ k → k ≤ n → f k ≡ toward h v (recorded (l ∷ ls) (k - a))) where
   full-way : full * l .rate ≤ l .way
   full-way = omega (arith, full-low l ls ok, mul-le-mul-right {m = full} {n = l .way / l .rate} (l .rate) (omega arith))
@@ -125,7 +128,8 @@ module _ (h : Heading) (f : ℕ → ℕ) (n a v full reached held : ℕ) (l : Se
       (room-less h v (full * l .rate) (l .way) full-way room)
       (λ q. (
         ap (λ x. x * l .rate) {x = full} {y = a + full - a} (omega arith) ∙ omega arith,
-        λ i le. g (omega arith) (a + i) (omega arith) (omega arith) ∙ ap (toward h v) (ap (recorded (l ∷ ls)) {x = a + i - a} {y = i} (omega arith) ∙ segment-run l ls ok i (omega arith) ∙ omega arith),
+        λ i le. g (omega arith) (a + i) (omega arith) (omega arith)
+            ∙ ap (toward h v) (ap (recorded (l ∷ ls)) {x = a + i - a} {y = i} (omega arith) ∙ segment-run l ls ok i (omega arith) ∙ omega arith),
       ))
 
   -- where there is a shorter last second, it is one second, from the full ones up to the stop
@@ -137,13 +141,16 @@ module _ (h : Heading) (f : ℕ → ℕ) (n a v full reached held : ℕ) (l : Se
       let d : ℕ = l .way - full * l .rate in
       let s = short-one q in
       elim (decLe i 0) [
-        | yes z ↦ let e : i ≡ 0 = omega arith in ap (recorded (l ∷ ls)) {x = full + i} {y = full} (omega arith) ∙ segment-run l ls ok full (omega arith) ∙ omega (arith, ap (λ x. x * d) e)
-        | no z ↦ let e : i ≡ 1 = omega arith in segment-hold l ls ok (full + i) (omega arith) (omega arith) ∙ omega (arith, full-way, ap (λ x. x * d) e)
+        | yes z ↦ let e : i ≡ 0 = omega arith in ap (recorded (l ∷ ls)) {x = full + i} {y = full} (omega arith)
+            ∙ segment-run l ls ok full (omega arith) ∙ omega (arith, ap (λ x. x * d) e)
+        | no z ↦ let e : i ≡ 1 = omega arith in segment-hold l ls ok (full + i) (omega arith) (omega arith)
+            ∙ omega (arith, full-way, ap (λ x. x * d) e)
       ]
 
   last : Traces h f (a + full) reached (piece (a + full) reached (toward h v (full * l .rate)) (toward h v (l .way)))
   last =
-      line h f v (a + full) reached (full * l .rate) (l .way) (l .way - full * l .rate) (toward h v (full * l .rate)) (toward h v (l .way)) (order .0) refl refl room
+      line h f v (a + full) reached (full * l .rate) (l .way) (l .way - full * l .rate) (toward h v (full * l .rate)) (toward h v (l .way)) (order .0)
+      refl refl room
       (λ q.
       let e : reached - (a + full) ≡ 1 = omega (arith, short-one q .2) in (
         omega (arith, full-way, ap (λ x. x * (l .way - full * l .rate)) e),
@@ -156,7 +163,8 @@ module _ (h : Heading) (f : ℕ → ℕ) (n a v full reached held : ℕ) (l : Se
       line h f v reached held (l .way) (l .way) 0 (toward h v (l .way)) (toward h v (l .way)) (order .1) refl refl room
       (λ q. (
         omega arith,
-        λ i le. g (omega arith) (reached + i) (omega arith) (omega arith) ∙ ap (toward h v) (segment-hold l ls ok (reached + i - a) (omega arith) (omega arith) ∙ omega arith),
+        λ i le. g (omega arith) (reached + i) (omega arith) (omega arith)
+            ∙ ap (toward h v) (segment-hold l ls ok (reached + i - a) (omega arith) (omega arith) ∙ omega arith),
       ))
 
   on : held < n → (k : ℕ) → held ≤ k → k ≤ n → f k ≡ toward h (toward h v (l .way)) (recorded ls (k - held))
@@ -172,7 +180,8 @@ pub traces : (h : Heading) (f : ℕ → ℕ) (n : ℕ) (ls : List Segment) (a v 
     (a < n → (k : ℕ) → a ≤ k → k ≤ n → f k ≡ toward h v (recorded ls (k - a))) → Traces h f a n (piecesOf h n a v ls)
 unfolding piecesOf wholeWay recorded
 traces h f n [] a v ok p room g =
-    line h f v a n 0 0 0 v v p (sym (toward-zero h v)) (sym (toward-zero h v)) room (λ q. (omega arith, λ i le. g q (a + i) (omega arith) (omega arith) ∙ ap (toward h v) (omega arith)))
+    line h f v a n 0 0 0 v v p (sym (toward-zero h v)) (sym (toward-zero h v)) room
+    (λ q. (omega arith, λ i le. g q (a + i) (omega arith) (omega arith) ∙ ap (toward h v) (omega arith)))
 traces h f n (l ∷ ls) a v ok p room g =
     let full : ℕ = min (l .way / l .rate) (n - a) in
     let near : ℕ = toward h v (full * l .rate) in
@@ -187,7 +196,8 @@ traces h f n (l ∷ ls) a v ok p room g =
     traces-append h f a (a + full) n one (two ++ (three ++ more)) (run h f n a v full reached held l ls (ok .0) p whole refl refl refl g)
     (traces-append h f (a + full) reached n two (three ++ more) (last h f n a v full reached held l ls (ok .0) p whole refl refl refl g)
     (traces-append h f reached held n three more (hold h f n a v full reached held l ls (ok .0) p whole refl refl refl g)
-    (traces h f n ls held stop (ok .1) (omega arith) (room-on h v (l .way) (wholeWay ls) room) (on h f n a v full reached held l ls (ok .0) p whole refl refl refl g))))
+    (traces h f n ls held stop (ok .1) (omega arith) (room-on h v (l .way) (wholeWay ls) room)
+    (on h f n a v full reached held l ls (ok .0) p whole refl refl refl g))))
 
 line-up : (f : ℕ → ℕ) (a v r n : ℕ) → ((i : ℕ) → i ≤ n → f (a + i) ≡ v + i * r) → area f a n ≡ n * (v + (v + n * r))
 line-up f a v r n h = area-line f a v r n h ∙ omega arith
@@ -207,7 +217,8 @@ line-down f a v r (suc n) h =
     )
 
 -- twice the area under the path is that of the pieces
-area-of : (h : Heading) (f : ℕ → ℕ) (p : Piece) → Line h f p → p .from ≤ p .to → area f (p .from) (p .to - p .from) ≡ (p .to - p .from) * (p .enter + p .leave)
+area-of : (h : Heading) (f : ℕ → ℕ) (p : Piece) → Line h f p → p .from ≤ p .to →
+    area f (p .from) (p .to - p .from) ≡ (p .to - p .from) * (p .enter + p .leave)
 area-of rising f p w le =
     let m : ℕ = p .to - p .from in
     let e : p .leave ≡ p .enter + m * w .rate = w .ends ∙ ap f {x = p .to} {y = p .from + m} (omega arith) ∙ w .along m (le-refl m) in
@@ -225,7 +236,8 @@ traces-area h f a n (p ∷ ps) e =
     let ih = traces-area h f (p .to) n ps (e .3) in
     let b : ℕ = p .to in
     let le : a ≤ b = omega (arith, e .1) in
-    let one : area f a (b - a) ≡ (b - p .from) * (p .enter + p .leave) = ap (λ x. area f x (b - x)) (sym (e .0)) ∙ area-of h f p (e .2) (omega (arith, e .0)) in (
+    let one : area f a (b - a) ≡ (b - p .from) * (p .enter + p .leave) =
+    ap (λ x. area f x (b - x)) (sym (e .0)) ∙ area-of h f p (e .2) (omega (arith, e .0)) in (
       omega arith,
       sym (ap (area f a) {x = n - a} {y = b - a + (n - b)} (omega arith) ∙ area-split f a (b - a) (n - b)
           ∙ ap (λ x. area f a (b - a) + area f x (n - b)) {x = a + (b - a)} {y = b} (omega arith) ∙ omega (arith, one, ih .1)),
@@ -242,14 +254,16 @@ module _ (c : Trajectory) where
   pub pieces-trace : (a n : ℕ) → a ≤ n → Traces (heading c) (λ k. levelAt c (k - a)) a n (piecesIn c a n)
   unfolding piecesIn
   pieces-trace a n p =
-      traces (heading c) (λ k. levelAt c (k - a)) n (segments c) a (c .start) (segments-valid c) p (falls (heading c) refl) (λ q k x y. level-segments c (k - a))
+      traces (heading c) (λ k. levelAt c (k - a)) n (segments c) a (c .start) (segments-valid c) p (falls (heading c) refl)
+      (λ q k x y. level-segments c (k - a))
 
   -- twice the area of its pieces up to the second n is the sum over its seconds
   pub pieces-area : (n : ℕ) → twiceArea (piecesIn c 0 n) ≡ area (levelAt c) 0 n
   unfolding area
   pieces-area n =
       traces-area (heading c) (λ k. levelAt c (k - 0)) 0 n (piecesIn c 0 n) (pieces-trace 0 n (omega arith)) .1
-      ∙ sum-eq (λ j. levelAt c (j - 0) + levelAt c (suc j - 0)) (λ j. levelAt c j + levelAt c (suc j)) (λ j. rw (sub-zero j, sub-zero (suc j))) 0 (n - 0)
+      ∙ sum-eq (λ j. levelAt c (j - 0) + levelAt c (suc j - 0)) (λ j. levelAt c j + levelAt c (suc j)) (λ j. rw (sub-zero j, sub-zero (suc j))) 0
+      (n - 0)
       ∙ ap (sum (λ j. levelAt c j + levelAt c (suc j)) 0) (sub-zero n)
 
   -- over any window, as a difference
@@ -266,12 +280,28 @@ module _ (f : ℕ → ℕ) (p : Piece) (x y : ℕ) (a : p .from ≤ x) (b : x �
   cut-line : (h : Heading) → Line h f p → Line h f (record { from = x; to = y; enter = f x; leave = f y })
   cut-line rising l = record {
     rate = l .rate;
-    along = λ i q. omega (arith, l .along (x - p .from) (omega arith), l .along (x - p .from + i) (omega arith), ap f (moved-on i), ap f {x = p .from + (x - p .from)} {y = x} (omega arith));
+    along =
+        λ i q. omega (
+          arith,
+          l .along (x - p .from) (omega arith),
+          l .along (x - p .from + i) (omega arith),
+          ap f (moved-on i),
+          ap f
+              {x = p .from + (x - p .from)} {y = x} (omega arith),
+        );
     ends = refl;
   }
   cut-line falling l = record {
     rate = l .rate;
-    along = λ i q. omega (arith, l .along (x - p .from) (omega arith), l .along (x - p .from + i) (omega arith), ap f (moved-on i), ap f {x = p .from + (x - p .from)} {y = x} (omega arith));
+    along =
+        λ i q. omega (
+          arith,
+          l .along (x - p .from) (omega arith),
+          l .along (x - p .from + i) (omega arith),
+          ap f (moved-on i),
+          ap f
+              {x = p .from + (x - p .from)} {y = x} (omega arith),
+        );
     ends = refl;
   }
 

@@ -128,10 +128,12 @@ module _ (h : Heading) (l : Lists) (t : ℕ) where
       let x = next-past h l t v p in
       let on = gap-left v w h r (x .0) y in
       let same : segmentsOf h l t u (stopsFrom h l t (suc n) u) ≡ record { way = gap v w - r; rate = r; hold = holdAt h l t w } ∷ ls =
-      segments-more n u (past-on h u w t (on .0) (x .1)) (omega (arith, rate-same h l t v u (on .1) (on .0))) ∙ rw (next-same h l t v u (on .1) (on .0), rate-same h l t v u (on .1) (on .0), on .2) in
+      segments-more n u (past-on h u w t (on .0) (x .1)) (omega (arith, rate-same h l t v u (on .1) (on .0)))
+      ∙ rw (next-same h l t v u (on .1) (on .0), rate-same h l t v u (on .1) (on .0), on .2) in
       first k (suc n) v 0 (suc k) (at u 0) (second-run v p y)
       (ih ∙ ap (λ (q : List Segment). toward h u (recorded q k)) same ∙ toward-add h v r _
-      ∙ ap (toward h v) (sym (segment-on (gap v w) r (holdAt h l t w) ls k some y)) ∙ ap (λ (q : List Segment). toward h v (recorded q (suc k))) (sym (segments-more n v p some)))
+      ∙ ap (toward h v) (sym (segment-on (gap v w) r (holdAt h l t w) ls k some y))
+      ∙ ap (λ (q : List Segment). toward h v (recorded q (suc k))) (sym (segments-more n v p some)))
 
   -- the second that reaches the next stop
   reaches : (k n v : ℕ) → Past h v t → gap v (nextStop h l t v) ≤ rateAt h l v →
@@ -157,7 +159,8 @@ module _ (h : Heading) (l : Lists) (t : ℕ) where
   stuck zero v p z = refl
   stuck (suc k) v p z =
       ap (second h l t) (stuck k v p z)
-      ∙ (second-run v p (omega (arith, gap-some v (nextStop h l t v) h (next-past h l t v p .0))) ∙ ap (λ (w : ℕ). at w 0) (ap (toward h v) z ∙ toward-zero h v))
+      ∙ (second-run v p (omega (arith, gap-some v (nextStop h l t v) h (next-past h l t v p .0)))
+      ∙ ap (λ (w : ℕ). at w 0) (ap (toward h v) z ∙ toward-zero h v))
 
   stays : (k n v j : ℕ) → Past h v t → rateAt h l v ≡ 0 → Tied k n v 0 j
   unfolding recorded
@@ -187,7 +190,8 @@ module _ (h : Heading) (l : Lists) (t : ℕ) where
                 let x = next-past h l t v z in
                 let on = gap-left v w h (rateAt h l v) (x .0) y in
                 runs k n v (omega arith) z y
-                (rw sub-zero at (rule k (suc n) u 0 (past-short h u t (past-on h u w t (on .0) (x .1))) (le-trans (ahead-le h v u (candidates h l t) (on .1)) q)))
+                (rw sub-zero at (rule k (suc n) u 0 (past-short h u t (past-on h u w t (on .0) (x .1)))
+                (le-trans (ahead-le h v u (candidates h l t) (on .1)) q)))
           ]
           | no y ↦ reaches k n v z (omega arith) (rule k n w (holdAt h l t w) (next-past h l t v z .1) (omega (arith, next-fewer h l t v z)))
         ]

@@ -16,7 +16,8 @@ abbrev two-segments : List Segment
 two-segments = record { way = 100; rate = 3; hold = 5 } ∷ record { way = 50; rate = 7; hold = 2 } ∷ []
 
 -- 34 seconds up, 5 held, 8 up; recorded at 33, 34, 39, 40, 47 and 60 seconds
-at-seconds : recorded two-segments 33 ∷ recorded two-segments 34 ∷ recorded two-segments 39 ∷ recorded two-segments 40 ∷ recorded two-segments 47 ∷ recorded two-segments 60 ∷ []
+at-seconds : recorded two-segments 33 ∷ recorded two-segments 34 ∷ recorded two-segments 39 ∷ recorded two-segments 40 ∷ recorded two-segments 47 ∷
+    recorded two-segments 60 ∷ []
     ≡ 99 ∷ 100 ∷ 100 ∷ 107 ∷ 150 ∷ 150 ∷ []
 unfolding recorded seconds
 at-seconds = refl
@@ -25,7 +26,8 @@ per-second : rateProduct two-segments ≡ 21
 unfolding rateProduct
 per-second = refl
 
-at-ticks : exact 21 two-segments 700 ∷ exact 21 two-segments 805 ∷ exact 21 two-segments 806 ∷ recordedTick 21 two-segments 700 ∷ recordedTick 21 two-segments 825 ∷ []
+at-ticks : exact 21 two-segments 700 ∷ exact 21 two-segments 805 ∷ exact 21 two-segments 806 ∷ recordedTick 21 two-segments 700 ∷ recordedTick 21
+    two-segments 825 ∷ []
     ≡ 2100 ∷ 2100 ∷ 2107 ∷ 2086 ∷ 2142 ∷ []
 unfolding exact ticks recordedTick between recorded seconds
 at-ticks = refl

@@ -66,7 +66,8 @@ second-moves h l t m = go (ltb 0 (m .left)) (eqb (m .level) t)
     moved : gap (m .level) w ≤ rateAt h l (m .level)
     moved = omega (arith, gap-toward h (m .level) (min (rateAt h l (m .level)) (gap (m .level) (nextStop h l t (m .level)))))
 
-    go : (a b : Bool) → gap (m .level) (pick a (record { level = m .level; left = m .left - 1 }) (pick b m (arrived h l t (nextStop h l t (m .level)) w)) .level) ≤
+    go : (a b : Bool) →
+        gap (m .level) (pick a (record { level = m .level; left = m .left - 1 }) (pick b m (arrived h l t (nextStop h l t (m .level)) w)) .level) ≤
         pick a 0 (pick b 0 (rateAt h l (m .level)))
     go true b = omega (arith, gap-self (m .level))
     go false true = omega (arith, gap-self (m .level))
@@ -77,7 +78,8 @@ unfolding stopsFrom
 stops-length h l t zero v = le-refl 0
 stops-length h l t (suc n) v = go (eqb v t) (stops-length h l t n (nextStop h l t v))
   where
-    go : (b : Bool) → length (stopsFrom h l t n (nextStop h l t v)) ≤ n → length (pick b [] (nextStop h l t v ∷ stopsFrom h l t n (nextStop h l t v))) ≤ suc n
+    go : (b : Bool) → length (stopsFrom h l t n (nextStop h l t v)) ≤ n →
+        length (pick b [] (nextStop h l t v ∷ stopsFrom h l t n (nextStop h l t v))) ≤ suc n
     go true ih = omega arith
     go false ih = omega arith
 
@@ -133,7 +135,8 @@ module _ (h : Heading) (l : Lists) (t : ℕ) where
         let x = next-past h l t v z in
         elim (ℕ-discrete (rateAt h l v) 0) [
           | yes r ↦ rw (segments-stuck h l t (suc n) v z r) (omega arith)
-          | no r ↦ rw (segments-more h l t n v z (omega arith)) (omega (arith, ways-most n w (x .1) (omega (arith, next-fewer h l t v z)), gap-add v w h t (x .0) (x .1)))
+          | no r ↦ rw (segments-more h l t n v z (omega arith))
+              (omega (arith, ways-most n w (x .1) (omega (arith, next-fewer h l t v z)), gap-add v w h t (x .0) (x .1)))
         ]
   ]
 
@@ -147,7 +150,8 @@ module _ (h : Heading) (l : Lists) (t : ℕ) where
         let x = next-past h l t v z in
         elim (ℕ-discrete (rateAt h l v) 0) [
           | yes r ↦ rw (segments-stuck h l t (suc n) v z r) tt
-          | no r ↦ rw (segments-more h l t n v z (omega arith)) (record { some-way = gap-some v (nextStop h l t v) h (x .0); some-rate = omega arith }, valid n (nextStop h l t v) (x .1))
+          | no r ↦ rw (segments-more h l t n v z (omega arith))
+              (record { some-way = gap-some v (nextStop h l t v) h (x .0); some-rate = omega arith }, valid n (nextStop h l t v) (x .1))
         ]
   ]
 
@@ -176,7 +180,8 @@ module _ (h : Heading) (l : Lists) (t : ℕ) where
           let z : Past h v t = short-past h t v p e in
           let w : ℕ = nextStop h l t v in
           let x = next-past h l t v z in
-          rw (segments-more h l t n v z (some v)) (omega (arith, ways n w (x .1) (omega (arith, next-fewer h l t v z)), gap-add v w h t (x .0) (x .1)))
+          rw (segments-more h l t n v z (some v)) (omega
+          (arith, ways n w (x .1) (omega (arith, next-fewer h l t v z)), gap-add v w h t (x .0) (x .1)))
     ]
 
     pub segments-length : (v : ℕ) (ss : List ℕ) → length (segmentsOf h l t v ss) ≡ length ss
@@ -237,7 +242,8 @@ module _ (c : Trajectory) where
 
   pub at-most-thirteen-stops : Shaped (c .lists) → length (stops c) ≤ 13
   unfolding stops
-  at-most-thirteen-stops s = le-trans (stops-length (heading c) (c .lists) (c .target) _ (c .start)) (candidates-length (heading c) (c .lists) (c .target) s)
+  at-most-thirteen-stops s =
+      le-trans (stops-length (heading c) (c .lists) (c .target) _ (c .start)) (candidates-length (heading c) (c .lists) (c .target) s)
 
   -- no second moves the level further than the rate in force where it began
   pub level-moves : (k : ℕ) → gap (levelAt c k) (levelAt c (suc k)) ≤ rateOn c k

@@ -35,7 +35,8 @@ module _ (u : UnitData) (l : OwnLists) where
   shared-anew at ramp s = record { msg = s .msg; dwells = s .dwells; deload = s .deload }
 
   -- with the column and the ramp of a course they are its own lists
-  pub own-anew : (c : Course) (up : Bool) (at : ℕ) (ramp : Ramp) → Shared u l → at ≡ placeOf (c .heat) → ramp ≡ pick up (u .up) (u .down) → setAnew u l at ramp ≡ ownLists u c up
+  pub own-anew : (c : Course) (up : Bool) (at : ℕ) (ramp : Ramp) → Shared u l → at ≡ placeOf (c .heat) → ramp ≡ pick up (u .up) (u .down) →
+      setAnew u l at ramp ≡ ownLists u c up
   unfolding ownLists columnFor
   own-anew c up at ramp s e r =
       let p : ramp ≡ rampFor u up = r ∙ ramp-picked u up in

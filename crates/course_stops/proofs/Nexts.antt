@@ -47,11 +47,13 @@ near-here rising v n = sym (up-behind v n v (le-refl v))
 near-here falling v n = sym (down-behind v n v (le-refl v))
 
 -- a trigger (kW): its level where it has minutes, else v
-pub near-trigger : (h : Heading) (v n : ℕ) (g : Trigger) → nearest h v n (pick (ltb 0 (g .minutes)) (grains (g .level)) v ∷ []) ≡ nearest h v n (timedLevels (g ∷ []))
+pub near-trigger : (h : Heading) (v n : ℕ) (g : Trigger) →
+    nearest h v n (pick (ltb 0 (g .minutes)) (grains (g .level)) v ∷ []) ≡ nearest h v n (timedLevels (g ∷ []))
 unfolding timedLevels those
 near-trigger h v n g = go (ltb 0 (g .minutes))
   where
-    go : (b : Bool) → nearest h v n (pick b (grains (g .level)) v ∷ []) ≡ nearest h v n (map (λ (g : Trigger). grains (g .level)) (pick b (g ∷ []) []))
+    go : (b : Bool) →
+        nearest h v n (pick b (grains (g .level)) v ∷ []) ≡ nearest h v n (map (λ (g : Trigger). grains (g .level)) (pick b (g ∷ []) []))
     go true = refl
     go false = near-here h v n ∙ sym (near-none h v n)
 
@@ -82,7 +84,8 @@ module _ {A : Type 0} (d : A) (f : List A → List ℕ) (f-cons : (x : A) (xs : 
       rw (three-of d xs e)
       (ap (step (getD xs 0 d)) (sym (cons (getD xs 1 d) (getD xs 2 d ∷ []))) ∙ sym (cons (getD xs 0 d) (getD xs 1 d ∷ getD xs 2 d ∷ [])))
 
-  four-steps : (xs : List A) → length xs ≡ 4 → step (getD xs 0 d) (step (getD xs 1 d) (step (getD xs 2 d) (step (getD xs 3 d) n))) ≡ nearest h v n (f xs)
+  four-steps : (xs : List A) → length xs ≡ 4 →
+      step (getD xs 0 d) (step (getD xs 1 d) (step (getD xs 2 d) (step (getD xs 3 d) n))) ≡ nearest h v n (f xs)
   four-steps xs e =
       rw (four-of d xs e)
       (ap (λ (k : ℕ). step (getD xs 0 d) (step (getD xs 1 d) k)) (sym (cons (getD xs 2 d) (getD xs 3 d ∷ [])))
@@ -101,7 +104,8 @@ timed-cons : (g : Trigger) (gs : List Trigger) → timedLevels (g ∷ gs) ≡ ti
 unfolding timedLevels
 timed-cons g gs =
     ap (map (λ (g : Trigger). grains (g .level))) (those-cons (λ (g : Trigger). ltb 0 (g .minutes)) g gs)
-    ∙ map-append (λ (g : Trigger). grains (g .level)) (those (λ (g : Trigger). ltb 0 (g .minutes)) (g ∷ [])) (those (λ (g : Trigger). ltb 0 (g .minutes)) gs)
+    ∙ map-append (λ (g : Trigger). grains (g .level)) (those (λ (g : Trigger). ltb 0 (g .minutes)) (g ∷ []))
+    (those (λ (g : Trigger). ltb 0 (g .minutes)) gs)
 
 -- the arrays of a unit
 module _ (h : Heading) (v n : ℕ) where
@@ -111,7 +115,8 @@ module _ (h : Heading) (v n : ℕ) where
   abbrev trigger : Trigger → ℕ → ℕ
   trigger g k = nearest h v k (timedLevels (g ∷ []))
 
-  pub four-breaks : (bs : List ℕ) → length bs ≡ 4 → break (getD bs 0 0) (break (getD bs 1 0) (break (getD bs 2 0) (break (getD bs 3 0) n))) ≡ nearest h v n (map grains bs)
+  pub four-breaks : (bs : List ℕ) → length bs ≡ 4 →
+      break (getD bs 0 0) (break (getD bs 1 0) (break (getD bs 2 0) (break (getD bs 3 0) n))) ≡ nearest h v n (map grains bs)
   four-breaks bs e = four-steps 0 (map grains) (λ b bs. refl) h v n bs e
 
   pub two-breaks : (bs : List ℕ) → length bs ≡ 2 → break (getD bs 0 0) (break (getD bs 1 0) n) ≡ nearest h v n (map grains bs)

@@ -112,7 +112,8 @@ unfolding those
 near-all-of h v n f i [] = refl
 near-all-of h v n f i (w ∷ ws) = go (f w) refl (near-all-of h v n f i ws)
   where
-    go : (b : Bool) → f w ≡ b → nearest h v n (those f ws) ≡ nearest h v n ws → nearest h v n (pick b (w ∷ those f ws) (those f ws)) ≡ nearest h v n (w ∷ ws)
+    go : (b : Bool) → f w ≡ b → nearest h v n (those f ws) ≡ nearest h v n ws →
+        nearest h v n (pick b (w ∷ those f ws) (those f ws)) ≡ nearest h v n (w ∷ ws)
     go true e ih = near-append h v n (w ∷ []) (those f ws) ∙ ap (λ (k : ℕ). nearest h v k (w ∷ [])) ih ∙ sym (near-append h v n (w ∷ []) ws)
     go false e ih = ih ∙ sym (near-idle h v n w ws (i w e))
 
@@ -136,7 +137,13 @@ module _ (v t m : ℕ) (rs ls ds ss : List ℕ) where
       let behind : (n w : ℕ) → under w ≡ true → Idle rising v n w = λ n w e q. omega (arith, ltb-true w m e) in
       let out : (n w : ℕ) → leb m w ≡ false → Idle rising v n w = λ n w e q. omega (arith, leb-false m w e) in
       let d : ℕ = up t ds in
-      rw (sym (up-behind v t m p), near-all-of rising v t (leb m) (out t) ds, near-none-of rising v d under (behind d) ss, near-all-of rising v d (leb m) (out d) rs)
+      rw (
+        sym (up-behind v t m p),
+        near-all-of rising v t (leb m) (out t) ds,
+        near-none-of rising v d under (behind d) ss,
+        near-all-of rising v d
+            (leb m) (out d) rs,
+      )
       (near-none-of rising v (up d rs) under (behind (up d rs)) ls)
 
   -- below it, MSG comes before what is above
@@ -148,7 +155,12 @@ module _ (v t m : ℕ) (rs ls ds ss : List ℕ) where
       let s : ℕ = up n ss in
       let first : n ≤ m = omega (arith, up-one v t m p) in
       let then : s ≤ m = omega (arith, up-most v n ss) in
-      rw (near-none-of rising v n (leb m) (beyond n first) ds, near-all-of rising v n under (out n first) ss, near-none-of rising v s (leb m) (beyond s then) rs)
+      rw (
+        near-none-of rising v n (leb m) (beyond n first) ds,
+        near-all-of rising v n under (out n first) ss,
+        near-none-of rising v s (leb m)
+            (beyond s then) rs,
+      )
       (near-all-of rising v s under (out s then) ls)
 
   -- falling
@@ -164,7 +176,12 @@ module _ (v t m : ℕ) (rs ls ds ss : List ℕ) where
   -- at or below MSG what is above it lies behind
   down-below : v ≤ m → down-all ≡ down t ls
   down-below p =
-      rw (sym (down-behind v t m p), near-none-of falling v t (leb m) (λ w e q. omega (arith, leb-true m w e)) ds, near-all-of falling v t upto (λ w e q. omega (arith, leb-false w m e)) ls)
+      rw (
+        sym (down-behind v t m p),
+        near-none-of falling v t (leb m) (λ w e q. omega (arith, leb-true m w e)) ds,
+        near-all-of falling v t upto
+            (λ w e q. omega (arith, leb-false w m e)) ls,
+      )
       (near-none-of falling v (down t ls) (ltb m) (λ w e q. omega (arith, ltb-true m w e)) rs)
 
   -- above it, MSG comes before what is below
@@ -174,7 +191,11 @@ module _ (v t m : ℕ) (rs ls ds ss : List ℕ) where
       let d : ℕ = down n ds in
       let first : m ≤ n = omega (arith, down-one v t m p) in
       let then : m ≤ d = omega (arith, down-least v n ds) in
-      rw (near-all-of falling v n (leb m) (λ w e q. omega (arith, leb-false m w e)) ds, near-none-of falling v d upto (λ w e q. omega (arith, leb-true w m e)) ls)
+      rw (
+        near-all-of falling v n (leb m) (λ w e q. omega (arith, leb-false m w e)) ds,
+        near-none-of falling v d upto
+            (λ w e q. omega (arith, leb-true w m e)) ls,
+      )
       (near-all-of falling v d (ltb m) (λ w e q. omega (arith, ltb-false m w e)) rs)
 
 -- the triggers that count are those with minutes whose level passes the test
@@ -185,7 +206,8 @@ counted f (g ∷ gs) = go (ltb 0 (g .minutes)) (f (grains (g .level))) refl (cou
   where
     go : (a b : Bool) → f (grains (g .level)) ≡ b → map (λ (g : Trigger). g .level) (counting f (map inGrains gs)) ≡ those f (timedLevels gs) →
         map (λ (g : Trigger). g .level) (pick (a && b) (inGrains g ∷ counting f (map inGrains gs)) (counting f (map inGrains gs)))
-        ≡ those f (map (λ (g : Trigger). grains (g .level)) (pick a (g ∷ those (λ (g : Trigger). ltb 0 (g .minutes)) gs) (those (λ (g : Trigger). ltb 0 (g .minutes)) gs)))
+        ≡ those f (map (λ (g : Trigger). grains (g .level))
+        (pick a (g ∷ those (λ (g : Trigger). ltb 0 (g .minutes)) gs) (those (λ (g : Trigger). ltb 0 (g .minutes)) gs)))
     go true true e ih = rw e (ap (λ (ws : List ℕ). grains (g .level) ∷ ws) ih)
     go true false e ih = rw e ih
     go false b e ih = ih
@@ -228,14 +250,16 @@ module _ (l : OwnLists) (c : Course) (t v : ℕ) where
       let ds : List Trigger = counting (leb msg) (map inGrains (l .dwells)) in
       rw (sym (counted below (l .column .soaks)), sym (counted (leb msg) (l .dwells)))
       (ap (λ (k : ℕ). nearest rising v (nearest rising v k ys) xs)
-      (sym (near-append rising v n (map (λ (g : Trigger). g .level) ss) (map (λ (g : Trigger). g .level) ds)) ∙ ap (nearest rising v n) (sym (map-append (λ (g : Trigger). g .level) ss ds)))
+      (sym (near-append rising v n (map (λ (g : Trigger). g .level) ss) (map (λ (g : Trigger). g .level) ds))
+      ∙ ap (nearest rising v n) (sym (map-append (λ (g : Trigger). g .level) ss ds)))
       ∙ all-of rising v t msg xs ys (map (λ (g : Trigger). g .level) (ss ++ ds)))
 
   next-falling : down-all v t msg ramp deload dwells soaks ≡ nextStop falling (listsBy l c) t v
   unfolding nextStop candidates breaksInUse triggers listsBy ratesOf
   next-falling =
       rw (sym (counted (leb msg) (l .dwells)))
-      (all-of falling v t msg (those (ltb msg) ramp) (those (λ w. leb w msg) deload) (map (λ (g : Trigger). g .level) (counting (leb msg) (map inGrains (l .dwells)))))
+      (all-of falling v t msg (those (ltb msg) ramp) (those (λ w. leb w msg) deload)
+      (map (λ (g : Trigger). g .level) (counting (leb msg) (map inGrains (l .dwells)))))
 
   pub rising-above : msg ≤ v → nearest rising v (nearest rising v t dwells) ramp ≡ nextStop rising (listsBy l c) t v
   rising-above p = sym (up-above v t msg ramp column dwells soaks p) ∙ next-rising
@@ -243,7 +267,8 @@ module _ (l : OwnLists) (c : Course) (t v : ℕ) where
   pub rising-below : v < msg → nearest rising v (nearest rising v (nearest rising v t (msg ∷ [])) soaks) column ≡ nextStop rising (listsBy l c) t v
   rising-below p = sym (up-below v t msg ramp column dwells soaks p) ∙ next-rising
 
-  pub falling-above : msg < v → nearest falling v (nearest falling v (nearest falling v t (msg ∷ [])) dwells) ramp ≡ nextStop falling (listsBy l c) t v
+  pub falling-above : msg < v →
+      nearest falling v (nearest falling v (nearest falling v t (msg ∷ [])) dwells) ramp ≡ nextStop falling (listsBy l c) t v
   falling-above p = sym (down-above v t msg ramp deload dwells soaks p) ∙ next-falling
 
   pub falling-below : v ≤ msg → nearest falling v t deload ≡ nextStop falling (listsBy l c) t v

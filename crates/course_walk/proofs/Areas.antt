@@ -22,7 +22,8 @@ use Rattle.course_walk.proofs.Courses.{heading-is, moment-is}
 sum-from : (g : ℕ → ℕ) (x i n : ℕ) → sum g (x + i) n ≡ sum (λ j. g (x + j)) i n
 unfolding sum
 sum-from g x i zero = refl
-sum-from g x i (suc n) = ap (λ (k : ℕ). g (x + i) + k) (ap (λ (j : ℕ). sum g j n) {x = suc (x + i)} {y = x + suc i} (omega arith) ∙ sum-from g x (suc i) n)
+sum-from g x i (suc n) =
+    ap (λ (k : ℕ). g (x + i) + k) (ap (λ (j : ℕ). sum g j n) {x = suc (x + i)} {y = x + suc i} (omega arith) ∙ sum-from g x (suc i) n)
 
 pub area-same : (f g : ℕ → ℕ) → ((j : ℕ) → f j ≡ g j) → (a n : ℕ) → area f a n ≡ area g a n
 unfolding area

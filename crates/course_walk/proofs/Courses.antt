@@ -29,6 +29,7 @@ module _ (u : UnitData) (c : Course) (up : Bool) (rises : up ≡ ltb (c .start .
   begins-short a = rw heading-is at (short-start (trajectoryOf u c))
 
   -- the moment at the second n, where it began at the second a
-  pub moment-is : (a n : ℕ) → momentOf (standing (headed up) (listsIn u c) (grains (c .target)) n (beginning c a)) ≡ momentAt (trajectoryOf u c) (n - a)
+  pub moment-is : (a n : ℕ) →
+      momentOf (standing (headed up) (listsIn u c) (grains (c .target)) n (beginning c a)) ≡ momentAt (trajectoryOf u c) (n - a)
   unfolding trajectoryOf beginning standing momentAt
   moment-is a n = ap (λ (h : Heading). after h (listsIn u c) (grains (c .target)) (n - a) (at (c .start .grains) 0)) (sym heading-is)

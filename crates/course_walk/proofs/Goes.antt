@@ -26,7 +26,8 @@ pub record Goes (h : Heading) (l : Lists) (t n : ℕ) (p q : Place) : Type 0 whe
   pub short : Short h t (q .level)
   pub low : q .level ≤ max (p .level) t
   pub moment : after h l t (q .second - p .second) (momentOf p) ≡ momentOf q
-  pub straight : Traces h (λ k. after h l t (k - p .second) (momentOf p) .level) (p .second) (q .second) (piece (p .second) (q .second) (p .level) (q .level))
+  pub straight : Traces h (λ k. after h l t (k - p .second) (momentOf p) .level) (p .second) (q .second)
+      (piece (p .second) (q .second) (p .level) (q .level))
 
 toward-low : (h : Heading) (t v m w : ℕ) → Short h t w → w ≡ toward h v m → w ≤ max v t
 unfolding toward
@@ -54,7 +55,8 @@ module _ (h : Heading) (l : Lists) (t n : ℕ) (p : Place) (before : p .second <
   -- what is straight: r a second for f seconds
   module _ (r f : ℕ) (q : Place) where
     goes : 1 ≤ f → q .second ≡ p .second + f → q .second ≤ n → Short h t (q .level) → after h l t f (momentOf p) ≡ momentOf q →
-        q .level ≡ toward h (p .level) (f * r) → Room h (p .level) (f * r) → ((i : ℕ) → i ≤ f → after h l t i (momentOf p) .level ≡ toward h (p .level) (i * r)) →
+        q .level ≡ toward h (p .level) (f * r) → Room h (p .level)
+        (f * r) → ((i : ℕ) → i ≤ f → after h l t i (momentOf p) .level ≡ toward h (p .level) (i * r)) →
         Goes h l t n p q
     goes some to le sh m e room g =
         let x : ℕ = p .second in
@@ -69,7 +71,8 @@ module _ (h : Heading) (l : Lists) (t n : ℕ) (p : Place) (before : p .second <
           straight = line h levels (p .level) x y 0 (f * r) r (p .level) (q .level) (omega arith) (sym (toward-zero h (p .level))) e room
               (λ z. (
                 ap (λ (k : ℕ). k * r) (sym w) ∙ omega arith,
-                λ i k. ap (λ (j : ℕ). after h l t j (momentOf p) .level) {x = x + i - x} {y = i} (omega arith) ∙ g i (omega arith) ∙ ap (toward h (p .level)) {x = i * r} {y = 0 + i * r} (omega arith),
+                λ i k. ap (λ (j : ℕ). after h l t j (momentOf p) .level) {x = x + i - x} {y = i} (omega arith) ∙ g i (omega arith)
+                    ∙ ap (toward h (p .level)) {x = i * r} {y = 0 + i * r} (omega arith),
               ));
         }
 
@@ -90,7 +93,8 @@ module _ (h : Heading) (l : Lists) (t n : ℕ) (p : Place) (before : p .second <
   unfolding afterRest
   rest-goes sh g =
       let f : ℕ = n - p .second in
-      goes 0 f (afterRest n p) (omega arith) (omega arith) (omega arith) sh (g f) (still f f (p .level)) (room-less h (p .level) (f * 0) 0 (omega arith) (room-none h (p .level)))
+      goes 0 f (afterRest n p) (omega arith) (omega arith) (omega arith) sh (g f) (still f f (p .level))
+      (room-less h (p .level) (f * 0) 0 (omega arith) (room-none h (p .level)))
       (λ i k. ap (λ (m : Moment). m .level) (g i) ∙ still f i (p .level))
 
   left : (1 ≤ p .left → ⊥) → p .left ≡ 0
@@ -149,7 +153,8 @@ module _ (h : Heading) (l : Lists) (t n : ℕ) (p : Place) (before : p .second <
         let fw : f * rate ≤ way = full-way way rate f (omega arith) in
         goes rate f (afterRun h f p (segmentFrom h l t v)) (omega (arith, full-some way rate some le)) refl (omega arith) (short-of (f * rate) fw)
         (ap (after h l t f) begins ∙ runs h l t v ahead some f fw) refl (room (f * rate) fw)
-        (λ i k. ap (λ (m : Moment). after h l t i m .level) begins ∙ ap (λ (m : Moment). m .level) (runs h l t v ahead some i (omega (arith, fw, mul-le-mul-right rate k))))
+        (λ i k. ap (λ (m : Moment). after h l t i m .level) begins
+        ∙ ap (λ (m : Moment). m .level) (runs h l t v ahead some i (omega (arith, fw, mul-le-mul-right rate k))))
 
   segment-goes : p .left ≤ 0 → Past h (p .level) t → Goes h l t n p (along h n p (segmentFrom h l t (p .level)))
   unfolding segmentFrom segmentTo
@@ -158,7 +163,8 @@ module _ (h : Heading) (l : Lists) (t n : ℕ) (p : Place) (before : p .second <
       let s : Segment = segmentFrom h l t v in
       elim (ℕ-discrete (rateAt h l v) 0) [
         | yes z ↦ rw (sym (along-stuck h n p s z))
-            (rest-goes (past-short h v t ahead) (λ k. ap (after h l t k) {x = momentOf p} {y = at v 0} (ap (at v) (omega arith)) ∙ stuck h l t k v ahead z))
+            (rest-goes (past-short h v t ahead) (λ k. ap (after h l t k) {x = momentOf p} {y = at v 0} (ap (at v) (omega arith))
+            ∙ stuck h l t k v ahead z))
         | no z ↦ elim (decLe (rateAt h l v) (gap v (nextStop h l t v))) [
           | yes le ↦ rw (sym (along-run h n p s z le)) (run-goes none-left ahead (omega arith) le)
           | no le ↦ rw (sym (along-short h n p s z (omega arith))) (short-goes none-left ahead (omega arith) (omega arith))
@@ -171,7 +177,8 @@ module _ (h : Heading) (l : Lists) (t n : ℕ) (p : Place) (before : p .second <
     | yes some ↦ rw (sym (onward-hold h l t n p some)) (hold-goes some sh)
     | no none ↦ elim (ℕ-discrete (p .level) t) [
       | yes e ↦ rw (sym (onward-rest h l t n p (omega arith) e))
-          (rest-goes sh (λ k. ap (after h l t k) {x = momentOf p} {y = at t 0} (λ i. at (e i) (left none i)) ∙ after-rest h l t k ∙ ap (λ (w : ℕ). at w 0) (sym e)))
+          (rest-goes sh (λ k. ap (after h l t k) {x = momentOf p} {y = at t 0} (λ i. at (e i) (left none i)) ∙ after-rest h l t k
+          ∙ ap (λ (w : ℕ). at w 0) (sym e)))
       | no e ↦ rw (sym (onward-along h l t n p (omega arith) e)) (segment-goes (omega arith) (short-past h t (p .level) sh e))
     ]
   ]

@@ -263,7 +263,8 @@ module _ (h : Heading) (l : Lists) (t n : ℕ) where
       unfolding piecesLeft pieceBetween afterShort segmentFrom segmentTo
       short-first q =
           begun ∙ short-pieces h n (p .second) v seg (segmentsFrom h l t next) some before (gap-some v next h (next-past h l t v ahead .0)) q
-          ∙ ap (λ (w : ℕ). pieceBetween p (afterShort h p seg) ∷ hold-on h n (p .second + 1) (seg .hold) (toward h v (seg .way)) (segmentsFrom h l t w)) (sym to-next)
+          ∙ ap (λ (w : ℕ). pieceBetween p (afterShort h p seg) ∷ hold-on h n (p .second + 1) (seg .hold) (toward h v (seg .way))
+          (segmentsFrom h l t w)) (sym to-next)
 
       module _ (f : ℕ) (is : f ≡ min (gap v next / rateAt h l v) (n - p .second)) (one : 1 ≤ f) where
         abbrev there : Place
@@ -274,7 +275,8 @@ module _ (h : Heading) (l : Lists) (t n : ℕ) where
         whole-first e =
             begun ∙ whole-pieces h n (p .second) v seg (segmentsFrom h l t next) some before f is one e
             ∙ (rw (eq-eqb (f * rateAt h l v) (gap v next) e)
-            (ap (λ (w : ℕ). pieceBetween p there ∷ hold-on h n (p .second + f) (seg .hold) (toward h v (f * rateAt h l v)) (segmentsFrom h l t w)) (sym (ap (toward h v) e ∙ to-next))))
+            (ap (λ (w : ℕ). pieceBetween p there ∷ hold-on h n (p .second + f) (seg .hold) (toward h v (f * rateAt h l v)) (segmentsFrom h l t w))
+            (sym (ap (toward h v) e ∙ to-next))))
 
         cut-first : p .second + f ≡ n → First there
         unfolding pieceBetween afterRun segmentFrom segmentTo
@@ -295,7 +297,8 @@ module _ (h : Heading) (l : Lists) (t n : ℕ) where
             from-more h l t x (past-on h x next t (on .0) (m .1)) (omega arith) ∙ rw (same, even, on .2) refl in
             let none : there .left ≡ 0 = ap (λ (b : Bool). pick b (seg .hold) 0) (ne-eqb (f * rateAt h l v) (gap v next) (λ e. omega arith)) in
             begun ∙ part-pieces h n (p .second) v seg (segmentsFrom h l t next) some before f is one lt q
-            ∙ ap (λ (ps : List Piece). pieceBetween p there ∷ ps) (sym (no-hold there (omega arith) (omega arith) ∙ ap (piecesOf h n (p .second + f) x) segs))
+            ∙ ap (λ (ps : List Piece). pieceBetween p there ∷ ps)
+            (sym (no-hold there (omega arith) (omega arith) ∙ ap (piecesOf h n (p .second + f) x) segs))
 
       run-first : rateAt h l v ≤ gap v next → First (afterRun h (min (gap v next / rateAt h l v) (n - p .second)) p seg)
       run-first le =
@@ -342,5 +345,6 @@ all-left u c up rises a n =
     let e : heading (trajectoryOf u c) ≡ h = heading-is u c up rises in
     elim (decLe a n) [
       | yes le ↦ no-hold h l t n (beginning c a) le (omega arith) ∙ ap (λ (k : Heading). piecesOf k n a v (segmentsFrom k l t v)) (sym e)
-      | no le ↦ left-none h l t n (beginning c a) (omega arith) ∙ sym (pieces-none (heading (trajectoryOf u c)) n a v (segments (trajectoryOf u c)) (omega arith))
+      | no le ↦ left-none h l t n (beginning c a) (omega arith)
+          ∙ sym (pieces-none (heading (trajectoryOf u c)) n a v (segments (trajectoryOf u c)) (omega arith))
     ]

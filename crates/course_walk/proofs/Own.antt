@@ -42,7 +42,8 @@ module _ (h : Heading) (l m : Lists) (a : Alike h l m) (t : ℕ) where
       λ i.
       let stop : ℕ = a .next t v i in
       let w : ℕ = toward h v (min (a .rate v i) (gap v stop)) in
-      pick (ltb 0 (o .left)) (record { level = v; left = o .left - 1 }) (pick (eqb v t) o (record { level = w; left = pick (eqb w stop) (a .hold t w i) 0 }))
+      pick (ltb 0 (o .left)) (record { level = v; left = o .left - 1 })
+      (pick (eqb v t) o (record { level = w; left = pick (eqb w stop) (a .hold t w i) 0 }))
 
   alike-after : (k : ℕ) (o : Moment) → after h l t k o ≡ after h m t k o
   unfolding after
@@ -96,4 +97,5 @@ module _ (u : UnitData) (c : Course) (up : Bool) (l : OwnLists) (e : l ≡ ownLi
     unfolding piecesLeft
     own-left =
         let held : ℕ = min (p .second + p .left) n in
-        ap (λ (ls : List Segment). piece (p .second) held (p .level) (p .level) ++ piecesOf (headed up) n held (p .level) ls) (own-segments t (p .level))
+        ap (λ (ls : List Segment). piece (p .second) held (p .level) (p .level) ++ piecesOf (headed up) n held (p .level) ls)
+        (own-segments t (p .level))

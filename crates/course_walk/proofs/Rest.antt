@@ -33,7 +33,8 @@ module _ (h : Heading) (l : Lists) (t : ℕ) (p : Place) where
     | yes some ↦ subst (Known h l t) (reached-none (simp (lt-ltb 0 (p .left) some))) (λ lt. absurd (omega arith))
     | no hold ↦ elim (ℕ-discrete (p .level) t) [
       | yes e ↦ subst (Known h l t) (reached-none (simp (le-ltb 0 (p .left) (omega arith), eq-eqb (p .level) t e))) (λ lt. absurd (omega arith))
-      | no e ↦ subst (Known h l t) (reached-found (simp (le-ltb 0 (p .left) (omega arith), ne-eqb (p .level) t e))) (λ lt. (omega arith, short-past h t (p .level) sh e, refl))
+      | no e ↦ subst (Known h l t) (reached-found (simp (le-ltb 0 (p .left) (omega arith), ne-eqb (p .level) t e)))
+          (λ lt. (omega arith, short-past h t (p .level) sh e, refl))
     ]
   ]
 
@@ -91,7 +92,8 @@ module _ (h : Heading) (l : Lists) (t n : ℕ) (p : Place) (ahead : Past h (p .l
     | no z ↦ elim (decLe (segment .rate) (segment .way)) [
       | yes le ↦
           subst (λ (q : Place). Known h l t (record { place = q; rest = restAlong n p segment })) (along-run h n p segment z le)
-          (subst (λ (s : Segment). Known h l t (record { place = afterRun h (min (segment .way / segment .rate) (n - p .second)) p segment; rest = s })) (rest-run n p segment z le)
+          (subst (λ (s : Segment). Known h l t (record
+          { place = afterRun h (min (segment .way / segment .rate) (n - p .second)) p segment; rest = s })) (rest-run n p segment z le)
           (run-known (min (segment .way / segment .rate) (n - p .second))))
       | no le ↦ λ lt. absurd (none (rest-short n p segment z (omega arith)) lt)
     ]

@@ -28,7 +28,8 @@ module _ (h : Heading) (l : Lists) (t : ℕ) where
   stuck zero v p z = refl
   stuck (suc f) v p z =
       ap (second h l t) (stuck f v p z)
-      ∙ (second-run h l t v p (omega (arith, gap-some v (nextStop h l t v) h (next-past h l t v p .0))) ∙ ap (λ (w : ℕ). at w 0) (ap (toward h v) z ∙ toward-zero h v))
+      ∙ (second-run h l t v p (omega (arith, gap-some v (nextStop h l t v) h (next-past h l t v p .0)))
+      ∙ ap (λ (w : ℕ). at w 0) (ap (toward h v) z ∙ toward-zero h v))
 
   -- at full rate from v: the hold begins where the whole way is come
   module _ (v : ℕ) (p : Past h v t) (some : 1 ≤ rateAt h l v) where
@@ -45,7 +46,8 @@ module _ (h : Heading) (l : Lists) (t : ℕ) where
     ran f = at (toward h v (f * rate)) (pick (eqb (f * rate) way) (holdAt h l t stop) 0)
 
     pub ran-whole : (f : ℕ) → f * rate ≡ way → ran f ≡ at stop (holdAt h l t stop)
-    ran-whole f e = simp (eq-eqb (f * rate) way e) (ap (λ (w : ℕ). at w (holdAt h l t stop)) (ap (toward h v) e ∙ gap-to v stop h (next-past h l t v p .0)))
+    ran-whole f e =
+        simp (eq-eqb (f * rate) way e) (ap (λ (w : ℕ). at w (holdAt h l t stop)) (ap (toward h v) e ∙ gap-to v stop h (next-past h l t v p .0)))
 
     pub ran-part : (f : ℕ) → (f * rate ≡ way → ⊥) → ran f ≡ at (toward h v (f * rate)) 0
     ran-part f e = simp (ne-eqb (f * rate) way e)
@@ -62,7 +64,8 @@ module _ (h : Heading) (l : Lists) (t : ℕ) where
         elim (ℕ-discrete (f * rate + rate) way) [
           | yes e ↦ second-stop h l t x z (omega arith) ∙ ap (λ (w : ℕ). at w (holdAt h l t w)) same ∙ sym (ran-whole (suc f) (omega arith))
           | no e ↦ second-run h l t x z (omega arith)
-              ∙ ap (λ (w : ℕ). at w 0) (toward-add h v (f * rate) (rateAt h l x) ∙ ap (toward h v) {x = f * rate + rateAt h l x} {y = suc f * rate} (omega arith))
+              ∙ ap (λ (w : ℕ). at w 0) (toward-add h v (f * rate) (rateAt h l x)
+              ∙ ap (toward h v) {x = f * rate + rateAt h l x} {y = suc f * rate} (omega arith))
               ∙ sym (ran-part (suc f) (λ e′. e (omega arith)))
         ]
 

@@ -67,7 +67,8 @@ pub by-kind : (find : Taken → Found) (d : Day) (s : List ℕ) →
     ∷ kindRefusals find (d .taken) (kindOf s) (bodyOf s))
 unfolding answerBy
 by-kind find d s =
-    ap (λ (a : Answer). before (refusing (noBytes s) TooFewBytes) (before (refusing (unknownKind s) UnknownKind) (before (refusing (tooFew s) TooFewBytes) (before (refusing (d .closed) AfterClose) a))))
+    ap (λ (a : Answer). before (refusing (noBytes s) TooFewBytes)
+    (before (refusing (unknownKind s) UnknownKind) (before (refusing (tooFew s) TooFewBytes) (before (refusing (d .closed) AfterClose) a))))
     (order-kind find (d .taken) (bodyOf s) (kindOf s))
 
 -- ---- what an acceptance says, kind by kind
@@ -129,7 +130,9 @@ no-kinds k n1 n2 n3 n4 = simp (ne-eqb k 1 n1, ne-eqb k 2 n2, ne-eqb k 3 n3, ne-e
 -- a record has a byte of kind
 pub some-size : (k : ℕ) → 1 ≤ sizeOf k
 unfolding sizeOf
-some-size k = by-bool (eqb k 1) (λ e. simp e (omega arith)) (λ e. by-bool (eqb k 2) (λ t. simp (e, t) (omega arith)) (λ t. by-bool (eqb k 3) (λ v. simp (e, t, v) (omega arith)) (λ v. simp (e, t, v) (omega arith))))
+some-size k =
+    by-bool (eqb k 1) (λ e. simp e (omega arith)) (λ e. by-bool (eqb k 2) (λ t. simp (e, t) (omega arith))
+    (λ t. by-bool (eqb k 3) (λ v. simp (e, t, v) (omega arith)) (λ v. simp (e, t, v) (omega arith))))
 
 module _ (find : Taken → Found) (d : Day) (s : List ℕ) where
   pub record Passed : Type 0 where
@@ -145,7 +148,9 @@ module _ (find : Taken → Found) (d : Day) (s : List ℕ) where
   unfolding noBytes tooFew kindRefusals
   passed e =
       let k : ℕ = kindOf s in
-      let a = all-accepted (refusing (noBytes s) TooFewBytes ∷ refusing (unknownKind s) UnknownKind ∷ refusing (tooFew s) TooFewBytes ∷ refusing (d .closed) AfterClose ∷ firstRefusal (kindRefusals find (d .taken) k (bodyOf s)) ∷ [])
+      let a =
+      all-accepted (refusing (noBytes s) TooFewBytes ∷ refusing (unknownKind s) UnknownKind ∷ refusing (tooFew s) TooFewBytes ∷ refusing (d .closed)
+      AfterClose ∷ firstRefusal (kindRefusals find (d .taken) k (bodyOf s)) ∷ [])
       (last ∙ (sym (by-kind find d s) ∙ e)) in
       let own : firstRefusal (kindRefusals find (d .taken) k (bodyOf s)) ≡ Accepted = a .1 .1 .1 .1 .0 in
       record {
@@ -158,16 +163,21 @@ module _ (find : Taken → Found) (d : Day) (s : List ℕ) where
         close = λ h. close-passes (d .taken) (find (d .taken)) (kind-is k 4 h own);
       }
     where
-      last : firstRefusal (refusing (noBytes s) TooFewBytes ∷ refusing (unknownKind s) UnknownKind ∷ refusing (tooFew s) TooFewBytes ∷ refusing (d .closed) AfterClose ∷ firstRefusal (kindRefusals find (d .taken) (kindOf s) (bodyOf s)) ∷ [])
-          ≡ firstRefusal (refusing (noBytes s) TooFewBytes ∷ refusing (unknownKind s) UnknownKind ∷ refusing (tooFew s) TooFewBytes ∷ refusing (d .closed) AfterClose ∷ kindRefusals find (d .taken) (kindOf s) (bodyOf s))
-      last = ap (λ (x : Answer). before (refusing (noBytes s) TooFewBytes) (before (refusing (unknownKind s) UnknownKind) (before (refusing (tooFew s) TooFewBytes) (before (refusing (d .closed) AfterClose) x))))
+      last : firstRefusal (refusing (noBytes s) TooFewBytes ∷ refusing (unknownKind s) UnknownKind ∷ refusing (tooFew s) TooFewBytes ∷ refusing
+          (d .closed) AfterClose ∷ firstRefusal (kindRefusals find (d .taken) (kindOf s) (bodyOf s)) ∷ [])
+          ≡ firstRefusal (refusing (noBytes s) TooFewBytes ∷ refusing (unknownKind s) UnknownKind ∷ refusing (tooFew s) TooFewBytes ∷ refusing
+          (d .closed) AfterClose ∷ kindRefusals find (d .taken) (kindOf s) (bodyOf s))
+      last =
+          ap (λ (x : Answer). before (refusing (noBytes s) TooFewBytes)
+          (before (refusing (unknownKind s) UnknownKind) (before (refusing (tooFew s) TooFewBytes) (before (refusing (d .closed) AfterClose) x))))
           (end (firstRefusal (kindRefusals find (d .taken) (kindOf s) (bodyOf s))))
         where
           end : (x : Answer) → before x Accepted ≡ x
           end Accepted = refl
           end (Refused r) = refl
 
-      kind-is : (k m : ℕ) → k ≡ m → firstRefusal (kindRefusals find (d .taken) k (bodyOf s)) ≡ Accepted → firstRefusal (kindRefusals find (d .taken) m (bodyOf s)) ≡ Accepted
+      kind-is : (k m : ℕ) → k ≡ m → firstRefusal (kindRefusals find (d .taken) k (bodyOf s)) ≡ Accepted →
+          firstRefusal (kindRefusals find (d .taken) m (bodyOf s)) ≡ Accepted
       kind-is k m h e = ap (λ (n : ℕ). firstRefusal (kindRefusals find (d .taken) n (bodyOf s))) (sym h) ∙ e
 
 -- ---- a step, by its kind
@@ -196,7 +206,8 @@ module _ (find : Taken → Found) (d : Day) (s : List ℕ) where
     -- of the kind k: 2, 24, then those of the kind
     pub kind-step : (k : ℕ) → getD s 0 0 ≡ k → aKind k ≡ true →
         let b : List ℕ = take (sizeOf k - 1) (drop 1 s) in
-        settle (firstRefusal (refusing (ltb (length s) (sizeOf k)) TooFewBytes ∷ refusing (d .closed) AfterClose ∷ kindRefusals find (d .taken) k b)) d (accept (dayWith find d k b) (sizeOf k))
+        settle (firstRefusal (refusing (ltb (length s) (sizeOf k)) TooFewBytes ∷ refusing (d .closed) AfterClose ∷ kindRefusals find (d .taken) k b))
+        d (accept (dayWith find d k b) (sizeOf k))
         ≡ stepBy find d s
     unfolding stepBy tooFew bodyOf kindOf
     kind-step k e is = rw (sym e, by-kind find d s, has, known k e is) refl
@@ -204,4 +215,5 @@ module _ (find : Taken → Found) (d : Day) (s : List ℕ) where
 -- a step uses no more than there is
 pub step-used : (find : Taken → Found) (d : Day) (s : List ℕ) → stepBy find d s .used ≤ length s
 unfolding stepBy
-step-used find d s = by-bool (accepted (answerBy find d s)) (λ e. simp e (passed find d s (is-accepted (answerBy find d s) e) .long)) (λ e. simp e (omega arith))
+step-used find d s =
+    by-bool (accepted (answerBy find d s)) (λ e. simp e (passed find d s (is-accepted (answerBy find d s) e) .long)) (λ e. simp e (omega arith))

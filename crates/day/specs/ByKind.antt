@@ -1,4 +1,5 @@
--- Working. The refusals kind by kind, after 2, 1, 2 and 24: in the paper's order, those that can meet the kind. (`by-kind` in proofs/ByKind: they are the
+-- Working. The refusals kind by kind, after 2, 1, 2 and 24: in the paper's order, those that can meet the kind. (`by-kind` in proofs/ByKind: they are
+-- the
 -- paper's one order, `answerBy`.)
 use Prim.Native.Nat.{ℕ}
 use mathlib.Core.List.{List, [], _∷_}

@@ -36,7 +36,9 @@ read-is t f high a e h q =
 module _ (d : Day) (early : Answer) (e : early ≡ closeFront (d .taken .hasStart) (d .closed)) where
   -- what follows on the first refusals
   abbrev later : Stepped
-  later = settle (refusing (quantityTooHigh (d .taken .unit) (foundIn paper (d .taken))) QuantityTooHigh) d (accept (dayWith (foundIn paper) d 4 []) closeSize)
+  later =
+      settle (refusing (quantityTooHigh (d .taken .unit) (foundIn paper (d .taken))) QuantityTooHigh) d
+      (accept (dayWith (foundIn paper) d 4 []) closeSize)
 
   pub close-early : accepted early ≡ false → record { answer = early; day = d; used = 0 } ≡ closeTaken (foundIn paper) d
   close-early n = settle-refused early d later n ∙ close-in-two (foundIn paper) d early e

@@ -67,7 +67,8 @@ instruction-answer : (a : Answer) (r : InstructionRead) → instructionAfter a r
 instruction-answer Accepted r = refl
 instruction-answer (Refused x) r = refl
 
-instruction-read : (a : Answer) (r : InstructionRead) → accepted (instructionAfter a r .answer) ≡ true → instructionAfter a r .instruction ≡ r .instruction
+instruction-read : (a : Answer) (r : InstructionRead) → accepted (instructionAfter a r .answer) ≡ true →
+    instructionAfter a r .instruction ≡ r .instruction
 instruction-read Accepted r e = refl
 instruction-read (Refused x) r e = never e
 
@@ -106,7 +107,8 @@ module _ (find : Taken → Found) (d : Day) (s : List ℕ) where
     unfolding unitFront kindRefusals sizeOf aKind some
     unit-step k =
         ap (λ (x : UnitRead). taken 1 unitSize (x .answer)) e
-        ∙ (ap (taken 1 unitSize) (unit-answer unit-early unit-body ∙ (ap (before unit-early) (last-is (unit-body .answer)) ∙ in-two unitSize unit-state (unit-body .answer ∷ [])))
+        ∙ (ap (taken 1 unitSize) (unit-answer unit-early unit-body
+        ∙ (ap (before unit-early) (last-is (unit-body .answer)) ∙ in-two unitSize unit-state (unit-body .answer ∷ [])))
         ∙ kind-step find d s (first-some s 0 k) 1 k refl)
 
     pub unit-says : accepted (r .answer) ≡ true → r .unit ≡ unitOf (numbers (body unitSize s) 62)
@@ -129,12 +131,14 @@ module _ (find : Taken → Found) (d : Day) (s : List ℕ) where
         let a : Answer = openingAnswer (body openingSize s) in
         let b : Answer = refusing (tooHigh (t .unit) (openingOf (body openingSize s))) OpeningTooHigh in
         ap (λ (x : OpeningRead). taken 2 openingSize (x .answer)) e
-        ∙ (ap (taken 2 openingSize) (opening-answer opening-early opening-body ∙ (ap (λ (x : Answer). before opening-early (before a x)) (last-is b) ∙ in-two openingSize opening-state (a ∷ b ∷ [])))
+        ∙ (ap (taken 2 openingSize) (opening-answer opening-early opening-body
+        ∙ (ap (λ (x : Answer). before opening-early (before a x)) (last-is b) ∙ in-two openingSize opening-state (a ∷ b ∷ [])))
         ∙ kind-step find d s (first-some s 1 k) 2 k refl)
 
     pub opening-says : accepted (r .answer) ≡ true → r .opening ≡ openingOf (body openingSize s)
     unfolding openingFront belowMaximum
-    opening-says y = ap (λ (x : OpeningRead). x .opening) e ∙ opening-read opening-early opening-body (ap (λ (x : OpeningRead). accepted (x .answer)) (sym e) ∙ y)
+    opening-says y =
+        ap (λ (x : OpeningRead). x .opening) e ∙ opening-read opening-early opening-body (ap (λ (x : OpeningRead). accepted (x .answer)) (sym e) ∙ y)
 
   module _ (r : InstructionRead) (e : r ≡ instructionFront (t .hasUnit) (d .closed) (t .count) s) where
     abbrev instruction-state : List Answer
@@ -150,7 +154,9 @@ module _ (find : Taken → Found) (d : Day) (s : List ℕ) where
     unfolding instructionFront
     answer-is =
         ap (λ (x : InstructionRead). x .answer) e
-        ∙ (instruction-answer instruction-early instruction-body ∙ (ap (before instruction-early) (last-is (instruction-body .answer)) ∙ in-two instructionSize instruction-state (instruction-body .answer ∷ [])))
+        ∙ (instruction-answer instruction-early instruction-body
+        ∙ (ap (before instruction-early) (last-is (instruction-body .answer))
+        ∙ in-two instructionSize instruction-state (instruction-body .answer ∷ [])))
 
     pub instruction-step : getD s 0 0 ≡ 3 → taken 3 instructionSize (r .answer) ≡ stepBy find d s
     unfolding kindRefusals sizeOf aKind some
@@ -158,13 +164,17 @@ module _ (find : Taken → Found) (d : Day) (s : List ℕ) where
 
     pub instruction-says : accepted (r .answer) ≡ true → r .instruction ≡ instructionOf (body instructionSize s)
     unfolding instructionFront
-    instruction-says y = ap (λ (x : InstructionRead). x .instruction) e ∙ instruction-read instruction-early instruction-body (ap (λ (x : InstructionRead). accepted (x .answer)) (sym e) ∙ y)
+    instruction-says y =
+        ap (λ (x : InstructionRead). x .instruction) e
+        ∙ instruction-read instruction-early instruction-body (ap (λ (x : InstructionRead). accepted (x .answer)) (sym e) ∙ y)
 
     -- an instruction that is taken is one of the first forty
     pub instruction-room : accepted (r .answer) ≡ true → t .count < instructionPlaces
     instruction-room y =
         let b : List ℕ = body instructionSize s in
-        let a = all-accepted (refusing (ltb (length s) instructionSize) TooFewBytes ∷ refusing (d .closed) AfterClose ∷ instructionRefusals t b) (sym answer-is ∙ is-accepted (r .answer) y) in
+        let a =
+        all-accepted (refusing (ltb (length s) instructionSize) TooFewBytes ∷ refusing (d .closed) AfterClose ∷ instructionRefusals t b)
+        (sym answer-is ∙ is-accepted (r .answer) y) in
         instruction-passes t b (again (instructionRefusals t b) (a .1 .1)) .room
       where
         again : (xs : List Answer) → All (λ (x : Answer). x ≡ Accepted) xs → firstRefusal xs ≡ Accepted
@@ -174,7 +184,8 @@ module _ (find : Taken → Found) (d : Day) (s : List ℕ) where
   pub close-step : 1 ≤ length s → getD s 0 0 ≡ 4 → closeTaken find d ≡ stepBy find d s
   unfolding kindRefusals sizeOf aKind some dayWith
   close-step some k =
-      ap (λ (b : Bool). settle (before (refusing b TooFewBytes) (firstRefusal (refusing (d .closed) AfterClose ∷ closeRefusals t (find t)))) d (accept (dayWith find d 4 (body closeSize s)) closeSize)) (sym (le-ltb (length s) closeSize some))
+      ap (λ (b : Bool). settle (before (refusing b TooFewBytes) (firstRefusal (refusing (d .closed) AfterClose ∷ closeRefusals t (find t)))) d
+      (accept (dayWith find d 4 (body closeSize s)) closeSize)) (sym (le-ltb (length s) closeSize some))
       ∙ kind-step find d s some 4 k refl
 
 -- ---- a close, by what comes before anything is found, and by what is found
@@ -188,7 +199,8 @@ module _ (find : Taken → Found) (d : Day) (a : Answer) (e : a ≡ closeFront (
       let b : Answer = refusing (quantityTooHigh (d .taken .unit) (find (d .taken))) QuantityTooHigh in
       settle-both a b d (accept (dayWith find d 4 []) closeSize)
       ∙ ap (λ (x : Answer). settle x d (accept (dayWith find d 4 []) closeSize))
-      (ap (λ (x : Answer). before x b) e ∙ (ap (before (closeFront (d .taken .hasStart) (d .closed))) (last-is b) ∙ first-append (refusing (d .closed) AfterClose ∷ refusing (not (d .taken .hasStart)) NotReady ∷ []) (b ∷ [])))
+      (ap (λ (x : Answer). before x b) e ∙ (ap (before (closeFront (d .taken .hasStart) (d .closed))) (last-is b)
+      ∙ first-append (refusing (d .closed) AfterClose ∷ refusing (not (d .taken .hasStart)) NotReady ∷ []) (b ∷ [])))
 
 -- ---- refusal 22, of an opening whose fields are answered
 module _ (u : UnitData) (r : OpeningRead) (fits high : Bool) (f : fits ≡ accepted (r .answer)) (h : high ≡ tooHigh u (r .opening)) where

@@ -66,11 +66,13 @@ belowMaximum u r = record { answer = before (r .answer) (refusing (tooHigh u (r 
 
 unfoldable pub openingFront : Bool → Bool → Bool → UnitData → List ℕ → OpeningRead
 openingFront hasUnit hasStart closed u s =
-    openingAfter (early openingSize closed s (refusing hasStart SecondOne ∷ refusing (not hasUnit) BeforeUnit ∷ [])) (belowMaximum u (openingRead (body openingSize s)))
+    openingAfter (early openingSize closed s (refusing hasStart SecondOne ∷ refusing (not hasUnit) BeforeUnit ∷ []))
+    (belowMaximum u (openingRead (body openingSize s)))
 
 unfoldable pub instructionFront : Bool → Bool → ℕ → List ℕ → InstructionRead
 instructionFront hasUnit closed count s =
-    instructionAfter (early instructionSize closed s (refusing (not hasUnit) BeforeUnit ∷ refusing (leb instructionPlaces count) TooManyInstructions ∷ []))
+    instructionAfter (early instructionSize closed s (refusing (not hasUnit) BeforeUnit ∷ refusing (leb instructionPlaces count) TooManyInstructions ∷
+    []))
     (instructionRead daySeconds (body instructionSize s))
 
 -- a close, before anything is found
@@ -79,4 +81,5 @@ closeFront hasStart closed = firstRefusal (refusing closed AfterClose ∷ refusi
 
 -- a close of the day d, find giving what is found
 abbrev pub closeTaken : (Taken → Found) → Day → Stepped
-closeTaken find d = settle (firstRefusal (refusing (d .closed) AfterClose ∷ closeRefusals (d .taken) (find (d .taken)))) d (accept (dayWith find d 4 []) closeSize)
+closeTaken find d =
+    settle (firstRefusal (refusing (d .closed) AfterClose ∷ closeRefusals (d .taken) (find (d .taken)))) d (accept (dayWith find d 4 []) closeSize)

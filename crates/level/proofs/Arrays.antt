@@ -48,10 +48,13 @@ module _ {A : Type 0} (x : A) where
   unfolding filled
   filled-push zero xs o h = absurd (omega arith)
   filled-push (suc m) xs o h =
-      let r : replicate (suc m) x ≡ replicate m x ++ (x ∷ []) = ap (λ (k : ℕ). replicate k x) (sym (add-one m)) ∙ sym (replicate-append-replicate m 1 x) in
+      let r : replicate (suc m) x ≡ replicate m x ++ (x ∷ []) =
+      ap (λ (k : ℕ). replicate k x) (sym (add-one m)) ∙ sym (replicate-append-replicate m 1 x) in
       let k : suc m ≤ length (xs ++ (o ∷ replicate m x)) = simp (length-append, length-replicate) (omega arith) in
       let e : take (suc m) (xs ++ (o ∷ replicate (suc m) x)) ≡ take (suc m) (xs ++ (o ∷ replicate m x)) =
-      ap (λ (l : List A). take (suc m) (xs ++ (o ∷ l))) r ∙ (ap (take (suc m)) (sym (append-assoc xs (o ∷ replicate m x) (x ∷ []))) ∙ take-append-le (suc m) (xs ++ (o ∷ replicate m x)) (x ∷ []) k) in
+      ap (λ (l : List A). take (suc m) (xs ++ (o ∷ l))) r
+      ∙ (ap (take (suc m)) (sym (append-assoc xs (o ∷ replicate m x) (x ∷ []))) ∙ take-append-le (suc m) (xs ++ (o ∷ replicate m x)) (x ∷ []) k)
+      in
       sym (take-set-lt (suc m) (xs ++ replicate (suc m) x) (length xs) o h)
       ∙ (ap (take (suc m)) (set-append-seam xs x (replicate m x) o)
       ∙ (sym e ∙ ap (take (suc m)) (sym (append-assoc xs (o ∷ []) (replicate (suc m) x)))))
@@ -60,6 +63,7 @@ module _ {A : Type 0} (x : A) where
   unfolding filled
   filled-whole n xs h = ap (λ (k : ℕ). take k (xs ++ replicate n x)) (sym h) ∙ take-append-seam xs (replicate n x)
 
-pub filled-set : {A : Type 0} (z : A) (n : ℕ) (xs : List A) (j : ℕ) (v : A) → j < length xs → j < n → set (filled n z xs) j v ≡ filled n z (set xs j v)
+pub filled-set : {A : Type 0} (z : A) (n : ℕ) (xs : List A) (j : ℕ) (v : A) → j < length xs → j < n →
+    set (filled n z xs) j v ≡ filled n z (set xs j v)
 unfolding filled
 filled-set z n xs j v h k = sym (take-set-lt n (xs ++ replicate n z) j v k) ∙ ap (take n) (set-append-left xs (replicate n z) j v h)

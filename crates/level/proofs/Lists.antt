@@ -41,7 +41,9 @@ tail-is n s = take-all (length s - n) (drop n s) (simp length-drop (omega arith)
 pub list-snoc : (f : ℕ → ℕ) (a n : ℕ) → listFrom f a (suc n) ≡ listFrom f a n ++ (f (a + n) ∷ [])
 unfolding listFrom
 list-snoc f a zero = ap (λ (k : ℕ). f k ∷ []) {x = a} {y = a + 0} (omega arith)
-list-snoc f a (suc n) = ap (λ (xs : List ℕ). f a ∷ xs) (list-snoc f (suc a) n ∙ ap (λ (k : ℕ). listFrom f (suc a) n ++ (f k ∷ [])) {x = suc a + n} {y = a + suc n} (omega arith))
+list-snoc f a (suc n) =
+    ap (λ (xs : List ℕ). f a ∷ xs) (list-snoc f (suc a) n
+    ∙ ap (λ (k : ℕ). listFrom f (suc a) n ++ (f k ∷ [])) {x = suc a + n} {y = a + suc n} (omega arith))
 
 -- what is left of the first n from the place i on
 module _ {A : Type 0} (xs : List A) (n : ℕ) where

@@ -25,7 +25,8 @@ unfolding fLine line fields field decimal digits
 f-one = refl
 
 -- S 120 300 6000000 6180000
-s-two : sLine 120 300 6000000 6180000 ≡ 83 ∷ 32 ∷ 49 ∷ 50 ∷ 48 ∷ 32 ∷ 51 ∷ 48 ∷ 48 ∷ 32 ∷ 54 ∷ 48 ∷ 48 ∷ 48 ∷ 48 ∷ 48 ∷ 48 ∷ 32 ∷ 54 ∷ 49 ∷ 56 ∷ 48 ∷ 48 ∷ 48 ∷ 48 ∷ 10 ∷ []
+s-two : sLine 120 300 6000000 6180000 ≡ 83 ∷ 32 ∷ 49 ∷ 50 ∷ 48 ∷ 32 ∷ 51 ∷ 48 ∷ 48 ∷ 32 ∷ 54 ∷ 48 ∷ 48 ∷ 48 ∷ 48 ∷ 48 ∷ 48 ∷ 32 ∷ 54 ∷ 49 ∷ 56 ∷ 48 ∷
+    48 ∷ 48 ∷ 48 ∷ 10 ∷ []
 unfolding sLine line fields field decimal digits
 s-two = refl
 

@@ -55,7 +55,8 @@ laid-set xs o n a e h =
     rw (e, drop-cons o (length xs) 0, set-append-seam, append-assoc, length-append, add-one)
 
 -- a part after those laid, filled at its front
-pub laid-part : (xs ys o p q : List ℕ) (n : ℕ) → n ≡ length xs → length (xs ++ ys) ≤ length o → p ≡ laid xs o → q ≡ laid ys (take (length p - n) (drop n p))
+pub laid-part : (xs ys o p q : List ℕ) (n : ℕ) → n ≡ length xs → length (xs ++ ys) ≤ length o → p ≡ laid xs o →
+    q ≡ laid ys (take (length p - n) (drop n p))
     → take n p ++ (q ++ drop (length p - n) (drop n p)) ≡ laid (xs ++ ys) o
 laid-part xs ys o p q n e h ep eq =
     let la : length (xs ++ ys) ≡ length xs + length ys = length-append xs ys in
@@ -116,17 +117,20 @@ last-put n v o h =
     let x : ℕ = v % 10 + 48 in
     let xs : List ℕ = lastDigits n (v / 10) in
     ap (λ (k : ℕ). (xs ++ (x ∷ [])) ++ drop k o) (last-length (suc n) v)
-    ∙ (append-assoc xs (x ∷ []) (drop (suc n) o) ∙ (ap (λ (l : List ℕ). xs ++ l) (sym (drop-set o n x h)) ∙ ap (λ (k : ℕ). xs ++ drop k (set o n x)) (sym (last-length n (v / 10)))))
+    ∙ (append-assoc xs (x ∷ []) (drop (suc n) o) ∙ (ap (λ (l : List ℕ). xs ++ l) (sym (drop-set o n x h))
+    ∙ ap (λ (k : ℕ). xs ++ drop k (set o n x)) (sym (last-length n (v / 10)))))
 
 -- the last two digits stored, the tens and the ones of v % 100
-pub last-two : (n v : ℕ) (o : List ℕ) → n + 1 < length o → laid (lastDigits (n + 2) v) o ≡ laid (lastDigits n (v / 100)) (set (set o (n + 1) (v % 100 % 10 + 48)) n (v % 100 / 10 + 48))
+pub last-two : (n v : ℕ) (o : List ℕ) → n + 1 < length o →
+    laid (lastDigits (n + 2) v) o ≡ laid (lastDigits n (v / 100)) (set (set o (n + 1) (v % 100 % 10 + 48)) n (v % 100 / 10 + 48))
 last-two n v o h =
     let e : n + 2 ≡ suc (suc n) = omega arith in
     let ones : v % 100 % 10 ≡ v % 10 = omega arith in
     let both : v % 100 ≡ v / 10 % 10 * 10 + v % 10 = mod-mul v {m = 10} {c = 10} (omega arith) (omega arith) in
     let tens : v % 100 / 10 ≡ v / 10 % 10 = omega arith in
     let left : v / 100 ≡ v / 10 / 10 = omega arith in
-    rw (e, add-one n, ones, tens, left) (last-put (suc n) v o (omega arith) ∙ last-put n (v / 10) (set o (suc n) (v % 10 + 48)) (lt-length-set o (suc n) _ (omega arith)))
+    rw (e, add-one n, ones, tens, left) (last-put (suc n) v o (omega arith)
+    ∙ last-put n (v / 10) (set o (suc n) (v % 10 + 48)) (lt-length-set o (suc n) _ (omega arith)))
 
 -- a part from n to the end has what is left
 pub part-length : (n : ℕ) (p : List ℕ) → length (take (length p - n) (drop n p)) ≡ length p - n
@@ -157,9 +161,11 @@ fields-snoc (x ∷ vs) v = ap (λ (l : List ℕ). field x ++ l) (fields-snoc vs 
 
 pub begun-more : (letter : ℕ) (vs : List ℕ) (i : ℕ) → i < length vs → begun letter vs i ++ field (getD vs i 0) ≡ begun letter vs (i + 1)
 begun-more letter vs i h =
-    ap (λ (l : List ℕ). letter ∷ l) (sym (ap (λ (k : ℕ). fields (take k vs)) (add-one i) ∙ (ap fields (take-suc vs i 0 h) ∙ fields-snoc (take i vs) (getD vs i 0))))
+    ap (λ (l : List ℕ). letter ∷ l) (sym (ap (λ (k : ℕ). fields (take k vs)) (add-one i)
+    ∙ (ap fields (take-suc vs i 0 h) ∙ fields-snoc (take i vs) (getD vs i 0))))
 
-pub begun-length : (letter : ℕ) (vs : List ℕ) (i : ℕ) → i < length vs → length (begun letter vs (i + 1)) ≡ length (begun letter vs i) + length (field (getD vs i 0))
+pub begun-length : (letter : ℕ) (vs : List ℕ) (i : ℕ) → i < length vs →
+    length (begun letter vs (i + 1)) ≡ length (begun letter vs i) + length (field (getD vs i 0))
 begun-length letter vs i h = ap length (sym (begun-more letter vs i h)) ∙ simp length-append
 
 pub begun-all : (letter : ℕ) (vs : List ℕ) (i : ℕ) → length vs ≤ i → begun letter vs i ≡ letter ∷ fields vs
@@ -181,7 +187,8 @@ fields-grow (v ∷ vs) (suc i) = omega (arith, length-append (field v) (fields (
 pub room : (letter : ℕ) (vs : List ℕ) (i : ℕ) → length (begun letter vs i) + 1 ≤ length (line letter vs)
 room letter vs i = omega (arith, fields-grow vs i, line-length letter vs)
 
-pub room-more : (letter : ℕ) (vs : List ℕ) (i : ℕ) → i < length vs → length (begun letter vs i) + length (field (getD vs i 0)) + 1 ≤ length (line letter vs)
+pub room-more : (letter : ℕ) (vs : List ℕ) (i : ℕ) → i < length vs →
+    length (begun letter vs i) + length (field (getD vs i 0)) + 1 ≤ length (line letter vs)
 room-more letter vs i h = omega (arith, begun-length letter vs i h, room letter vs (i + 1))
 
 -- ---- widths
@@ -190,7 +197,12 @@ pub decimal-width : (k v : ℕ) → v < 10 ^ suc k → length (decimal v) ≤ su
 decimal-width zero v h = omega (arith, low-length v h)
 decimal-width (suc k) v h =
     by-bool (ltb v 10) (λ e. omega (arith, low-length v (ltb-true v 10 e)))
-    (λ e. let g : 10 ≤ v = ltb-false v 10 e in omega (arith, high-length v g, decimal-width k (v / 10) (omega (arith, rw (pow-succ' 10 (suc k)) at h))))
+    (λ e. let g : 10 ≤ v = ltb-false v 10 e in omega (
+      arith,
+      high-length v g,
+      decimal-width k (v / 10)
+          (omega (arith, rw (pow-succ' 10 (suc k)) at h)),
+    ))
 
 ten-some : (k : ℕ) → 1 ≤ 10 ^ k
 ten-some zero = omega arith
@@ -225,6 +237,7 @@ pub line-three : (letter a b c : ℕ) → length (line letter (a ∷ b ∷ c ∷
 unfolding line fields field
 line-three letter a b c = simp length-append (omega arith)
 
-pub line-four : (letter a b c d : ℕ) → length (line letter (a ∷ b ∷ c ∷ d ∷ [])) ≡ length (decimal a) + length (decimal b) + length (decimal c) + length (decimal d) + 6
+pub line-four : (letter a b c d : ℕ) →
+    length (line letter (a ∷ b ∷ c ∷ d ∷ [])) ≡ length (decimal a) + length (decimal b) + length (decimal c) + length (decimal d) + 6
 unfolding line fields field
 line-four letter a b c d = simp length-append (omega arith)

@@ -10,7 +10,8 @@ pub f-length : (n fate : ℕ) → length (fLine n fate) ≡ length (decimal n) +
 unfolding fLine
 f-length n fate = line-two 70 n fate
 
-pub s-length : (from to enter leave : ℕ) → length (sLine from to enter leave) ≡ length (decimal from) + length (decimal to) + length (decimal enter) + length (decimal leave) + 6
+pub s-length : (from to enter leave : ℕ) →
+    length (sLine from to enter leave) ≡ length (decimal from) + length (decimal to) + length (decimal enter) + length (decimal leave) + 6
 unfolding sLine
 s-length from to enter leave = line-four 83 from to enter leave
 
@@ -18,7 +19,8 @@ pub q-length : (first last kw : ℕ) → length (qLine first last kw) ≡ length
 unfolding qLine
 q-length first last kw = line-three 81 first last kw
 
-pub e-length : (level target heat off : ℕ) → length (eLine level target heat off) ≡ length (decimal level) + length (decimal target) + length (decimal heat) + length (decimal off) + 6
+pub e-length : (level target heat off : ℕ) →
+    length (eLine level target heat off) ≡ length (decimal level) + length (decimal target) + length (decimal heat) + length (decimal off) + 6
 unfolding eLine
 e-length level target heat off = line-four 69 level target heat off
 

@@ -93,31 +93,36 @@ decimals (v ∷ vs) = decimal v ∷ decimals vs
 fields-without : (vs : List ℕ) → Without 10 (fields vs)
 unfolding fields field
 fields-without [] = tt
-fields-without (v ∷ vs) = (λ e. omega arith, without-append 10 (decimal v) (fields vs) (without 10 (omega arith) (decimal v) (decimal-digits v)) (fields-without vs))
+fields-without (v ∷ vs) =
+    (λ e. omega arith, without-append 10 (decimal v) (fields vs) (without 10 (omega arith) (decimal v) (decimal-digits v)) (fields-without vs))
 
 words-of : (ds vs : List ℕ) → Without 32 ds → parted 32 (ds ++ (fields vs ++ (32 ∷ []))) ≡ ds ∷ decimals vs
 unfolding fields field
 words-of ds [] p = parted-end 32 ds [] p ∙ unfold parted in refl
 words-of ds (v ∷ vs) p =
     parted-end 32 ds ((decimal v ++ fields vs) ++ (32 ∷ [])) p
-    ∙ ap (λ (l : List (List ℕ)). ds ∷ l) (ap (parted 32) (append-assoc (decimal v) (fields vs) (32 ∷ [])) ∙ words-of (decimal v) vs (without 32 (omega arith) (decimal v) (decimal-digits v)))
+    ∙ ap (λ (l : List (List ℕ)). ds ∷ l) (ap (parted 32) (append-assoc (decimal v) (fields vs) (32 ∷ []))
+    ∙ words-of (decimal v) vs (without 32 (omega arith) (decimal v) (decimal-digits v)))
 
 -- a line in front: what it says of the half-hour, and then what the rest says
 printed-line : (h letter : ℕ) (vs rest : List ℕ) → (letter ≡ 10 → ⊥) → (letter ≡ 32 → ⊥)
     → printedAt (line letter vs ++ rest) h ≡ enclosing h ((letter ∷ []) ∷ decimals vs) ++ printedAt rest h
 unfolding printedAt linesOf line
 printed-line h letter vs rest p q =
-    ap (inLines h) (ap (parted 10) (ap (λ (l : List ℕ). letter ∷ l) (append-assoc (fields vs) (10 ∷ []) rest)) ∙ parted-end 10 (letter ∷ fields vs) rest (p, fields-without vs))
+    ap (inLines h) (ap (parted 10) (ap (λ (l : List ℕ). letter ∷ l) (append-assoc (fields vs) (10 ∷ []) rest))
+    ∙ parted-end 10 (letter ∷ fields vs) rest (p, fields-without vs))
     ∙ unfold inLines wordsOf in ap (λ (ws : List (List ℕ)). enclosing h ws ++ inLines h (parted 10 rest)) (words-of (letter ∷ []) vs (q, tt))
 
 q-words : (h first last k : ℕ) → enclosing h ((81 ∷ []) ∷ decimals (first ∷ last ∷ k ∷ [])) ≡ pick (leb first h && leb h last) (k ∷ []) []
 unfolding enclosing isByte
 q-words h first last k = simp (is-decimal first, is-decimal last, is-decimal k, value-decimal first, value-decimal last, value-decimal k)
 
-printed-q : (h first last k : ℕ) (rest : List ℕ) → printedAt (qLine first last k ++ rest) h ≡ pick (leb first h && leb h last) (k ∷ []) [] ++ printedAt rest h
+printed-q : (h first last k : ℕ) (rest : List ℕ) →
+    printedAt (qLine first last k ++ rest) h ≡ pick (leb first h && leb h last) (k ∷ []) [] ++ printedAt rest h
 unfolding qLine
 printed-q h first last k rest =
-    printed-line h 81 (first ∷ last ∷ k ∷ []) rest (λ e. omega arith) (λ e. omega arith) ∙ ap (λ (l : List ℕ). l ++ printedAt rest h) (q-words h first last k)
+    printed-line h 81 (first ∷ last ∷ k ∷ []) rest (λ e. omega arith) (λ e. omega arith)
+    ∙ ap (λ (l : List ℕ). l ++ printedAt rest h) (q-words h first last k)
 
 module _ (h first last k : ℕ) (rest : List ℕ) where
   q-before : h < first → printedAt (qLine first last k ++ rest) h ≡ printedAt rest h
@@ -137,7 +142,8 @@ module _ (h : ℕ) (rest : List ℕ) where
   runs-before first last k (x ∷ qs) p q =
       by-bool (eqb x k)
       (λ e. simp e (runs-before first (suc last) k qs p (omega arith)))
-      (λ e. simp (e, append-assoc) (q-before h first last k (runLines (suc last) (suc last) x qs ++ rest) p ∙ runs-before (suc last) (suc last) x qs (omega arith) (omega arith)))
+      (λ e. simp (e, append-assoc) (q-before h first last k (runLines (suc last) (suc last) x qs ++ rest) p
+      ∙ runs-before (suc last) (suc last) x qs (omega arith) (omega arith)))
 
   runs-in : (first last k : ℕ) (qs : List ℕ) → first ≤ h → h ≤ last → printedAt (runLines first last k qs ++ rest) h ≡ k ∷ printedAt rest h
   unfolding runLines
@@ -149,13 +155,15 @@ module _ (h : ℕ) (rest : List ℕ) where
       ∙ ap (λ (l : List ℕ). k ∷ l) (runs-before (suc last) (suc last) x qs (omega arith) (omega arith))))
 
   -- the i-th after the run so far
-  runs-after : (first last k : ℕ) (qs : List ℕ) (i : ℕ) → first ≤ last → h ≡ suc last + i → i < length qs → printedAt (runLines first last k qs ++ rest) h ≡ getD qs i 0 ∷ printedAt rest h
+  runs-after : (first last k : ℕ) (qs : List ℕ) (i : ℕ) → first ≤ last → h ≡ suc last + i → i < length qs →
+      printedAt (runLines first last k qs ++ rest) h ≡ getD qs i 0 ∷ printedAt rest h
   unfolding runLines
   runs-after first last k [] i p e l = absurd (omega arith)
   runs-after first last k (x ∷ qs) zero p e l =
       by-bool (eqb x k)
       (λ t. simp t (runs-in first (suc last) k qs (omega arith) (omega arith) ∙ ap (λ (n : ℕ). n ∷ printedAt rest h) (sym (eqb-true x k t))))
-      (λ t. simp (t, append-assoc) (q-after h first last k (runLines (suc last) (suc last) x qs ++ rest) (omega arith) (omega arith) ∙ runs-in (suc last) (suc last) x qs (omega arith) (omega arith)))
+      (λ t. simp (t, append-assoc) (q-after h first last k (runLines (suc last) (suc last) x qs ++ rest) (omega arith) (omega arith)
+      ∙ runs-in (suc last) (suc last) x qs (omega arith) (omega arith)))
   runs-after first last k (x ∷ qs) (suc i) p e l =
       by-bool (eqb x k)
       (λ t. simp t (runs-after first (suc last) k qs i (omega arith) (omega arith) (omega arith)))
@@ -173,13 +181,15 @@ printed-f : (h n : ℕ) (fates rest : List ℕ) → printedAt (fLines n fates ++
 unfolding fLines fLine enclosing
 printed-f h n [] rest = refl
 printed-f h n (f ∷ fates) rest =
-    simp append-assoc (printed-line h 70 (n ∷ f ∷ []) (fLines (suc n) fates ++ rest) (λ e. omega arith) (λ e. omega arith) ∙ printed-f h (suc n) fates rest)
+    simp append-assoc (printed-line h 70 (n ∷ f ∷ []) (fLines (suc n) fates ++ rest) (λ e. omega arith) (λ e. omega arith)
+    ∙ printed-f h (suc n) fates rest)
 
 printed-s : (h : ℕ) (ps : List Piece) (rest : List ℕ) → printedAt (sLines ps ++ rest) h ≡ printedAt rest h
 unfolding sLines sLine enclosing
 printed-s h [] rest = refl
 printed-s h (p ∷ ps) rest =
-    simp append-assoc (printed-line h 83 (p .from ∷ p .to ∷ p .enter ∷ p .leave ∷ []) (sLines ps ++ rest) (λ e. omega arith) (λ e. omega arith) ∙ printed-s h ps rest)
+    simp append-assoc (printed-line h 83 (p .from ∷ p .to ∷ p .enter ∷ p .leave ∷ []) (sLines ps ++ rest) (λ e. omega arith) (λ e. omega arith)
+    ∙ printed-s h ps rest)
 
 printed-e : (h level target heat off : ℕ) (rest : List ℕ) → printedAt (eLine level target heat off ++ rest) h ≡ printedAt rest h
 unfolding eLine enclosing
@@ -195,16 +205,20 @@ printed-more fates ps qs e more (suc i) p q =
     simp append-assoc (printed-f (suc i) 1 fates (sLines ps ++ (qLines qs ++ (last ++ more)))
     ∙ (printed-s (suc i) ps (qLines qs ++ (last ++ more))
     ∙ (printed-runs qs (last ++ more) i (omega arith)
-    ∙ (ap (λ (l : List ℕ). getD qs i 0 ∷ l) (printed-e (suc i) (e .level .grains) (e .target) (e .heat) (e .off) more) ∙ ap (λ (n : ℕ). getD qs n 0 ∷ printedAt more (suc i)) (omega arith)))))
+    ∙ (ap (λ (l : List ℕ). getD qs i 0 ∷ l) (printed-e (suc i) (e .level .grains) (e .target) (e .heat) (e .off) more)
+    ∙ ap (λ (n : ℕ). getD qs n 0 ∷ printedAt more (suc i)) (omega arith)))))
 
 nothing : (h : ℕ) → printedAt [] h ≡ []
 unfolding printedAt linesOf parted inLines
 nothing h = refl
 
-pub printed : (fates : List ℕ) (ps : List Piece) (qs : List ℕ) (e : Closing) (h : ℕ) → 1 ≤ h → h ≤ length qs → printedAt (listing fates ps qs e) h ≡ getD qs (h - 1) 0 ∷ []
+pub printed : (fates : List ℕ) (ps : List Piece) (qs : List ℕ) (e : Closing) (h : ℕ) → 1 ≤ h → h ≤ length qs →
+    printedAt (listing fates ps qs e) h ≡ getD qs (h - 1) 0 ∷ []
 printed fates ps qs e h p q =
-    ap (λ (l : List ℕ). printedAt l h) (sym (append-nil (listing fates ps qs e))) ∙ (printed-more fates ps qs e [] h p q ∙ ap (λ (l : List ℕ). getD qs (h - 1) 0 ∷ l) (nothing h))
+    ap (λ (l : List ℕ). printedAt l h) (sym (append-nil (listing fates ps qs e)))
+    ∙ (printed-more fates ps qs e [] h p q ∙ ap (λ (l : List ℕ). getD qs (h - 1) 0 ∷ l) (nothing h))
 
-pub printed-kw : (fates : List ℕ) (ps : List Piece) (qs : List ℕ) (e : Closing) (i : ℕ) → i < length qs → printedKw (listing fates ps qs e) (suc i) ≡ getD qs i 0
+pub printed-kw : (fates : List ℕ) (ps : List Piece) (qs : List ℕ) (e : Closing) (i : ℕ) → i < length qs →
+    printedKw (listing fates ps qs e) (suc i) ≡ getD qs i 0
 unfolding printedKw
 printed-kw fates ps qs e i l = ap firstOf (printed fates ps qs e (suc i) (omega arith) (omega arith)) ∙ ap (λ (n : ℕ). getD qs n 0) (omega arith)

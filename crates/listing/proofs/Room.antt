@@ -45,13 +45,19 @@ s-width (p ∷ ps) b =
 q-width : (first last k : ℕ) → first < 100 → last < 100 → k ≤ 2000000 → length (qLine first last k) ≤ 16
 q-width first last k f l h = omega (arith, q-length first last k, decimal-width 1 first f, decimal-width 1 last l, decimal-width 6 k (omega arith))
 
-runs-width : (first last k : ℕ) (qs : List ℕ) → first ≤ last → last + length qs < 100 → k ≤ 2000000 → All (λ (q : ℕ). q ≤ 2000000) qs → length (runLines first last k qs) ≤ 16 * suc (length qs)
+runs-width : (first last k : ℕ) (qs : List ℕ) → first ≤ last → last + length qs < 100 → k ≤ 2000000 → All (λ (q : ℕ). q ≤ 2000000) qs →
+    length (runLines first last k qs) ≤ 16 * suc (length qs)
 unfolding runLines
 runs-width first last k [] p r h b = omega (arith, q-width first last k (omega arith) (omega arith) h)
 runs-width first last k (x ∷ qs) p r h b =
     by-bool (eqb x k)
     (λ e. simp e (omega (arith, runs-width first (suc last) k qs (omega arith) (omega arith) h (b .1))))
-    (λ e. simp (e, length-append) (omega (arith, q-width first last k (omega arith) (omega arith) h, runs-width (suc last) (suc last) x qs (omega arith) (omega arith) (b .0) (b .1))))
+    (λ e. simp (e, length-append) (omega (
+      arith,
+      q-width first last k (omega arith) (omega arith) h,
+      runs-width (suc last) (suc last) x qs
+          (omega arith) (omega arith) (b .0) (b .1),
+    )))
 
 qs-width : (qs : List ℕ) → length qs ≤ mostHalfHours → All (λ (q : ℕ). q ≤ 2000000) qs → length (qLines qs) ≤ 16 * length qs
 unfolding qLines
@@ -71,7 +77,8 @@ e-width m e h b =
     )
 
 pub enough : (fates : List ℕ) (ps : List Piece) (qs : List ℕ) (e : Closing) (m : ℕ) → m ≤ 2000000
-    → length fates ≤ instructionPlaces → length ps ≤ 1312 → length qs ≤ mostHalfHours → All (λ (f : ℕ). f ≤ 8) fates → All (PieceBelow mostSeconds 120000000) ps → All (λ (q : ℕ). q ≤ 2000000) qs → ClosingBelow m e
+    → length fates ≤ instructionPlaces → length ps ≤ 1312 → length qs ≤ mostHalfHours → All (λ (f : ℕ). f ≤ 8) fates → All
+    (PieceBelow mostSeconds 120000000) ps → All (λ (q : ℕ). q ≤ 2000000) qs → ClosingBelow m e
     → length (listing fates ps qs e) ≤ suffices
 unfolding listing
 enough fates ps qs e m h f p q bf bp bq be =

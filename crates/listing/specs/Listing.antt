@@ -27,7 +27,8 @@ unfoldable pub sLines : List Piece → List ℕ
 sLines [] = []
 sLines (p ∷ ps) = sLine (p .from) (p .to) (p .enter) (p .leave) ++ sLines ps
 
--- "Q first last kW, longest runs of equal quantities": of the run of the quantity k from the half-hour first to the half-hour last so far, and then those of qs
+-- "Q first last kW, longest runs of equal quantities": of the run of the quantity k from the half-hour first to the half-hour last so far, and then
+-- those of qs
 unfoldable pub runLines : ℕ → ℕ → ℕ → List ℕ → List ℕ
 runLines first last k [] = qLine first last k
 runLines first last k (q ∷ qs) = pick (eqb q k) (runLines first (suc last) k qs) (qLine first last k ++ runLines (suc last) (suc last) q qs)

@@ -1,4 +1,5 @@
--- Believed: document 01, The printed day. The listing program: "reads records from standard input up to close and prints this, or at the first refusal only the line X n".
+-- Believed: document 01, The printed day. The listing program: "reads records from standard input up to close and prints this, or at the first
+-- refusal only the line X n".
 use Prim.Native.Nat.{ℕ, zero, suc}
 use mathlib.Core.List.{List}
 use mathlib.Core.Bool.{true, false}

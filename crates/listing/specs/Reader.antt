@@ -1,4 +1,5 @@
--- Believed: document 01, The printed day (demand 3). What a listing prints for a half-hour: "the kW of the Q line whose first and last enclose the half-hour".
+-- Believed: document 01, The printed day (demand 3). What a listing prints for a half-hour: "the kW of the Q line whose first and last enclose the
+-- half-hour".
 -- A reader of bytes: it names nothing of how they were written.
 use Prim.Native.Nat.{ℕ, _+_, _*_, _-_}
 use mathlib.Core.List.{List, [], _∷_, _++_}

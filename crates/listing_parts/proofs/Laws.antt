@@ -63,19 +63,22 @@ pub lay-first : (whole x rest o out : List ℕ) (at : ℕ) → whole ≡ x ++ re
 lay-first whole x rest o out at e n f = record { done = x; parts = sym e; count = n; filled = f }
 
 -- what is to come has room, and out is as long as it was
-pub lay-room : (whole rest o out : List ℕ) (at : ℕ) → length whole ≤ length o → Laying whole rest o out at → (at + length rest ≡ length whole) × (length out ≡ length o)
+pub lay-room : (whole rest o out : List ℕ) (at : ℕ) → length whole ≤ length o → Laying whole rest o out at →
+    (at + length rest ≡ length whole) × (length out ≡ length o)
 lay-room whole rest o out at h l =
     let e : length (l .done) + length rest ≡ length whole = sym (length-append (l .done) rest) ∙ ap length (l .parts) in
     (omega (arith, l .count), ap length (l .filled) ∙ laid-length (l .done) o (omega arith))
 
 -- x, which comes next, has room in the free tail
-pub lay-next : (whole left x rest o out : List ℕ) (at : ℕ) → length whole ≤ length o → left ≡ x ++ rest → Laying whole left o out at → (at + length x ≤ length out) × (length out ≡ length o)
+pub lay-next : (whole left x rest o out : List ℕ) (at : ℕ) → length whole ≤ length o → left ≡ x ++ rest → Laying whole left o out at →
+    (at + length x ≤ length out) × (length out ≡ length o)
 lay-next whole left x rest o out at h e l =
     let r = lay-room whole left o out at h l in
     (omega (arith, r .0, r .1, left-shorter left x rest e), r .1)
 
 -- x laid at the front of the free tail
-pub lay-more : (whole left x rest o out q : List ℕ) (at w : ℕ) → length whole ≤ length o → left ≡ x ++ rest → Laying whole left o out at → w ≡ length x → q ≡ laid x (take (length out - at) (drop at out))
+pub lay-more : (whole left x rest o out q : List ℕ) (at w : ℕ) → length whole ≤ length o → left ≡ x ++ rest → Laying whole left o out at →
+    w ≡ length x → q ≡ laid x (take (length out - at) (drop at out))
     → Laying whole rest o (take at out ++ (q ++ drop (length out - at) (drop at out))) (at + w)
 lay-more whole left x rest o out q at w h el l e eq =
     let d : List ℕ = l .done in
@@ -84,7 +87,8 @@ lay-more whole left x rest o out q at w h el l e eq =
       done = d ++ x;
       parts = append-assoc d x rest ∙ (ap (λ (r : List ℕ). d ++ r) (sym el) ∙ l .parts);
       count = omega (arith, l .count);
-      filled = laid-part d x o out q at (l .count) (omega (arith, l .count, lay-room whole left o out at h l, left-shorter left x rest el)) (l .filled) eq;
+      filled =
+          laid-part d x o out q at (l .count) (omega (arith, l .count, lay-room whole left o out at h l, left-shorter left x rest el)) (l .filled) eq;
     }
 
 -- nothing is left
@@ -115,7 +119,8 @@ module _ (fs : List ℕ) (n i : ℕ) where
 -- ---- S lines of a course
 
 module _ (l : OwnLists) (c : Course) (up : Bool) (n : ℕ) where
-  pub pieces-more : (p q : Place) → p .second < n → Short (headed up) (grains (c .target)) (p .level) → q ≡ onward (headed up) (listsBy l c) (grains (c .target)) n p →
+  pub pieces-more : (p q : Place) → p .second < n → Short (headed up) (grains (c .target)) (p .level) →
+      q ≡ onward (headed up) (listsBy l c) (grains (c .target)) n p →
       linesLeft l c up n p ≡ pieceLine p q ++ linesLeft l c up n q
   unfolding sLines pieceLine pieceBetween
   pieces-more p q h sh e = rw e (ap sLines (onward-first (headed up) (listsBy l c) (grains (c .target)) n p h sh))
@@ -125,9 +130,11 @@ module _ (l : OwnLists) (c : Course) (up : Bool) (n : ℕ) where
   pieces-none p h = ap sLines (left-none (headed up) (listsBy l c) (grains (c .target)) n p h)
 
   -- from the beginning: those of the course
-  pub pieces-all : (u : UnitData) → l ≡ ownLists u c up → up ≡ ltb (c .start .grains) (grains (c .target)) → (p : Place) → p ≡ beginning c (c .begin) →
+  pub pieces-all : (u : UnitData) → l ≡ ownLists u c up → up ≡ ltb (c .start .grains) (grains (c .target)) → (p : Place) →
+      p ≡ beginning c (c .begin) →
       linesLeft l c up n p ≡ courseLines u c n
-  pieces-all u o rises p e = rw e (ap sLines (own-left u c up l o (grains (c .target)) n (beginning c (c .begin)) ∙ all-left u c up rises (c .begin) n))
+  pieces-all u o rises p e =
+      rw e (ap sLines (own-left u c up l o (grains (c .target)) n (beginning c (c .begin)) ∙ all-left u c up rises (c .begin) n))
 
 -- how far a course has been followed: not past its target, with the segment that is known there, if any
 pub record Along (l : OwnLists) (c : Course) (up : Bool) (r : Reached) : Type 0 where
@@ -142,15 +149,18 @@ pub record PieceOn (l : OwnLists) (c : Course) (up : Bool) (n : ℕ) (from to : 
   pub line : linesLeft l c up n (from .place) ≡ pieceLine (from .place) (to .place) ++ linesLeft l c up n (to .place)
 
 module _ (l : OwnLists) (c : Course) (up : Bool) where
-  pub along-begins : Short (headed up) (grains (c .target)) (c .start .grains) → Along l c up (reachedAt (headed up) (listsBy l c) (grains (c .target)) (beginning c (c .begin)))
+  pub along-begins : Short (headed up) (grains (c .target)) (c .start .grains) →
+      Along l c up (reachedAt (headed up) (listsBy l c) (grains (c .target)) (beginning c (c .begin)))
   unfolding beginning reachedAt
   along-begins sh = record { short = sh; known = known-at (headed up) (listsBy l c) (grains (c .target)) (beginning c (c .begin)) sh }
 
   pub piece-on : (n : ℕ) (from to : Reached) → from .place .second < n → Along l c up from →
-      (to .place ≡ onward (headed up) (listsBy l c) (grains (c .target)) n (from .place)) × Known (headed up) (listsBy l c) (grains (c .target)) to → PieceOn l c up n from to
+      (to .place ≡ onward (headed up) (listsBy l c) (grains (c .target)) n (from .place)) × Known (headed up) (listsBy l c) (grains (c .target))
+      to → PieceOn l c up n from to
   piece-on n from to h a e =
       let p : Place = from .place in
-      let g : Goes (headed up) (listsBy l c) (grains (c .target)) n p (to .place) = rw (e .0) (onward-goes (headed up) (listsBy l c) (grains (c .target)) n p h (a .short)) in
+      let g : Goes (headed up) (listsBy l c) (grains (c .target)) n p (to .place) =
+      rw (e .0) (onward-goes (headed up) (listsBy l c) (grains (c .target)) n p h (a .short)) in
       record {
         along = record { short = g .short; known = e .1 };
         later = g .later;
@@ -172,7 +182,8 @@ module _ (cs : List Course) (n i end : ℕ) where
   unfolding beginOf
   end-next h =
       let ds : List Course = take n cs in
-      sym (ap (beginOf end) (drop-cons ds i noCourse (omega (arith, length-take n cs))) ∙ ap (λ (c : Course). c .begin) (getD-take n cs i noCourse (omega arith)))
+      sym (ap (beginOf end) (drop-cons ds i noCourse (omega (arith, length-take n cs)))
+      ∙ ap (λ (c : Course). c .begin) (getD-take n cs i noCourse (omega arith)))
 
   end-last : min n (length cs) ≤ i → end ≡ beginOf end (drop i (take n cs))
   unfolding beginOf
@@ -182,7 +193,8 @@ module _ (cs : List Course) (n i end : ℕ) where
 end-is : (cs : List Course) (started n i end : ℕ) → length cs ≡ coursePlaces → n ≡ min started coursePlaces → i < n →
     pick (ltb (i + 1) n) (getD cs (min (i + 1) instructionPlaces) noCourse .begin) end ≡ beginOf end (drop (i + 1) (take started cs))
 end-is cs started n i end e f h = elim (decLe (suc (i + 1)) n) [
-  | yes k ↦ simp (lt-ltb (i + 1) n k) (ap (λ (j : ℕ). getD cs j noCourse .begin) {x = min (i + 1) instructionPlaces} {y = i + 1} (omega arith) ∙ end-next cs started (i + 1) end (omega arith))
+  | yes k ↦ simp (lt-ltb (i + 1) n k) (ap (λ (j : ℕ). getD cs j noCourse .begin) {x = min (i + 1) instructionPlaces} {y = i + 1} (omega arith)
+      ∙ end-next cs started (i + 1) end (omega arith))
   | no k ↦ simp (le-ltb (i + 1) n (omega arith)) (end-last cs started (i + 1) end (omega arith))
 ]
 
@@ -208,14 +220,17 @@ module _ (u : UnitData) (end : ℕ) (cs : List Course) (n i : ℕ) where
   courses-none h = ap (coursesLines u end) (drop-of-length-le (take n cs) {i = i} (omega (arith, length-take n cs)))
 
 -- the lines of the course at the place i come next
-module _ (u : UnitData) (end : ℕ) (cs : List Course) (started n i : ℕ) (all : length cs ≡ coursePlaces) (few : n ≡ min started coursePlaces) (within : i < n) where
+module _ (u : UnitData) (end : ℕ) (cs : List Course) (started n i : ℕ) (all : length cs ≡ coursePlaces) (few : n ≡ min started coursePlaces)
+    (within : i < n) where
   abbrev this : Course
   this = getD cs i noCourse
 
   pub course-next : (l : OwnLists) (up : Bool) (at j to : ℕ) (ramp : Ramp) → Shared u l → up ≡ ltb (this .start .grains) (grains (this .target)) →
-      at ≡ placeOf (this .heat) → ramp ≡ pick up (u .up) (u .down) → j ≡ min (i + 1) instructionPlaces → to ≡ pick (ltb (i + 1) n) (getD cs j noCourse .begin) end →
+      at ≡ placeOf (this .heat) → ramp ≡ pick up (u .up) (u .down) → j ≡ min (i + 1) instructionPlaces → to ≡ pick (ltb (i + 1) n)
+      (getD cs j noCourse .begin) end →
       Short (headed up) (grains (this .target)) (this .start .grains)
-      × (courses-left u end cs started i ≡ linesLeft (setAnew u l at ramp) this up to (beginning this (this .begin)) ++ courses-left u end cs started (i + 1))
+      × (courses-left u end cs started i ≡ linesLeft (setAnew u l at ramp) this up to (beginning this (this .begin)) ++ courses-left u end cs started
+      (i + 1))
   unfolding beginning
   course-next l up at j to ramp s rises e r k ends =
       let own : setAnew u l at ramp ≡ ownLists u this up = own-anew u l this up at ramp s e r in
@@ -230,13 +245,16 @@ module _ (u : UnitData) (end : ℕ) (cs : List Course) (started n i : ℕ) (all 
 
 module _ (f : ℕ → ℕ) where
   -- the run of k goes on up to its end, and there the others begin
-  run-line : (first k i n : ℕ) → runLines first i k (listFrom f i n) ≡ qLine first (runEnd f k i n) k ++ runsFrom f (runEnd f k i n) (i + n - runEnd f k i n)
+  run-line : (first k i n : ℕ) →
+      runLines first i k (listFrom f i n) ≡ qLine first (runEnd f k i n) k ++ runsFrom f (runEnd f k i n) (i + n - runEnd f k i n)
   unfolding runLines listFrom runEnd runsFrom
-  run-line first k i zero = sym (ap (λ (m : ℕ). qLine first i k ++ runsFrom f i m) {x = i + 0 - i} {y = 0} (omega arith) ∙ append-nil (qLine first i k))
+  run-line first k i zero =
+      sym (ap (λ (m : ℕ). qLine first i k ++ runsFrom f i m) {x = i + 0 - i} {y = 0} (omega arith) ∙ append-nil (qLine first i k))
   run-line first k i (suc n) =
       let e : ℕ = runEnd f k (suc i) n in
       by-bool (eqb (f i) k)
-      (λ b. simp b (run-line first k (suc i) n ∙ ap (λ (m : ℕ). qLine first e k ++ runsFrom f e m) {x = suc i + n - e} {y = i + suc n - e} (omega arith)))
+      (λ b. simp b (run-line first k (suc i) n ∙ ap (λ (m : ℕ). qLine first e k ++ runsFrom f e m) {x = suc i + n - e} {y = i + suc n - e}
+      (omega arith)))
       (λ b. simp b (ap (λ (m : ℕ). qLine first i k ++ runsFrom f i m) {x = suc n} {y = i + suc n - i} (omega arith)))
 
   runs-first : (i n e : ℕ) → 0 < n → e ≡ runEnd f (f i) (i + 1) (n - 1) → runsFrom f i n ≡ qLine (i + 1) e (f i) ++ runsFrom f e (i + n - e)
@@ -284,7 +302,8 @@ module _ (f : ℕ → ℕ) (halves : ℕ) where
   abbrev pub quantities-left : ℕ → List ℕ
   quantities-left i = runsFrom f i (halves - i)
 
-  pub quantities-more : (i k e : ℕ) → i < halves → k ≡ f i → e ≡ runEnd f k (i + 1) (halves - (i + 1)) → quantities-left i ≡ qLine (i + 1) e k ++ quantities-left e
+  pub quantities-more : (i k e : ℕ) → i < halves → k ≡ f i → e ≡ runEnd f k (i + 1) (halves - (i + 1)) →
+      quantities-left i ≡ qLine (i + 1) e k ++ quantities-left e
   quantities-more i k e h q is =
       rw q (runs-first f i (halves - i) e (omega arith) (is ∙ (λ j. runEnd f (q j) (i + 1) (count j)))
       ∙ ap (λ (m : ℕ). qLine (i + 1) e (f i) ++ runsFrom f e m) {x = i + (halves - i) - e} {y = halves - e} (omega arith))

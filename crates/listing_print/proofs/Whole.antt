@@ -45,6 +45,7 @@ module _ (d : Day) (o : List ℕ) where
   unfolding listOf lentAfter listAnswer
   ask-short e h = (simp (e, lt-ltb (length o) (length (printedDay d)) h), simp (e, lt-ltb (length o) (length (printedDay d)) h))
 
-  pub ask-room : d .closed ≡ true → length (printedDay d) ≤ length o → (someListing (length (printedDay d)) ≡ listOf d o) × (laid (printedDay d) o ≡ lentAfter d o)
+  pub ask-room : d .closed ≡ true → length (printedDay d) ≤ length o →
+      (someListing (length (printedDay d)) ≡ listOf d o) × (laid (printedDay d) o ≡ lentAfter d o)
   unfolding listOf lentAfter listAnswer
   ask-room e h = (simp (e, le-ltb (length o) (length (printedDay d)) h), simp (e, le-ltb (length o) (length (printedDay d)) h))

@@ -31,7 +31,8 @@ use Rattle.listing.specs.Program.{runBy, ranBy}
 module _ (find : Taken → Found) (d : Day) where
   stepFrom : Bool → Bool → Bool → ℕ → List ℕ → Stepped
   stepFrom none unknown few k b =
-      settle (firstRefusal (refusing none TooFewBytes ∷ refusing unknown UnknownKind ∷ refusing few TooFewBytes ∷ refusing (d .closed) AfterClose ∷ kindRefusals find (d .taken) k b)) d
+      settle (firstRefusal (refusing none TooFewBytes ∷ refusing unknown UnknownKind ∷ refusing few TooFewBytes ∷ refusing (d .closed) AfterClose ∷
+      kindRefusals find (d .taken) k b)) d
       (accept (dayWith find d k b) (sizeOf k))
 
   step-from : (s : List ℕ) → stepBy find d s ≡ stepFrom (noBytes s) (unknownKind s) (tooFew s) (kindOf s) (bodyOf s)
@@ -65,18 +66,24 @@ module _ (find : Taken → Found) (d : Day) where
     enough-is : tooFew s ≡ false → (sizeOf (kindOf s) ≤ length s) × (tooFew (s ++ t) ≡ false)
     unfolding tooFew
     enough-is e =
-        let long : sizeOf (kindOf s) ≤ length s = ltb-false (length s) (sizeOf (kindOf s)) e in
-        (long, ap (λ (k : ℕ). ltb (length (s ++ t)) (sizeOf k)) kind-is ∙ le-ltb (length (s ++ t)) (sizeOf (kindOf s)) (omega (arith, long, length-append s t)))
+        let long : sizeOf (kindOf s) ≤ length s = ltb-false (length s) (sizeOf (kindOf s)) e in (
+          long,
+          ap (λ (k : ℕ). ltb (length (s ++ t)) (sizeOf k)) kind-is
+              ∙ le-ltb (length (s ++ t)) (sizeOf (kindOf s)) (omega (arith, long, length-append s t)),
+        )
 
     body-is : sizeOf (kindOf s) ≤ length s → bodyOf (s ++ t) ≡ bodyOf s
     unfolding bodyOf
     body-is long = ap (λ (k : ℕ). take (sizeOf k - 1) (xs ++ t)) kind-is ∙ take-append-le (sizeOf (kindOf s) - 1) xs t (omega (arith, long))
 
     abbrev Same : Type 0
-    Same = stepFrom (noBytes (s ++ t)) (unknownKind (s ++ t)) (tooFew (s ++ t)) (kindOf (s ++ t)) (bodyOf (s ++ t)) ≡ stepFrom (noBytes s) (unknownKind s) (tooFew s) (kindOf s) (bodyOf s)
+    Same =
+        stepFrom (noBytes (s ++ t)) (unknownKind (s ++ t)) (tooFew (s ++ t)) (kindOf (s ++ t)) (bodyOf (s ++ t)) ≡ stepFrom (noBytes s)
+        (unknownKind s) (tooFew s) (kindOf s) (bodyOf s)
 
     strange : unknownKind s ≡ true → Same
-    strange u = rw (some x (xs ++ t), some x xs, unknown-is, kind-is, u) (unknown-from (tooFew (s ++ t)) (tooFew s) (kindOf s) (bodyOf (s ++ t)) (bodyOf s))
+    strange u =
+        rw (some x (xs ++ t), some x xs, unknown-is, kind-is, u) (unknown-from (tooFew (s ++ t)) (tooFew s) (kindOf s) (bodyOf (s ++ t)) (bodyOf s))
 
     fits : unknownKind s ≡ false → tooFew s ≡ false → Same
     fits u e = let g = enough-is e in rw (some x (xs ++ t), some x xs, unknown-is, kind-is, body-is (g .0), g .1, e) refl
@@ -85,7 +92,8 @@ module _ (find : Taken → Found) (d : Day) where
     short u e = ap (λ (r : Stepped). r .answer) (step-from s) ∙ rw (some x xs, u, e) (few-from (kindOf s) (bodyOf s))
 
     step-front : (stepBy find d s .answer ≡ Refused TooFewBytes → ⊥) → stepBy find d (s ++ t) ≡ stepBy find d s
-    step-front h = step-from (s ++ t) ∙ by-bool (unknownKind s) strange (λ u. by-bool (tooFew s) (λ e. absurd (h (short u e))) (fits u)) ∙ sym (step-from s)
+    step-front h =
+        step-from (s ++ t) ∙ by-bool (unknownKind s) strange (λ u. by-bool (tooFew s) (λ e. absurd (h (short u e))) (fits u)) ∙ sym (step-from s)
 
   none-few : stepBy find d [] .answer ≡ Refused TooFewBytes
   unfolding stepBy answerBy noBytes
@@ -124,7 +132,8 @@ module _ (find : Taken → Found) where
       let t : Stepped = stepBy find d s in
       ap (λ (r : Ran). r .answer) (run-onward n d s) ∙ refused-onward n (t .answer) (t .day) (t .day .closed) (drop (t .used) s) e
 
-  run-front : (n m : ℕ) → n ≤ m → (d : Day) (s t : List ℕ) → (runBy find n d s .answer ≡ Refused TooFewBytes → ⊥) → runBy find m d (s ++ t) ≡ runBy find n d s
+  run-front : (n m : ℕ) → n ≤ m → (d : Day) (s t : List ℕ) → (runBy find n d s .answer ≡ Refused TooFewBytes → ⊥) →
+      runBy find m d (s ++ t) ≡ runBy find n d s
   unfolding runBy onward
   run-front zero m le d s t h = absurd (h refl)
   run-front (suc n) zero le d s t h = absurd (omega arith)
@@ -135,12 +144,14 @@ module _ (find : Taken → Found) where
       let e : stepBy find d (s ++ t) ≡ st = step-front find d x xs t (λ f. h (run-few n d s f)) in
       run-onward m d (s ++ t)
       ∙ ap (λ (r : Stepped). onward m (r .answer) (r .day) (r .day .closed) (drop (r .used) (s ++ t))) e
-      ∙ go (st .answer) (st .day) (st .day .closed) (drop (st .used) s) (drop (st .used) (s ++ t)) (drop-append-le (st .used) s t (step-used find d s)) (λ f. h (ap (λ (r : Ran). r .answer) (run-onward n d s) ∙ f))
+      ∙ go (st .answer) (st .day) (st .day .closed) (drop (st .used) s) (drop (st .used) (s ++ t))
+      (drop-append-le (st .used) s t (step-used find d s)) (λ f. h (ap (λ (r : Ran). r .answer) (run-onward n d s) ∙ f))
       (λ k r g. run-front n m (omega arith) k r t g)
       ∙ sym (run-onward n d s)
     where
       go : (a : Answer) (e : Day) (b : Bool) (r q : List ℕ) → q ≡ r ++ t → (onward n a e b r .answer ≡ Refused TooFewBytes → ⊥) →
-          ((k : Day) (v : List ℕ) → (runBy find n k v .answer ≡ Refused TooFewBytes → ⊥) → runBy find m k (v ++ t) ≡ runBy find n k v) → onward m a e b q ≡ onward n a e b r
+          ((k : Day) (v : List ℕ) → (runBy find n k v .answer ≡ Refused TooFewBytes → ⊥) → runBy find m k (v ++ t) ≡ runBy find n k v) → onward m a e
+          b q ≡ onward n a e b r
       go (Refused y) e b r q p g f = refl
       go Accepted e true r q p g f = refl
       go Accepted e false r q p g f = ap (runBy find m e) p ∙ f e r g

@@ -34,7 +34,8 @@ callsIn (suc n) d s =
 calls-leave : (n : ℕ) (d : Day) (s : List ℕ) → after d (callsIn n d s) ≡ runBy (foundIn paper) n d s .day
 unfolding after runBy callsIn
 calls-leave zero d s = refl
-calls-leave (suc n) d s = let t : Stepped = stepOf d s in go (t .answer) (t .day) (t .day .closed) (drop (t .used) s) (calls-leave n (t .day) (drop (t .used) s))
+calls-leave (suc n) d s =
+    let t : Stepped = stepOf d s in go (t .answer) (t .day) (t .day .closed) (drop (t .used) s) (calls-leave n (t .day) (drop (t .used) s))
   where
     go : (a : Answer) (e : Day) (b : Bool) (r : List ℕ) → after e (callsIn n e r) ≡ runBy (foundIn paper) n e r .day →
         (let x : Ran = elim a [
@@ -51,9 +52,11 @@ refused-not r e = never (ap accepted e)
 run-closed : (n : ℕ) (d : Day) (s : List ℕ) → runBy (foundIn paper) n d s .answer ≡ Accepted → runBy (foundIn paper) n d s .day .closed ≡ true
 unfolding runBy
 run-closed zero d s h = refused-not _ h
-run-closed (suc n) d s h = let t : Stepped = stepOf d s in go (t .answer) (t .day) (t .day .closed) (drop (t .used) s) refl (run-closed n (t .day) (drop (t .used) s)) h
+run-closed (suc n) d s h =
+    let t : Stepped = stepOf d s in go (t .answer) (t .day) (t .day .closed) (drop (t .used) s) refl (run-closed n (t .day) (drop (t .used) s)) h
   where
-    go : (a : Answer) (e : Day) (b : Bool) (r : List ℕ) → e .closed ≡ b → (runBy (foundIn paper) n e r .answer ≡ Accepted → runBy (foundIn paper) n e r .day .closed ≡ true) →
+    go : (a : Answer) (e : Day) (b : Bool) (r : List ℕ) → e .closed ≡ b →
+        (runBy (foundIn paper) n e r .answer ≡ Accepted → runBy (foundIn paper) n e r .day .closed ≡ true) →
         (let x : Ran = elim a [
           | Refused y ↦ record { answer = Refused y; day = e }
           | Accepted ↦ elim b [ true ↦ record { answer = Accepted; day = e } | false ↦ runBy (foundIn paper) n e r ]
@@ -71,6 +74,8 @@ ran-fits s h =
     let e : dayAfter calls ≡ runBy (foundIn paper) (length s) empty s .day = calls-leave (length s) empty s in
     (c, rw e at (listing-suffices calls (ap (λ (d : Day). d .closed) e ∙ c)))
 
-pub run-fits : (s : List ℕ) (r : Ran) → r ≡ ranBy (foundIn paper) s → r .answer ≡ Accepted → (r .day .closed ≡ true) × (length (printedDay (r .day)) ≤ suffices)
+pub run-fits : (s : List ℕ) (r : Ran) → r ≡ ranBy (foundIn paper) s → r .answer ≡ Accepted →
+    (r .day .closed ≡ true) × (length (printedDay (r .day)) ≤ suffices)
 run-fits s r made a =
-    subst (λ (x : Ran). (x .day .closed ≡ true) × (length (printedDay (x .day)) ≤ suffices)) (sym made) (ran-fits s (sym (ap (λ (x : Ran). x .answer) made) ∙ a))
+    subst (λ (x : Ran). (x .day .closed ≡ true) × (length (printedDay (x .day)) ≤ suffices)) (sym made)
+    (ran-fits s (sym (ap (λ (x : Ran). x .answer) made) ∙ a))

@@ -52,7 +52,9 @@ module _ (find : Taken → Found) where
   enough (suc n) (suc m) d s p q =
       let t : Stepped = stepBy find d s in
       run-onward find n d s
-      ∙ (go (t .answer) (t .day) (t .day .closed) (drop (t .used) s) (λ a. let u = used-some d s a in (omega (arith, u, length-drop (t .used) s), omega (arith, u, length-drop (t .used) s))) (λ e r a b. enough n m e r a b)
+      ∙ (go (t .answer) (t .day) (t .day .closed) (drop (t .used) s)
+      (λ a. let u = used-some d s a in (omega (arith, u, length-drop (t .used) s), omega (arith, u, length-drop (t .used) s)))
+      (λ e r a b. enough n m e r a b)
       ∙ sym (run-onward find m d s))
     where
       go : (a : Answer) (e : Day) (b : Bool) (r : List ℕ) → (accepted a ≡ true → (length r ≤ n) × (length r ≤ m)) →
@@ -67,10 +69,12 @@ module _ (find : Taken → Found) where
 abbrev pub from : Day → List ℕ → Ran
 from d s = runBy (foundIn paper) (length s) d s
 
-by-step : (d : Day) (s : List ℕ) (t : Stepped) → t ≡ stepOf d s → 1 ≤ length s → from d s ≡ onward (foundIn paper) (length s - 1) (t .answer) (t .day) (t .day .closed) (drop (t .used) s)
+by-step : (d : Day) (s : List ℕ) (t : Stepped) → t ≡ stepOf d s → 1 ≤ length s →
+    from d s ≡ onward (foundIn paper) (length s - 1) (t .answer) (t .day) (t .day .closed) (drop (t .used) s)
 by-step d s t e h =
     ap (λ (k : ℕ). runBy (foundIn paper) k d s) {x = length s} {y = suc (length s - 1)} (omega arith)
-    ∙ (run-onward (foundIn paper) (length s - 1) d s ∙ ap (λ (x : Stepped). onward (foundIn paper) (length s - 1) (x .answer) (x .day) (x .day .closed) (drop (x .used) s)) (sym e))
+    ∙ (run-onward (foundIn paper) (length s - 1) d s ∙ ap
+    (λ (x : Stepped). onward (foundIn paper) (length s - 1) (x .answer) (x .day) (x .day .closed) (drop (x .used) s)) (sym e))
 
 module _ (d : Day) (s : List ℕ) (some : 1 ≤ length s) where
   -- a refusal, or a close, ends it
@@ -78,7 +82,8 @@ module _ (d : Day) (s : List ℕ) (some : 1 ≤ length s) where
   unfolding onward
   ends t e c = sym (by-step d s t e some ∙ go (t .answer) (t .day .closed) c)
     where
-      go : (a : Answer) (b : Bool) → (accepted a ≡ true → b ≡ true) → onward (foundIn paper) (length s - 1) a (t .day) b (drop (t .used) s) ≡ record { answer = a; day = t .day }
+      go : (a : Answer) (b : Bool) → (accepted a ≡ true → b ≡ true) →
+          onward (foundIn paper) (length s - 1) a (t .day) b (drop (t .used) s) ≡ record { answer = a; day = t .day }
       go (Refused r) b h = refl
       go Accepted true h = refl
       go Accepted false h = never (h refl)
@@ -106,7 +111,8 @@ module _ (d : Day) (s : List ℕ) (some : 1 ≤ length s) where
   -- ---- the end of the records
   closes : accepted (closeTaken (foundIn paper) d .answer) ≡ true → closeTaken (foundIn paper) d .day .closed ≡ true
   unfolding dayWith
-  closes = go (firstRefusal (refusing (d .closed) AfterClose ∷ closeRefusals (d .taken) (foundIn paper (d .taken)))) (dayWith (foundIn paper) d 4 []) refl
+  closes =
+      go (firstRefusal (refusing (d .closed) AfterClose ∷ closeRefusals (d .taken) (foundIn paper (d .taken)))) (dayWith (foundIn paper) d 4 []) refl
     where
       go : (a : Answer) (e : Day) → e .closed ≡ true →
           let t : Stepped = settle a d (accept e closeSize) in
@@ -119,9 +125,12 @@ module _ (d : Day) (s : List ℕ) (some : 1 ≤ length s) where
   unfolding endedBy
   by-other out = go (eqb (getD s 0 0) 4) refl
     where
-      go : (x : Bool) → eqb (getD s 0 0) 4 ≡ x → pick x (afterStep (closeTaken (foundIn paper) d)) (record { answer = Refused UnknownKind; day = d }) ≡ from d s
+      go : (x : Bool) → eqb (getD s 0 0) 4 ≡ x →
+          pick x (afterStep (closeTaken (foundIn paper) d)) (record { answer = Refused UnknownKind; day = d }) ≡ from d s
       go true e = ends (closeTaken (foundIn paper) d) (close-step (foundIn paper) d s some (eqb-true (getD s 0 0) 4 e)) closes
-      go false e = ends (record { answer = Refused UnknownKind; day = d; used = 0 }) (no-kind (foundIn paper) d s some (out (eqb-false (getD s 0 0) 4 e))) (λ y. never y)
+      go false e =
+          ends (record { answer = Refused UnknownKind; day = d; used = 0 }) (no-kind (foundIn paper) d s some (out (eqb-false (getD s 0 0) 4 e)))
+          (λ y. never y)
 
 pub run-first : (d : Day) (s : List ℕ) → d ≡ empty → from d s ≡ ranBy (foundIn paper) s
 unfolding ranBy

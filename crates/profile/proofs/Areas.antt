@@ -38,14 +38,17 @@ module _ (s : Span) (ss : List Span) (g : Trajectory → ℕ → ℕ) (x : ℕ) 
   unfolding inForce
   in-rest h = rw (le-ltb x (s .end) h, inForce) refl
 
-next : (from to x : ℕ) (ss : List Span) → Chain from ss to → from ≤ x → x < to → piecesTo ss (suc x) ≡ piecesTo ss x + (levelStarting ss x + levelEnding ss x)
+next : (from to x : ℕ) (ss : List Span) → Chain from ss to → from ≤ x → x < to →
+    piecesTo ss (suc x) ≡ piecesTo ss x + (levelStarting ss x + levelEnding ss x)
 unfolding piecesTo levelStarting levelEnding
 next from to x [] c h k = absurd (omega (arith, c))
 next from to x (s ∷ ss) c h k = elim (decLe (suc x) (s .end)) [
   | yes p ↦
       let j : ℕ = x - s .begin in
-      let e : twiceArea (piecesIn (s .trajectory) 0 (min (s .end) (suc x) - s .begin)) ≡ twiceArea (piecesIn (s .trajectory) 0 (suc j)) = ap (λ (n : ℕ). twiceArea (piecesIn (s .trajectory) 0 n)) (omega (arith, c .0)) in
-      let f : twiceArea (piecesIn (s .trajectory) 0 (min (s .end) x - s .begin)) ≡ twiceArea (piecesIn (s .trajectory) 0 j) = ap (λ (n : ℕ). twiceArea (piecesIn (s .trajectory) 0 n)) (omega (arith, c .0)) in
+      let e : twiceArea (piecesIn (s .trajectory) 0 (min (s .end) (suc x) - s .begin)) ≡ twiceArea (piecesIn (s .trajectory) 0 (suc j)) =
+      ap (λ (n : ℕ). twiceArea (piecesIn (s .trajectory) 0 n)) (omega (arith, c .0)) in
+      let f : twiceArea (piecesIn (s .trajectory) 0 (min (s .end) x - s .begin)) ≡ twiceArea (piecesIn (s .trajectory) 0 j) =
+      ap (λ (n : ℕ). twiceArea (piecesIn (s .trajectory) 0 n)) (omega (arith, c .0)) in
       rw (in-here s ss levelAt x p, in-here s ss (λ c k. levelAt c (suc k)) x p)
       (omega (
         arith,
@@ -56,7 +59,8 @@ next from to x (s ∷ ss) c h k = elim (decLe (suc x) (s .end)) [
         not-yet (s .end) to x ss (c .2) (omega arith),
       ))
   | no p ↦
-      let e : twiceArea (piecesIn (s .trajectory) 0 (min (s .end) (suc x) - s .begin)) ≡ twiceArea (piecesIn (s .trajectory) 0 (min (s .end) x - s .begin)) = ap (λ (n : ℕ). twiceArea (piecesIn (s .trajectory) 0 n)) (omega arith) in
+      let e : twiceArea (piecesIn (s .trajectory) 0 (min (s .end) (suc x) - s .begin)) ≡ twiceArea
+      (piecesIn (s .trajectory) 0 (min (s .end) x - s .begin)) = ap (λ (n : ℕ). twiceArea (piecesIn (s .trajectory) 0 n)) (omega arith) in
       rw (in-rest s ss levelAt x (omega arith), in-rest s ss (λ c k. levelAt c (suc k)) x (omega arith))
       (omega (arith, e, next (s .end) to x ss (c .2) (omega arith) k))
 ]
@@ -74,7 +78,13 @@ module _ (n : ℕ) (ss : List Span) (c : Chain 0 ss (halfHour * n)) where
   pub area-to : (b : ℕ) → b ≤ n → recordedTo ss b ≡ twinTo ss b
   unfolding recordedTo recordedTwice twinTo
   area-to b h =
-      omega (arith, over 0 (halfHour * n) ss c 0 (halfHour * b) (omega arith) (omega arith), not-yet 0 (halfHour * n) 0 ss c (omega arith), ap (piecesTo ss) {x = 0 + halfHour * b} {y = halfHour * b} (omega arith))
+      omega (
+        arith,
+        over 0 (halfHour * n) ss c 0 (halfHour * b) (omega arith) (omega arith),
+        not-yet 0 (halfHour * n) 0 ss c (omega arith),
+        ap
+            (piecesTo ss) {x = 0 + halfHour * b} {y = halfHour * b} (omega arith),
+      )
 
   pub area-in : (i : ℕ) → i < n → recordedIn ss i ≡ twinIn ss i
   unfolding recordedIn recordedTwice twinIn twinTo

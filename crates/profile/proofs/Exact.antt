@@ -100,7 +100,9 @@ module _ (s : Span) (order : s .begin ≤ s .end) where
       (let e : lasted s (halfHour * (a + 0)) - lasted s (halfHour * a) ≡ 0 = none in ap (λ (n : ℕ). n * p) e ∙ zero-mul p))
     where
       none : lasted s (halfHour * (a + 0)) - lasted s (halfHour * a) ≡ 0
-      none = let e : lasted s (halfHour * (a + 0)) ≡ lasted s (halfHour * a) = ap (λ (k : ℕ). lasted s (halfHour * k)) {x = a + 0} {y = a} (omega arith) in omega arith
+      none =
+          let e : lasted s (halfHour * (a + 0)) ≡ lasted s (halfHour * a) =
+          ap (λ (k : ℕ). lasted s (halfHour * k)) {x = a + 0} {y = a} (omega arith) in omega arith
   half-hours a (suc n) =
       let x : ℕ = lasted s (halfHour * a) in
       let y : ℕ = lasted s (halfHour * suc a) in
@@ -141,7 +143,8 @@ module _ (s : Span) (order : s .begin ≤ s .end) where
   ]
 
   -- between the boundaries a and b
-  pub course-near : Driven (s .trajectory .lists) → (a b : ℕ) → a ≤ b → Within (recordedOver (halfHour * a) (halfHour * b)) (exactOf s a b) (allowed s a b)
+  pub course-near : Driven (s .trajectory .lists) → (a b : ℕ) → a ≤ b →
+      Within (recordedOver (halfHour * a) (halfHour * b)) (exactOf s a b) (allowed s a b)
   unfolding exactOf allowed hasTime gap
   course-near d a b up =
       let pos : 1 ≤ p = ticks-ok (s .trajectory) .0 in
@@ -155,7 +158,9 @@ module _ (s : Span) (order : s .begin ≤ s .end) where
             rw (le-ltb (max (s .begin) (halfHour * a)) (min (s .end) (halfHour * b)) h)
             (record { fraction = omega (arith, mul-le-mul pos pos); above = omega (arith, ap (λ (n : ℕ). n * (p * p)) r); below = omega (arith, x) })
         | no h ↦
-            let w = course-bound (s .trajectory) d p pos (ticks-ok (s .trajectory) .1) (lasted s (halfHour * a)) (lasted s (halfHour * b) - lasted s (halfHour * a)) in
+            let w =
+            course-bound (s .trajectory) d p pos (ticks-ok (s .trajectory) .1) (lasted s (halfHour * a))
+            (lasted s (halfHour * b) - lasted s (halfHour * a)) in
             rw (lt-ltb (max (s .begin) (halfHour * a)) (min (s .end) (halfHour * b)) (omega arith))
             (record { fraction = omega (arith, mul-le-mul pos pos); above = omega (arith, w); below = omega (arith, w) })
       ])

@@ -50,7 +50,8 @@ module _ (look : Trajectory → ℕ → ℕ → State) (u : UnitData) where
     | Sets g ↦ replaces now o (follow look u (newCourse now o g) os)
   ]
 
-  pub follow-on : (now : UnderWay) (o : Numbered) (os : List Numbered) → comesTo now o ≡ Ignored → follow look u now (o ∷ os) ≡ goesOn o (follow look u now os)
+  pub follow-on : (now : UnderWay) (o : Numbered) (os : List Numbered) → comesTo now o ≡ Ignored →
+      follow look u now (o ∷ os) ≡ goesOn o (follow look u now os)
   unfolding follow
   follow-on now o os e = ap (stepTo now o os) e
 
@@ -62,13 +63,15 @@ module _ (look : Trajectory → ℕ → ℕ → State) (u : UnitData) where
   -- ---- all of them: what holds of none, and goes over to one more, ignored or with effect, holds of what `follow` gives
   module _ (P : UnderWay → List Numbered → Followed → Type 0) (base : (now : UnderWay) → P now [] (record { marks = []; courses = now ∷ [] }))
       (on : (now : UnderWay) (o : Numbered) (os : List Numbered) (f : Followed) → comesTo now o ≡ Ignored → P now os f → P now (o ∷ os) (goesOn o f))
-      (new : (now : UnderWay) (o : Numbered) (os : List Numbered) (g : Setting) (f : Followed) → comesTo now o ≡ Sets g → P (newCourse now o g) os f → P now (o ∷ os) (replaces now o f)) where
+      (new : (now : UnderWay) (o : Numbered) (os : List Numbered) (g : Setting) (f : Followed) → comesTo now o ≡ Sets g → P (newCourse now o g) os
+      f → P now (o ∷ os) (replaces now o f)) where
     pub follow-ind : (now : UnderWay) (os : List Numbered) → P now os (follow look u now os)
     unfolding follow
     follow-ind now [] = base now
     follow-ind now (o ∷ os) = go (comesTo now o) refl (follow-ind now os) (λ g. follow-ind (newCourse now o g) os)
       where
-        go : (x : Outcome) → comesTo now o ≡ x → P now os (follow look u now os) → ((g : Setting) → P (newCourse now o g) os (follow look u (newCourse now o g) os)) →
+        go : (x : Outcome) → comesTo now o ≡ x → P now os (follow look u now os) →
+            ((g : Setting) → P (newCourse now o g) os (follow look u (newCourse now o g) os)) →
             P now (o ∷ os) (stepTo now o os x)
         go Ignored e stays next = on now o os (follow look u now os) e stays
         go (Sets g) e stays next = new now o os g (follow look u (newCourse now o g) os) e (next g)

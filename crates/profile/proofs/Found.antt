@@ -66,9 +66,11 @@ module _ (n : ℕ) (t : Taken) where
       rounded (getD (found paper n t .sums) (suc i) 0 - getD (found paper n t .sums) i 0) ≡ rounded (recordedIn spans i)
   quantity-from-sums i h =
       let a : getD (found paper n t .sums) (suc i) 0 ≡ recordedTo spans (suc i) =
-      ap (λ (l : List ℕ). getD l (suc i) 0) found-sums ∙ (list-at (recordedTo spans) 0 (suc n) (suc i) (omega arith) ∙ ap (recordedTo spans) {x = 0 + suc i} {y = suc i} (omega arith)) in
+      ap (λ (l : List ℕ). getD l (suc i) 0) found-sums
+      ∙ (list-at (recordedTo spans) 0 (suc n) (suc i) (omega arith) ∙ ap (recordedTo spans) {x = 0 + suc i} {y = suc i} (omega arith)) in
       let b : getD (found paper n t .sums) i 0 ≡ recordedTo spans i =
-      ap (λ (l : List ℕ). getD l i 0) found-sums ∙ (list-at (recordedTo spans) 0 (suc n) i (omega arith) ∙ ap (recordedTo spans) {x = 0 + i} {y = i} (omega arith)) in
+      ap (λ (l : List ℕ). getD l i 0) found-sums ∙ (list-at (recordedTo spans) 0 (suc n) i (omega arith)
+      ∙ ap (recordedTo spans) {x = 0 + i} {y = i} (omega arith)) in
       rw (a, b, sums-step spans i)
 
   -- of a unit and a start that meet no refusal: no level exceeds the short-term maximum

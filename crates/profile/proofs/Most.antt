@@ -58,7 +58,9 @@ way-below : (u : UnitData) (begin : ℕ) (g : Setting) (off m : ℕ) → Setting
 unfolding underWay courseFrom stepped
 way-below u begin g off m b = record {
   course = record {
-    start = step-below (eqb (g .from) 0 && ltb 0 (grains (g .target))) m (grains (columnFor u (g .heat) .block)) (g .target) (g .from) (b .from) (b .target);
+    start =
+        step-below (eqb (g .from) 0 && ltb 0 (grains (g .target))) m (grains (columnFor u (g .heat) .block)) (g .target) (g .from) (b .from)
+        (b .target);
     target = b .target;
   };
   ordered = b .ordered;
@@ -67,12 +69,17 @@ way-below u begin g off m b = record {
 -- m kW is at least the capacity and the short-term maximum
 module _ (u : UnitData) (m : ℕ) (capacity : u .capacity ≤ m) (maximum : u .maximum ≤ m) where
   -- whatever an instruction sets
-  outcome-below : (now : UnderWay) (i : Instruction) (s : State) (e : Effect) (g : Setting) → now .ordered ≤ m → s .level ≤ grains m → outcomeBy u now i s e ≡ Sets g → SettingBelow m g
+  outcome-below : (now : UnderWay) (i : Instruction) (s : State) (e : Effect) (g : Setting) → now .ordered ≤ m → s .level ≤ grains m →
+      outcomeBy u now i s e ≡ Sets g → SettingBelow m g
   unfolding outcomeBy mwofTarget syncTarget
-  outcome-below now i s Trip g o v e = unless-sets (SettingBelow m) (eqb (s .level) 0) _ g e (record { from = omega arith; target = omega arith; ordered = o })
-  outcome-below now i s Mwof g o v e = unless-sets (SettingBelow m) (eqb (s .level) 0 && eqb (i .level) 0) _ g e (record { from = v; target = omega arith; ordered = omega arith })
-  outcome-below now i s Mxon g o v e = unless-sets (SettingBelow m) (eqb (s .level) 0 || now .maximised) _ g e (record { from = v; target = maximum; ordered = o })
-  outcome-below now i s Sync g o v e = unless-sets (SettingBelow m) (ltb 0 (s .level)) _ g e (record { from = v; target = omega arith; ordered = omega arith })
+  outcome-below now i s Trip g o v e =
+      unless-sets (SettingBelow m) (eqb (s .level) 0) _ g e (record { from = omega arith; target = omega arith; ordered = o })
+  outcome-below now i s Mwof g o v e =
+      unless-sets (SettingBelow m) (eqb (s .level) 0 && eqb (i .level) 0) _ g e (record { from = v; target = omega arith; ordered = omega arith })
+  outcome-below now i s Mxon g o v e =
+      unless-sets (SettingBelow m) (eqb (s .level) 0 || now .maximised) _ g e (record { from = v; target = maximum; ordered = o })
+  outcome-below now i s Sync g o v e =
+      unless-sets (SettingBelow m) (ltb 0 (s .level)) _ g e (record { from = v; target = omega arith; ordered = omega arith })
   outcome-below now i s Mxof g o v e = unless-sets (SettingBelow m) (not (now .maximised)) _ g e (record { from = v; target = o; ordered = o })
   outcome-below now i s Desy g o v e = unless-sets (SettingBelow m) (eqb (s .level) 0) _ g e (record { from = v; target = omega arith; ordered = o })
   outcome-below now i s Fail g o v e = ignored-sets g e
@@ -82,7 +89,12 @@ module _ (u : UnitData) (m : ℕ) (capacity : u .capacity ≤ m) (maximum : u .m
   unfolding stateAt trajectoryOf grains
   state-below now t b =
       let c : Trajectory = trajectoryOf u (now .course) in
-      omega (arith, rule-level c (now .off) (t - now .course .begin), level-below c (grains m) (t - now .course .begin) (b .course .start) (omega (arith, b .course .target)))
+      omega (
+        arith,
+        rule-level c (now .off) (t - now .course .begin),
+        level-below c (grains m) (t - now .course .begin) (b .course .start)
+            (omega (arith, b .course .target)),
+      )
 
   pub courses-below : (now : UnderWay) (os : List Numbered) → WayBelow m now → All (Below m) (map courseOf (follow byRule u now os .courses))
   courses-below = follow-ind byRule u (λ now os f. WayBelow m now → All (Below m) (map courseOf (f .courses)))
@@ -91,7 +103,8 @@ module _ (u : UnitData) (m : ℕ) (capacity : u .capacity ≤ m) (maximum : u .m
       (λ now o os g f e more b. unfold replaces begun in (
         b .course,
         more (way-below u (acting o) g (stateAt byRule u now (acting o) .off) m
-            (outcome-below now (o .instruction) (stateAt byRule u now (acting o)) (o .instruction .meaning .effect) g (b .ordered) (state-below now (acting o) b) e)),
+            (outcome-below now (o .instruction) (stateAt byRule u now (acting o)) (o .instruction .meaning .effect) g (b .ordered)
+            (state-below now (acting o) b) e)),
       ))
 
   pub start-below : (s : Start) → s .level ≤ grains m → s .target ≤ m → s .ordered ≤ m → WayBelow m (startCourse u s)

@@ -74,13 +74,21 @@ module _ (n : ℕ) (ss : List Span) (c : Chain 0 ss (halfHour * n)) where
   whole : (x y : ℕ) → x ≤ y → y ≤ halfHour * n → recordedTwice ss x (y - x) ≡ parts ss x y
   unfolding recordedTwice
   whole x y h k =
-      omega (arith, over 0 (halfHour * n) ss c x (y - x) (omega arith) (omega arith), parts-more ss x y h, ap (piecesTo ss) {x = x + (y - x)} {y = y} (omega arith))
+      omega (
+        arith,
+        over 0 (halfHour * n) ss c x (y - x) (omega arith) (omega arith),
+        parts-more ss x y h,
+        ap (piecesTo ss) {x = x + (y - x)} {y = y}
+            (omega arith),
+      )
 
-all-near : (from to : ℕ) (ss : List Span) → Chain from ss to → Drives ss → (a b : ℕ) → a ≤ b → Within (parts ss (halfHour * a) (halfHour * b)) (exactArea ss a b) (allowance ss a b)
+all-near : (from to : ℕ) (ss : List Span) → Chain from ss to → Drives ss → (a b : ℕ) → a ≤ b →
+    Within (parts ss (halfHour * a) (halfHour * b)) (exactArea ss a b) (allowance ss a b)
 unfolding parts exactArea allowance
 all-near from to [] c d a b up = record { fraction = omega arith; above = omega arith; below = omega arith }
 all-near from to (s ∷ ss) c d a b up =
-    within-plus (recordedOver s (order from to s ss c) (halfHour * a) (halfHour * b)) (parts ss (halfHour * a) (halfHour * b)) (allowed s a b) (allowance ss a b) (exactOf s a b) (exactArea ss a b)
+    within-plus (recordedOver s (order from to s ss c) (halfHour * a) (halfHour * b)) (parts ss (halfHour * a) (halfHour * b)) (allowed s a b)
+    (allowance ss a b) (exactOf s a b) (exactArea ss a b)
     (course-near s (order from to s ss c) (d .0) a b up) (all-near (s .end) to ss (c .2) (d .1) a b up)
 
 -- ---- sums over half-hours, and rounding
@@ -110,7 +118,8 @@ pub rounded-near : (x : ℕ) → (216000 * rounded x ≤ x + 108000) × (x ≤ 2
 unfolding rounded
 rounded-near x = omega arith
 
-pub rounded-sum : (f : ℕ → ℕ) (a n : ℕ) → (216000 * sum (λ i. rounded (f i)) a n ≤ sum f a n + 108000 * n) × (sum f a n ≤ 216000 * sum (λ i. rounded (f i)) a n + 108000 * n)
+pub rounded-sum : (f : ℕ → ℕ) (a n : ℕ) →
+    (216000 * sum (λ i. rounded (f i)) a n ≤ sum f a n + 108000 * n) × (sum f a n ≤ 216000 * sum (λ i. rounded (f i)) a n + 108000 * n)
 unfolding sum
 rounded-sum f a zero = omega arith
 rounded-sum f a (suc n) = omega (arith, rounded-sum f (suc a) n, rounded-near (f a))
@@ -136,7 +145,8 @@ module _ (n : ℕ) (ss : List Span) (c : Chain 0 ss (halfHour * n)) (d : Drives 
   quantities-near q e a b up top =
       let r = rounded-sum (recordedIn ss) a (b - a) in
       rw (sum-agree q (λ i. rounded (recordedIn ss i)) a (b - a) (λ j h. e j (omega arith)))
-      (within-near (216000 * sum (λ i. rounded (recordedIn ss i)) a (b - a)) (sum (recordedIn ss) a (b - a)) (108000 * (b - a)) (allowance ss a b) (exactArea ss a b) (r .0) (r .1)
+      (within-near (216000 * sum (λ i. rounded (recordedIn ss i)) a (b - a)) (sum (recordedIn ss) a (b - a)) (108000 * (b - a)) (allowance ss a b)
+      (exactArea ss a b) (r .0) (r .1)
       (recorded-near a b up top))
 
 -- ---- the level at each second
@@ -145,7 +155,8 @@ pub moves : (from to : ℕ) (ss : List Span) → Chain from ss to → (t : ℕ) 
 unfolding levelStarting levelEnding rateStarting gap
 moves from to [] c t lo hi = absurd (omega (arith, c))
 moves from to (s ∷ ss) c t lo hi = elim (decLe (suc t) (s .end)) [
-  | yes p ↦ rw (in-here s ss levelAt t p, in-here s ss (λ c k. levelAt c (suc k)) t p, in-here s ss rateOn t p) (omega (arith, level-moves (s .trajectory) (t - s .begin)))
+  | yes p ↦ rw (in-here s ss levelAt t p, in-here s ss (λ c k. levelAt c (suc k)) t p, in-here s ss rateOn t p)
+      (omega (arith, level-moves (s .trajectory) (t - s .begin)))
   | no p ↦ rw (in-rest s ss levelAt t (omega arith), in-rest s ss (λ c k. levelAt c (suc k)) t (omega arith), in-rest s ss rateOn t (omega arith))
       (moves (s .end) to ss (c .2) t (omega arith) hi)
 ]
@@ -172,4 +183,5 @@ pub starts-recorded : (from to : ℕ) (ss : List Span) → Chain from ss to →
 unfolding levelStarting levelAt momentAt after
 starts-recorded from to ss c =
     all-map (λ (s : Span). (from ≤ s .begin) × Held ss s) (λ (s : Span). s .begin < s .end → s .trajectory .start ≡ levelStarting ss (s .begin))
-    (λ s h lt. sym (h .1 levelAt (s .begin) (omega arith) lt ∙ ap (levelAt (s .trajectory)) {x = s .begin - s .begin} {y = 0} (omega arith))) ss (held from to ss c)
+    (λ s h lt. sym (h .1 levelAt (s .begin) (omega arith) lt ∙ ap (levelAt (s .trajectory)) {x = s .begin - s .begin} {y = 0} (omega arith))) ss
+    (held from to ss c)

@@ -102,7 +102,8 @@ module _ (ns : List ℕ) where
         omega (arith, fit-at unitRanges ns 0 j e p .0, z)
 
     -- n + 1 rates from a place on, as the unit has them
-    column-some : (at : ℕ) → 1 ≤ getD ns (at + 1) 0 → 1 ≤ getD ns (at + 2) 0 → 1 ≤ getD ns (at + 3) 0 → Some (columnOf ns at .rates) (length (columnOf ns at .breaks))
+    column-some : (at : ℕ) → 1 ≤ getD ns (at + 1) 0 → 1 ≤ getD ns (at + 2) 0 → 1 ≤ getD ns (at + 3) 0 →
+        Some (columnOf ns at .rates) (length (columnOf ns at .breaks))
     unfolding columnOf
     column-some at a b c zero p = a
     column-some at a b c (suc zero) p = b
@@ -127,15 +128,20 @@ module _ (ns : List ℕ) where
     fit-of-numbers =
         record {
           column = λ heat. columns (eqb heat 1) (eqb heat 2);
-          up = five-some _ _ _ _ _ (rate 35 (omega arith) refl) (rate 36 (omega arith) refl) (rate 37 (omega arith) refl) (rate 38 (omega arith) refl) (rate 39 (omega arith) refl);
-          down = five-some _ _ _ _ _ (rate 50 (omega arith) refl) (rate 51 (omega arith) refl) (rate 52 (omega arith) refl) (rate 53 (omega arith) refl) (rate 54 (omega arith) refl);
+          up =
+              five-some _ _ _ _ _ (rate 35 (omega arith) refl) (rate 36 (omega arith) refl) (rate 37 (omega arith) refl) (rate 38 (omega arith) refl)
+              (rate 39 (omega arith) refl);
+          down =
+              five-some _ _ _ _ _ (rate 50 (omega arith) refl) (rate 51 (omega arith) refl) (rate 52 (omega arith) refl) (rate 53 (omega arith) refl)
+              (rate 54 (omega arith) refl);
           deload = two-some _ _ (rate 59 (omega arith) refl) (rate 60 (omega arith) refl);
           up-breaks = omega arith;
           down-breaks = omega arith;
         }
       where
         columns : (a b : Bool) →
-            let c : Column = getD (columnOf ns 5 ∷ columnOf ns 15 ∷ columnOf ns 25 ∷ []) (pick a 0 (pick b 1 2)) noColumn in Some (c .rates) (length (c .breaks))
+            let c : Column =
+            getD (columnOf ns 5 ∷ columnOf ns 15 ∷ columnOf ns 25 ∷ []) (pick a 0 (pick b 1 2)) noColumn in Some (c .rates) (length (c .breaks))
         columns true b = column-some 5 (rate 6 (omega arith) refl) (rate 7 (omega arith) refl) (rate 8 (omega arith) refl)
         columns false true = column-some 15 (rate 16 (omega arith) refl) (rate 17 (omega arith) refl) (rate 18 (omega arith) refl)
         columns false false = column-some 25 (rate 26 (omega arith) refl) (rate 27 (omega arith) refl) (rate 28 (omega arith) refl)

@@ -70,7 +70,9 @@ unfolding unitOf columnOf columnFor placeOf
 sized ns = record { columns = λ heat. go (eqb heat 1) (eqb heat 2); up = omega arith; dwells = omega arith; down = omega arith; deload = omega arith }
   where
     go : (a b : Bool) →
-        let c : Column = getD (columnOf ns 5 ∷ columnOf ns 15 ∷ columnOf ns 25 ∷ []) (pick a 0 (pick b 1 2)) noColumn in (length (c .breaks) ≤ 2) × (length (c .soaks) ≤ 2)
+        let c : Column =
+        getD (columnOf ns 5 ∷ columnOf ns 15 ∷ columnOf ns 25 ∷ []) (pick a 0 (pick b 1 2)) noColumn in (length (c .breaks) ≤ 2) ×
+        (length (c .soaks) ≤ 2)
     go true b = omega arith
     go false true = omega arith
     go false false = omega arith
@@ -94,7 +96,12 @@ unfolding spansOf dayPieces trajectoryOf
 pieces-few u z end [] = omega arith
 pieces-few u z end (c ∷ cs) =
     simp length-append
-    (omega (arith, at-most-thirty-two-pieces (trajectoryOf u c) (shaped u z (c .heat) (c .up) (c .down)) (c .begin) (beginOf end cs), pieces-few u z end cs))
+    (omega (
+      arith,
+      at-most-thirty-two-pieces (trajectoryOf u c) (shaped u z (c .heat) (c .up) (c .down)) (c .begin) (beginOf end cs),
+      pieces-few u z
+          end cs,
+    ))
 
 -- the figures of a piece: seconds of the day, levels at most m
 pub record PieceBelow (end m : ℕ) (p : Piece) : Type 0 where
@@ -111,7 +118,8 @@ traces-up : (h : Heading) (f : ℕ → ℕ) (a n : ℕ) (ps : List Piece) → Tr
 traces-up h f a n [] t = omega arith
 traces-up h f a n (p ∷ ps) t = omega (arith, t .1, traces-up h f (p .to) n ps (t .3))
 
-traces-below : (h : Heading) (f : ℕ → ℕ) (m end : ℕ) → ((k : ℕ) → f k ≤ m) → (a n : ℕ) → n ≤ end → (ps : List Piece) → Traces h f a n ps → All (PieceBelow end m) ps
+traces-below : (h : Heading) (f : ℕ → ℕ) (m end : ℕ) → ((k : ℕ) → f k ≤ m) → (a n : ℕ) → n ≤ end → (ps : List Piece) → Traces h f a n ps →
+    All (PieceBelow end m) ps
 traces-below h f m end b a n q [] t = tt
 traces-below h f m end b a n q (p ∷ ps) t =
     let up = traces-up h f (p .to) n ps (t .3) in (
@@ -133,8 +141,10 @@ unfolding dayPieces
 pieces-below m from to end e [] c b = tt
 pieces-below m from to end e (s ∷ ss) c b =
     all-append (PieceBelow end m) (piecesIn (s .trajectory) (s .begin) (s .end)) (dayPieces ss)
-    (traces-below (heading (s .trajectory)) (λ k. levelAt (s .trajectory) (k - s .begin)) m end (λ k. level-below (s .trajectory) m (k - s .begin) (b .0 .0) (b .0 .1))
-    (s .begin) (s .end) (omega (arith, chain-up (s .end) to ss (c .2))) (piecesIn (s .trajectory) (s .begin) (s .end)) (pieces-trace (s .trajectory) (s .begin) (s .end) (omega (arith, c .0, c .1))))
+    (traces-below (heading (s .trajectory)) (λ k. levelAt (s .trajectory) (k - s .begin)) m end
+    (λ k. level-below (s .trajectory) m (k - s .begin) (b .0 .0) (b .0 .1))
+    (s .begin) (s .end) (omega (arith, chain-up (s .end) to ss (c .2))) (piecesIn (s .trajectory) (s .begin) (s .end))
+    (pieces-trace (s .trajectory) (s .begin) (s .end) (omega (arith, c .0, c .1))))
     (pieces-below m (s .end) to end e ss (c .2) (b .1))
 
 -- ---- the closing state
@@ -164,7 +174,8 @@ hot-below u off = go (leb off (60 * u .hot)) (leb off (60 * u .warm))
 abbrev HeatBelow : Setting → Type 0
 HeatBelow g = g .heat ≤ 3
 
-heat-below : (u : UnitData) (now : UnderWay) (i : Instruction) (s : State) (e : Effect) (g : Setting) → now .course .heat ≤ 3 → outcomeBy u now i s e ≡ Sets g → g .heat ≤ 3
+heat-below : (u : UnitData) (now : UnderWay) (i : Instruction) (s : State) (e : Effect) (g : Setting) → now .course .heat ≤ 3 →
+    outcomeBy u now i s e ≡ Sets g → g .heat ≤ 3
 unfolding outcomeBy
 heat-below u now i s Trip g h e = unless-sets HeatBelow (eqb (s .level) 0) _ g e h
 heat-below u now i s Mwof g h e = unless-sets HeatBelow (eqb (s .level) 0 && eqb (i .level) 0) _ g e (go (eqb (s .level) 0))
@@ -181,11 +192,13 @@ heat-below u now i s Fail g h e = ignored-sets g e
 abbrev Warm : List Course → Type 0
 Warm cs = All (λ (c : Course). c .heat ≤ 3) cs
 
-follow-warm : (look : Trajectory → ℕ → ℕ → State) (u : UnitData) (now : UnderWay) (os : List Numbered) → now .course .heat ≤ 3 → Warm (map courseOf (follow look u now os .courses))
+follow-warm : (look : Trajectory → ℕ → ℕ → State) (u : UnitData) (now : UnderWay) (os : List Numbered) → now .course .heat ≤ 3 →
+    Warm (map courseOf (follow look u now os .courses))
 follow-warm look u = follow-ind look u (λ now os f. now .course .heat ≤ 3 → Warm (map courseOf (f .courses)))
     (λ now h. (h, tt))
     (λ now o os f e more h. unfold goesOn in more h)
-    (λ now o os g f e more h. unfold replaces begun underWay courseFrom in (h, more (heat-below u now (o .instruction) (stateAt look u now (acting o)) (o .instruction .meaning .effect) g h e)))
+    (λ now o os g f e more h. unfold replaces begun underWay courseFrom in
+    (h, more (heat-below u now (o .instruction) (stateAt look u now (acting o)) (o .instruction .meaning .effect) g h e)))
 
 -- a fact of the first course and of all of some is one of the last
 last-of : (P : Course → Type 0) (c : UnderWay) (cs : List UnderWay) → P (c .course) → All P (map courseOf cs) → P (lastOf c cs .course)
@@ -200,7 +213,8 @@ pub record ClosingBelow (m : ℕ) (e : Closing) : Type 0 where
   pub off : e .off ≤ 10000000
 
 -- a course and the state that it has come to
-closing-below : (u : UnitData) (end m : ℕ) (c : UnderWay) → Below m (c .course) → c .course .heat ≤ 3 → ClosingBelow m (closingBy c (stateAt byRule u c end))
+closing-below : (u : UnitData) (end m : ℕ) (c : UnderWay) → Below m (c .course) → c .course .heat ≤ 3 →
+    ClosingBelow m (closingBy c (stateAt byRule u c end))
 unfolding stateAt byRule trajectoryOf
 closing-below u end m c b w =
     let t : Trajectory = trajectoryOf u (c .course) in
@@ -237,7 +251,8 @@ module _ (n : ℕ) (t : Taken) where
   unfolding found foundBy
   fates-are-digits =
       fates-digits (numbered 1 is) _ (numbered 1 is)
-      (digits-append (follow byRule u first acts .marks) (validated (halfHour * n) (numbered 1 is) .marks) (follow-digits byRule u first acts) (marks-digits (halfHour * n) (numbered 1 is)))
+      (digits-append (follow byRule u first acts .marks) (validated (halfHour * n) (numbered 1 is) .marks) (follow-digits byRule u first acts)
+      (marks-digits (halfHour * n) (numbered 1 is)))
 
   pub fates-many : length (found paper n t .fates) ≡ length (entered t)
   unfolding found foundBy
@@ -254,5 +269,6 @@ module _ (n : ℕ) (t : Taken) where
       let m : ℕ = u .maximum in
       let below : WayBelow m first = start-below u m fits (le-refl m) (t .start) (low .level) (low .target) (low .ordered) in
       let cs : List UnderWay = follow byRule u first acts .courses in
-      closing-below u (halfHour * n) m (lastOf first cs) (last-of (Below m) first cs (below .course) (courses-below u m fits (le-refl m) first acts below))
+      closing-below u (halfHour * n) m (lastOf first cs)
+      (last-of (Below m) first cs (below .course) (courses-below u m fits (le-refl m) first acts below))
       (last-of (λ (c : Course). c .heat ≤ 3) first cs (first-heat (low .heat)) (follow-warm byRule u first acts (first-heat (low .heat))))

@@ -64,7 +64,8 @@ module _ (c : Trajectory) (off : ℕ) where
   pub watch-off : (k : ℕ) → watch c off (suc k) .off ≡ pick (eqb (levelAt c k) 0 && eqb (levelAt c (suc k)) 0) (held (suc (watch c off k .off))) 0
   unfolding watch watchNext levelAt momentAt after
   watch-off k =
-      ap (λ (m : Moment). pick (eqb (m .level) 0 && eqb (second (heading c) (c .lists) (c .target) m .level) 0) (held (suc (watch c off k .off))) 0) (watch-moment k)
+      ap (λ (m : Moment). pick (eqb (m .level) 0 && eqb (second (heading c) (c .lists) (c .target) m .level) 0) (held (suc (watch c off k .off))) 0)
+      (watch-moment k)
 
   pub off-more : (k : ℕ) → levelAt c k ≡ 0 → levelAt c (suc k) ≡ 0 → watch c off (suc k) .off ≡ held (suc (watch c off k .off))
   off-more k e f = watch-off k ∙ simp (eq-eqb _ _ e, eq-eqb _ _ f)
@@ -108,7 +109,14 @@ module _ (c : Trajectory) (off : ℕ) where
   already : (k : ℕ) → c .start ≢ 0 → levelAt c (suc k) ≡ 0 → arrival (segments c) ≤ k → levelAt c k ≡ 0
   already k s e h = elim (decLe (suc (c .start)) (c .target)) [
     | yes p ↦ absurd (omega (arith, level-up c p (suc k)))
-    | no p ↦ omega (arith, level-down c (omega arith) k, level-down c (omega arith) (suc k), recorded-top (segments c) (suc k), back (segments c) (segments-valid c) k h)
+    | no p ↦ omega (
+      arith,
+      level-down c (omega arith) k,
+      level-down c (omega arith) (suc k),
+      recorded-top (segments c) (suc k),
+      back (segments c)
+          (segments-valid c) k h,
+    )
   ]
 
   off-is : (k : ℕ) → watch c off k .off ≡ twin (levelAt c k) k
@@ -122,11 +130,13 @@ module _ (c : Trajectory) (off : ℕ) where
     | yes e ↦ elim (ℕ-discrete (c .start) 0) [
       | yes s ↦
           let z : levelAt c k ≡ 0 = stays k s e in
-          off-more k z e ∙ ap (λ (x : ℕ). held (suc x)) (off-is k ∙ twin-start (levelAt c k) k z s) ∙ omega arith ∙ sym (twin-start (levelAt c (suc k)) (suc k) e s)
+          off-more k z e ∙ ap (λ (x : ℕ). held (suc x)) (off-is k ∙ twin-start (levelAt c k) k z s) ∙ omega arith
+          ∙ sym (twin-start (levelAt c (suc k)) (suc k) e s)
       | no s ↦ elim (decLe (arrival (segments c)) k) [
         | yes y ↦
             let z : levelAt c k ≡ 0 = already k s e y in
-            off-more k z e ∙ ap (λ (x : ℕ). held (suc x)) (off-is k ∙ twin-fall (levelAt c k) k z s) ∙ omega arith ∙ sym (twin-fall (levelAt c (suc k)) (suc k) e s)
+            off-more k z e ∙ ap (λ (x : ℕ). held (suc x)) (off-is k ∙ twin-fall (levelAt c k) k z s) ∙ omega arith
+            ∙ sym (twin-fall (levelAt c (suc k)) (suc k) e s)
         | no y ↦ off-new k (λ z. y (come k s z)) ∙ omega (arith, come (suc k) s e) ∙ sym (twin-fall (levelAt c (suc k)) (suc k) e s)
       ]
     ]

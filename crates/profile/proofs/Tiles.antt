@@ -67,7 +67,8 @@ module _ (look : Trajectory → ℕ → ℕ → State) (end : ℕ) (u : UnitData
   unfolding startCourse underWay courseFrom
   day-tiles s os =
       let r = acting-rise end os in
-      tiles (startCourse u s) (validated end os .acts) .chain (record { after = zeros (validated end os .acts); rise = r .0; soon = r .1; begun-soon = omega arith })
+      tiles (startCourse u s) (validated end os .acts) .chain
+      (record { after = zeros (validated end os .acts); rise = r .0; soon = r .1; begun-soon = omega arith })
     where
       zeros : (os : List Numbered) → All (λ o. 0 ≤ acting o) os
       zeros [] = tt

@@ -36,7 +36,8 @@ module _ (u : UnitData) where
   pub follow-same : (now : UnderWay) (os : List Numbered) → follow byRule u now os ≡ follow bySegments u now os
   follow-same = follow-ind byRule u (λ now os f. f ≡ follow bySegments u now os)
       (λ now. unfold follow in refl)
-      (λ now o os f e p. ap (goesOn o) p ∙ sym (follow-on bySegments u now o os (ap (outcome u now (o .instruction)) (sym (at-same now (acting o))) ∙ e)))
+      (λ now o os f e p. ap (goesOn o) p ∙ sym (follow-on bySegments u now o os
+      (ap (outcome u now (o .instruction)) (sym (at-same now (acting o))) ∙ e)))
       (λ now o os g f e p.
       ap (replaces now o) (p ∙ ap (λ (s : State). follow bySegments u (begun u o g s) os) (at-same now (acting o)))
       ∙ sym (follow-new bySegments u now o os g (ap (outcome u now (o .instruction)) (sym (at-same now (acting o))) ∙ e)))
@@ -57,7 +58,8 @@ found-same n t =
       fates = fatesOf os (g .marks ++ v .marks) os;
       courses = cs;
       sums = (list-same (recordedTo ss) (twinTo ss) 0 (suc n) (λ j p. area-to n ss c j (omega arith))) i;
-      quantities = (list-same (λ j. rounded (recordedIn ss j)) (λ j. rounded (twinIn ss j)) 0 n (λ j p. ap rounded (area-in n ss c j (omega arith)))) i;
+      quantities =
+          (list-same (λ j. rounded (recordedIn ss j)) (λ j. rounded (twinIn ss j)) 0 n (λ j p. ap rounded (area-in n ss c j (omega arith)))) i;
       last = lastOf first (g .courses);
       end = (at-same u (lastOf first (g .courses)) (halfHour * n)) i;
     })

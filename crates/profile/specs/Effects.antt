@@ -49,13 +49,37 @@ module _ (u : UnitData) (now : UnderWay) (i : Instruction) (s : State) where
   outcomeBy Trip = unless (eqb (s .level) 0)
       (record { from = 0; target = 0; heat = now .course .heat; up = i .up; down = i .down; maximised = false; ordered = now .ordered })
   outcomeBy Mwof = unless (eqb (s .level) 0 && eqb (i .level) 0)
-      (record { from = s .level; target = mwofTarget; heat = pick (eqb (s .level) 0) 3 (now .course .heat); up = i .up; down = i .down; maximised = false; ordered = mwofTarget })
+      (record {
+        from = s .level;
+        target = mwofTarget;
+        heat = pick (eqb (s .level) 0) 3 (now .course .heat);
+        up = i .up;
+        down = i .down;
+        maximised = false;
+        ordered = mwofTarget;
+      })
   outcomeBy Mxon = unless (eqb (s .level) 0 || now .maximised)
-      (record { from = s .level; target = u .maximum; heat = now .course .heat; up = getD (u .up .rates) 4 0; down = i .down; maximised = true; ordered = now .ordered })
+      (record {
+        from = s .level;
+        target = u .maximum;
+        heat = now .course .heat;
+        up = getD (u .up .rates) 4 0;
+        down = i .down;
+        maximised = true;
+        ordered = now .ordered;
+      })
   outcomeBy Sync = unless (ltb 0 (s .level))
       (record { from = s .level; target = syncTarget; heat = heatBy u (s .off); up = i .up; down = i .down; maximised = false; ordered = syncTarget })
   outcomeBy Mxof = unless (not (now .maximised))
-      (record { from = s .level; target = now .ordered; heat = now .course .heat; up = i .up; down = getD (u .down .rates) 0 0; maximised = false; ordered = now .ordered })
+      (record {
+        from = s .level;
+        target = now .ordered;
+        heat = now .course .heat;
+        up = i .up;
+        down = getD (u .down .rates) 0 0;
+        maximised = false;
+        ordered = now .ordered;
+      })
   outcomeBy Desy = unless (eqb (s .level) 0)
       (record { from = s .level; target = 0; heat = now .course .heat; up = i .up; down = i .down; maximised = false; ordered = now .ordered })
   outcomeBy Fail = Ignored

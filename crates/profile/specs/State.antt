@@ -1,4 +1,5 @@
--- Believed: document 01, What each does at its acting second. The level just before and the seconds off, so many seconds after a course began: by the rule of one second.
+-- Believed: document 01, What each does at its acting second. The level just before and the seconds off, so many seconds after a course began: by the
+-- rule of one second.
 use Prim.Native.Nat.{ℕ, zero, suc, min}
 use mathlib.Core.Bool.{_&&_}
 use lib.Dec.{eqb}

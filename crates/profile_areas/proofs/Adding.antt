@@ -34,18 +34,22 @@ module _ (b s n v t : ℕ) (xs : List ℕ) (from : halfHour * b ≤ s) (on : s <
 
   ahead : (j : ℕ) → b + 1 ≤ j → upTo next j ≡ t + v
   ahead j le = elim (decLe (halfHour * j) n) [
-    | yes h ↦ upto-noted next j h ∙ ap (λ (k : ℕ). getD (set xs (b + 1) (t + v)) k 0) {x = j} {y = b + 1} (omega arith) ∙ getD-set-same xs (b + 1) (t + v) 0 room
+    | yes h ↦ upto-noted next j h ∙ ap (λ (k : ℕ). getD (set xs (b + 1) (t + v)) k 0) {x = j} {y = b + 1} (omega arith)
+        ∙ getD-set-same xs (b + 1) (t + v) 0 room
     | no h ↦ upto-total next j (omega arith)
   ]
 
   pub adds-on : (g : ℕ → ℕ) (a : Summed) → g s + v ≡ g n → Adds g a (summed s xs t) → Adds g a next
   adds-on g a e h j k = elim (decLe (b + 1) j) [
     | yes le ↦
-        let old : t ≡ upTo a j + g s = omega (arith, upto-total (summed s xs t) j (omega arith)) ∙ h j k ∙ ap (λ (i : ℕ). upTo a j + g i) {x = min s (halfHour * j)} {y = s} (omega arith) in
+        let old : t ≡ upTo a j + g s =
+        omega (arith, upto-total (summed s xs t) j (omega arith)) ∙ h j k
+        ∙ ap (λ (i : ℕ). upTo a j + g i) {x = min s (halfHour * j)} {y = s} (omega arith) in
         ahead j le ∙ omega (arith, old, e) ∙ ap (λ (i : ℕ). upTo a j + g i) {x = n} {y = min n (halfHour * j)} (omega arith)
     | no lt ↦
         upto-noted next j (omega arith) ∙ getD-set-other xs (b + 1) j (t + v) 0 (λ q. omega arith)
-        ∙ omega (arith, upto-noted (summed s xs t) j (omega arith)) ∙ h j k ∙ ap (λ (i : ℕ). upTo a j + g i) {x = min s (halfHour * j)} {y = min n (halfHour * j)} (omega arith)
+        ∙ omega (arith, upto-noted (summed s xs t) j (omega arith)) ∙ h j k
+        ∙ ap (λ (i : ℕ). upTo a j + g i) {x = min s (halfHour * j)} {y = min n (halfHour * j)} (omega arith)
   ]
 
   pub fits-on : v ≤ (n - s) * twiceBound → Fits (summed s xs t) → Fits next
@@ -55,7 +59,8 @@ module _ (b s n v t : ℕ) (xs : List ℕ) (from : halfHour * b ≤ s) (on : s <
   total-fits day low a = omega (arith, a .1)
 
 -- a step of going on from half-hour to half-hour: x is where the half-hour of `s` begins, n is where it ends, or `to`
-module _ (b x s to n : ℕ) (at : x ≡ halfHour * b) (day : to ≤ mostSeconds) (begun : min x to ≤ s) (within : s < x + halfHour) (left : s < to) (next : n ≡ min (x + halfHour) to) where
+module _ (b x s to n : ℕ) (at : x ≡ halfHour * b) (day : to ≤ mostSeconds) (begun : min x to ≤ s) (within : s < x + halfHour) (left : s < to)
+    (next : n ≡ min (x + halfHour) to) where
   pub step-in : (b < mostHalfHours) × (halfHour * b ≤ s) × (s < n) × (n ≤ halfHour * b + halfHour) × (n ≤ to)
   step-in = omega arith
 

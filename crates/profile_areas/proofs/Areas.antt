@@ -30,7 +30,8 @@ module _ (h : Heading) (l : Lists) (t : ℕ) (p : Place) where
     standing-twice =
         let x : ℕ = k - p .second in
         ap (λ (m : Moment). record { second = n; level = m .level; left = m .left })
-        (sym (after-add h l t x (n - k) (momentOf p)) ∙ ap (λ (j : ℕ). after h l t j (momentOf p)) {x = x + (n - k)} {y = n - p .second} (omega arith))
+        (sym (after-add h l t x (n - k) (momentOf p))
+        ∙ ap (λ (j : ℕ). after h l t j (momentOf p)) {x = x + (n - k)} {y = n - p .second} (omega arith))
 
     pub twice-split : twiceTo h l t k p + twiceTo h l t n (standing h l t k p) ≡ twiceTo h l t n p
     unfolding twiceTo standing
@@ -91,20 +92,25 @@ module _ (h : Heading) (l : Lists) (t n : ℕ) (p q : Place) (g : Goes h l t n p
   line-area s hi = elim (decLe (p .second) s) [
     | yes lo ↦
         let i : ℕ = s - p .second in
-        let begins : levels (p .second) ≡ p .level = ap (λ (k : ℕ). after h l t k (momentOf p) .level) {x = p .second - p .second} {y = 0} (omega arith) ∙ refl in
-        sym (sym (area-from levels (p .second) i ∙ area-same (λ j. levels (p .second + j)) (λ k. after h l t k (momentOf p) .level) (λ j. ap (λ (k : ℕ). after h l t k (momentOf p) .level) {x = p .second + j - p .second} {y = j} (omega arith)) 0 i)
-        ∙ piece-cut levels (record { from = p .second; to = q .second; enter = p .level; leave = q .level }) (p .second) s (omega arith) lo hi h goes-line
+        let begins : levels (p .second) ≡ p .level =
+        ap (λ (k : ℕ). after h l t k (momentOf p) .level) {x = p .second - p .second} {y = 0} (omega arith) ∙ refl in
+        sym (sym (area-from levels (p .second) i ∙ area-same (λ j. levels (p .second + j)) (λ k. after h l t k (momentOf p) .level)
+        (λ j. ap (λ (k : ℕ). after h l t k (momentOf p) .level) {x = p .second + j - p .second} {y = j} (omega arith)) 0 i)
+        ∙ piece-cut levels (record { from = p .second; to = q .second; enter = p .level; leave = q .level }) (p .second) s (omega arith) lo hi h
+        goes-line
         ∙ ap (λ (v : ℕ). i * (v + levels s)) begins ∙ ap (λ (v : ℕ). i * (p .level + v)) (line-there s lo hi))
     | no lt ↦ line-none h (p .level) rate (s - p .second) (omega arith) ∙ sym (twice-here h l t s p (omega arith))
   ]
 
 -- what a piece adds is what the course does there
-pub piece-on : (h : Heading) (l : Lists) (t n : ℕ) (p q : Place) (a b : Summed) → (p .second < q .second → Goes h l t n p q) → p .second ≤ q .second → b .second ≡ q .second →
+pub piece-on : (h : Heading) (l : Lists) (t n : ℕ) (p q : Place) (a b : Summed) → (p .second < q .second → Goes h l t n p q) → p .second ≤ q .second →
+    b .second ≡ q .second →
     Adds (pieceFrom h p q) a b → AddsOn h l t p a b
 piece-on h l t n p q a b go le to adds = elim (decLe (q .second) (p .second)) [
   | yes same ↦
       adds-same (pieceFrom h p q) (λ (i : ℕ). twiceTo h l t i p) a b
-      (λ i k. line-none h (p .level) (gap (p .level) (q .level) / (q .second - p .second)) (i - p .second) (omega arith) ∙ sym (twice-here h l t i p (omega arith))) adds
+      (λ i k. line-none h (p .level) (gap (p .level) (q .level) / (q .second - p .second)) (i - p .second) (omega arith)
+      ∙ sym (twice-here h l t i p (omega arith))) adds
   | no lt ↦
       adds-same (pieceFrom h p q) (λ (i : ℕ). twiceTo h l t i p) a b (λ i k. line-area h l t n p q (go (omega arith)) i (omega arith)) adds
 ]

@@ -54,7 +54,8 @@ module _ (v r k m d : ℕ) (le : k + m ≤ d) where
   line-on rising s = omega arith
   line-on falling s = omega (arith, less)
 
-  pub line-more : (h : Heading) → StaysLow h v (d * r) → lineTwice h v r k + m * (toward h v (k * r) + toward h v ((k + m) * r)) ≡ lineTwice h v r (k + m)
+  pub line-more : (h : Heading) → StaysLow h v (d * r) →
+      lineTwice h v r k + m * (toward h v (k * r) + toward h v ((k + m) * r)) ≡ lineTwice h v r (k + m)
   unfolding lineTwice toward
   line-more rising s = rise-more v r k m
   line-more falling s =
@@ -74,76 +75,82 @@ pub record Along-line (h : Heading) (level rate from to : ℕ) (a : Summed) (xs 
   pub there : v ≡ toward h level ((at - from) * rate)
 
 module _ (h : Heading) (level rate from to : ℕ) (a : Summed) (day : to ≤ mostSeconds) (low : StaysLow h level ((to - from) * rate)) where
-  pub line-begun : (xs : List ℕ) (t half : ℕ) → a ≡ summed from xs t → half ≡ from / halfHour → from ≤ to → Fits a → Along-line h level rate from to a xs half (half * halfHour) from level t
+  pub line-begun : (xs : List ℕ) (t half : ℕ) → a ≡ summed from xs t → half ≡ from / halfHour → from ≤ to → Fits a →
+      Along-line h level rate from to a xs half (half * halfHour) from level t
   line-begun xs t half e k le fits = record {
     boundary = omega arith;
     begun = omega arith;
     within = omega arith;
     after = omega arith;
     before = le;
-    adds = subst (Adds (lineFrom h level rate from) a) e (adds-none (lineFrom h level rate from) a (λ i j. line-none h level rate (i - from) (omega (arith, j, ap (λ (x : Summed). x .second) e))));
+    adds =
+        subst (Adds (lineFrom h level rate from) a) e
+        (adds-none (lineFrom h level rate from) a
+        (λ i j. line-none h level rate (i - from) (omega (arith, j, ap (λ (x : Summed). x .second) e))));
     fits = subst Fits e fits;
     there = line-start h level rate (from - from) (omega arith);
   }
 
   -- a step to n, where the half-hour ends, or the line
-  module _ (xs : List ℕ) (b x at v t n : ℕ) (l : Along-line h level rate from to a xs b x at v t) (left : at < to) (next : n ≡ min (x + halfHour) to) where
-    abbrev k : ℕ
-    k = at - from
+  module _ (xs : List ℕ) (b x at v t n : ℕ) (l : Along-line h level rate from to a xs b x at v t) (left : at < to) (next : n ≡ min (x + halfHour) to)
+    where
+      abbrev k : ℕ
+      k = at - from
 
-    abbrev m : ℕ
-    m = n - at
+      abbrev m : ℕ
+      m = n - at
 
-    abbrev w : ℕ
-    w = toward h v (m * rate)
+      abbrev w : ℕ
+      w = toward h v (m * rate)
 
-    pub in-half : (b < mostHalfHours) × (halfHour * b ≤ at) × (at < n) × (n ≤ halfHour * b + halfHour) × (n ≤ to)
-    in-half = step-in b x at to n (l .boundary) day (l .begun) (l .within) left next
+      pub in-half : (b < mostHalfHours) × (halfHour * b ≤ at) × (at < n) × (n ≤ halfHour * b + halfHour) × (n ≤ to)
+      in-half = step-in b x at to n (l .boundary) day (l .begun) (l .within) left next
 
-    on-line : k + m ≤ to - from
-    on-line = omega (arith, in-half, l .after)
+      on-line : k + m ≤ to - from
+      on-line = omega (arith, in-half, l .after)
 
-    pub step-low : m * rate ≤ levelBound
-    step-low = line-step level rate k m (to - from) on-line h low
+      pub step-low : m * rate ≤ levelBound
+      step-low = line-step level rate k m (to - from) on-line h low
 
-    pub step-reaches : Reaches h v (m * rate)
-    step-reaches = subst (λ (y : ℕ). Reaches h y (m * rate)) (sym (l .there)) (line-reaches level rate k m (to - from) on-line h low)
+      pub step-reaches : Reaches h v (m * rate)
+      step-reaches = subst (λ (y : ℕ). Reaches h y (m * rate)) (sym (l .there)) (line-reaches level rate k m (to - from) on-line h low)
 
-    moves : w ≡ toward h level ((k + m) * rate)
-    moves = ap (λ (y : ℕ). toward h y (m * rate)) (l .there) ∙ line-on level rate k m (to - from) on-line h low
+      moves : w ≡ toward h level ((k + m) * rate)
+      moves = ap (λ (y : ℕ). toward h y (m * rate)) (l .there) ∙ line-on level rate k m (to - from) on-line h low
 
-    pub levels-low : (v < levelBound) × (w < levelBound) × (m * (v + w) ≤ m * twiceBound)
-    levels-low =
-        let lo : v < levelBound = omega (arith, line-low level rate k m (to - from) on-line h low, l .there) in
-        let hi : w < levelBound = omega (arith, line-low level rate (k + m) 0 (to - from) (omega (arith, on-line)) h low, moves) in
-        (lo, hi, mul-le-mul-left m (omega (arith, lo, hi)))
+      pub levels-low : (v < levelBound) × (w < levelBound) × (m * (v + w) ≤ m * twiceBound)
+      levels-low =
+          let lo : v < levelBound = omega (arith, line-low level rate k m (to - from) on-line h low, l .there) in
+          let hi : w < levelBound = omega (arith, line-low level rate (k + m) 0 (to - from) (omega (arith, on-line)) h low, moves) in
+          (lo, hi, mul-le-mul-left m (omega (arith, lo, hi)))
 
-    line-room : b + 1 < length xs
-    line-room = omega (arith, in-half .0, l .fits .0)
+      line-room : b + 1 < length xs
+      line-room = omega (arith, in-half .0, l .fits .0)
 
-    pub line-fits : t + m * (v + w) < 18446744073709551616
-    line-fits = total-fits b at n (m * (v + w)) t xs (in-half .1) (in-half .2) (in-half .3) line-room (omega (arith, in-half .4)) (levels-low .2) (l .fits)
+      pub line-fits : t + m * (v + w) < 18446744073709551616
+      line-fits =
+          total-fits b at n (m * (v + w)) t xs (in-half .1) (in-half .2) (in-half .3) line-room (omega (arith, in-half .4)) (levels-low .2) (l .fits)
 
-    adds-up : lineFrom h level rate from at + m * (v + w) ≡ lineFrom h level rate from n
-    adds-up =
-        ap (λ (y : ℕ). lineTwice h level rate k + m * (y + w)) (l .there)
-        ∙ ap (λ (y : ℕ). lineTwice h level rate k + m * (toward h level (k * rate) + y)) moves
-        ∙ line-more level rate k m (to - from) on-line h low
-        ∙ ap (lineTwice h level rate) {x = k + m} {y = n - from} (omega (arith, in-half .2, l .after))
+      adds-up : lineFrom h level rate from at + m * (v + w) ≡ lineFrom h level rate from n
+      adds-up =
+          ap (λ (y : ℕ). lineTwice h level rate k + m * (y + w)) (l .there)
+          ∙ ap (λ (y : ℕ). lineTwice h level rate k + m * (toward h level (k * rate) + y)) moves
+          ∙ line-more level rate k m (to - from) on-line h low
+          ∙ ap (lineTwice h level rate) {x = k + m} {y = n - from} (omega (arith, in-half .2, l .after))
 
-    pub line-further : Along-line h level rate from to a (set xs (b + 1) (t + m * (v + w))) (b + 1) (x + halfHour) n w (t + m * (v + w))
-    line-further =
-        let s = step-next b x at to n (l .boundary) day (l .begun) (l .within) left next in
-        record {
-          boundary = s .0;
-          begun = s .1;
-          within = s .2;
-          after = omega (arith, in-half .2, l .after);
-          before = in-half .4;
-          adds = adds-on b at n (m * (v + w)) t xs (in-half .1) (in-half .2) (in-half .3) line-room (lineFrom h level rate from) a adds-up (l .adds);
-          fits = fits-on b at n (m * (v + w)) t xs (in-half .1) (in-half .2) (in-half .3) line-room (levels-low .2) (l .fits);
-          there = moves ∙ ap (λ (y : ℕ). toward h level (y * rate)) {x = k + m} {y = n - from} (omega (arith, in-half .2, l .after));
-        }
+      pub line-further : Along-line h level rate from to a (set xs (b + 1) (t + m * (v + w))) (b + 1) (x + halfHour) n w (t + m * (v + w))
+      line-further =
+          let s = step-next b x at to n (l .boundary) day (l .begun) (l .within) left next in
+          record {
+            boundary = s .0;
+            begun = s .1;
+            within = s .2;
+            after = omega (arith, in-half .2, l .after);
+            before = in-half .4;
+            adds = adds-on b at n (m * (v + w)) t xs (in-half .1) (in-half .2) (in-half .3) line-room (lineFrom h level rate from) a adds-up (l .adds);
+            fits = fits-on b at n (m * (v + w)) t xs (in-half .1) (in-half .2) (in-half .3) line-room (levels-low .2) (l .fits);
+            there = moves ∙ ap (λ (y : ℕ). toward h level (y * rate)) {x = k + m} {y = n - from} (omega (arith, in-half .2, l .after));
+          }
 
 -- ---- from one place to another
 
@@ -200,9 +207,12 @@ module _ (h : Heading) (p q : Place) (lt : p .second < q .second) (s : Straight 
 
     whole : lineFrom h (p .level) rate (p .second) (p .second) + more ≡ lineFrom h (p .level) rate (p .second) (q .second)
     unfolding lineTwice
-    whole = ap (λ (v : ℕ). v + more) (line-none h (p .level) rate (p .second - p .second) (omega arith)) ∙ omega arith ∙ ap (λ (v : ℕ). time * (p .level + v)) (along-toward h (p .level) (time * rate) (q .level) along)
+    whole =
+        ap (λ (v : ℕ). v + more) (line-none h (p .level) rate (p .second - p .second) (omega arith)) ∙ omega arith
+        ∙ ap (λ (v : ℕ). time * (p .level + v)) (along-toward h (p .level) (time * rate) (q .level) along)
 
-    pub piece-adds : Adds (pieceFrom h p q) (summed (p .second) xs t) (summed (q .second) (set xs (half + 1) (t + more)) (t + more)) × Fits (summed (q .second) (set xs (half + 1) (t + more)) (t + more))
+    pub piece-adds : Adds (pieceFrom h p q) (summed (p .second) xs t) (summed (q .second) (set xs (half + 1) (t + more)) (t + more)) × Fits
+        (summed (q .second) (set xs (half + 1) (t + more)) (t + more))
     piece-adds = (
       adds-on half (p .second) (q .second) more t xs (place .0) lt (place .1) room (pieceFrom h p q) (summed (p .second) xs t) whole
           (adds-none (pieceFrom h p q) (summed (p .second) xs t) (λ i le. line-none h (p .level) rate (i - p .second) (omega arith))),

@@ -38,7 +38,8 @@ goes-there h l t n p q g = record {
 
 -- what has been passed on the way from a place towards the second n, up to where the course is reached: the sums a have become ys and
 -- the total
-pub record Sofar (l : OwnLists) (c : Course) (up : Bool) (from : Place) (before n : ℕ) (a : Summed) (ys : List ℕ) (at : Reached) (off total : ℕ) : Type 0 where
+pub record Sofar (l : OwnLists) (c : Course) (up : Bool) (from : Place) (before n : ℕ) (a : Summed) (ys : List ℕ) (at : Reached)
+    (off total : ℕ) : Type 0 where
   pub adds : AddsOn (headed up) (listsBy l c) (grains (c .target)) from a (summed (at .place .second) ys total)
   pub fits : Fits (summed (at .place .second) ys total)
   pub known : Known (headed up) (listsBy l c) (grains (c .target)) at
@@ -66,7 +67,8 @@ module _ (l : OwnLists) (c : Course) (up : Bool) (start : Reached) (before n : �
   Now ys at off total = Sofar l c up from before n a ys at off total
 
   -- nothing yet
-  pub sofar-none : (xs : List ℕ) (total : ℕ) → a ≡ summed (from .second) xs total → from .second ≤ n → from .level < levelBound → Short h t (from .level) → Known h ls t start → Fits a → Now xs start before total
+  pub sofar-none : (xs : List ℕ) (total : ℕ) → a ≡ summed (from .second) xs total → from .second ≤ n → from .level < levelBound →
+      Short h t (from .level) → Known h ls t start → Fits a → Now xs start before total
   sofar-none xs total e le low sh known fits = record {
     adds = rw e (adds-none (λ (i : ℕ). twiceTo h ls t i from) (summed (from .second) xs total) (λ i k. twice-none h ls t from i k));
     fits = subst Fits e fits;
@@ -134,12 +136,14 @@ module _ (l : OwnLists) (c : Course) (up : Bool) (start : Reached) (before n : �
         }
 
         -- it ends before n, and is added
-        pub sofar-more : q .second < n → Known h ls t next → (zs : List ℕ) (sum : ℕ) → Adds (pieceFrom h p q) (summed (p .second) ys total) (summed (q .second) zs sum) →
+        pub sofar-more : q .second < n → Known h ls t next → (zs : List ℕ) (sum : ℕ) →
+            Adds (pieceFrom h p q) (summed (p .second) ys total) (summed (q .second) zs sum) →
             Fits (summed (q .second) zs sum) → Now zs next more sum
         sofar-more ends known zs sum added fits = record {
           adds = λ j k. omega (
             arith,
-            piece-on h ls t n p q (summed (p .second) ys total) (summed (q .second) zs sum) (λ lt. sofar-goes) (omega (arith, sofar-goes .later)) refl added j k,
+            piece-on h ls t n p q (summed (p .second) ys total) (summed (q .second) zs sum) (λ lt. sofar-goes) (omega (arith, sofar-goes .later)) refl
+                added j k,
             s .adds j k,
             twice-through h ls t from p (s .stands) (s .later) (q .second) (halfHour * j) (omega (arith, sofar-goes .later)),
           );

@@ -44,9 +44,13 @@ module _ (h : Heading) (l : Lists) (t n a : ℕ) (p q : Place) (begun : a ≤ p 
   own-line : Line h own (record { from = p .second - a; to = q .second - a; enter = p .level; leave = q .level })
   own-line = record {
     rate = the-line .rate;
-    along = λ i le. rw (ap (λ (k : ℕ). after h l t k (momentOf p) .level) {x = p .second + i - p .second} {y = p .second - a + i - (p .second - a)} (omega arith))
+    along =
+        λ i le. rw (ap (λ (k : ℕ). after h l t k (momentOf p) .level) {x = p .second + i - p .second} {y = p .second - a + i - (p .second - a)}
+        (omega arith))
         at (the-line .along i (omega (arith, g .later)));
-    ends = the-line .ends ∙ ap (λ (k : ℕ). after h l t k (momentOf p) .level) {x = q .second - p .second} {y = q .second - a - (p .second - a)} (omega (arith, g .later));
+    ends =
+        the-line .ends ∙ ap (λ (k : ℕ). after h l t k (momentOf p) .level) {x = q .second - p .second} {y = q .second - a - (p .second - a)}
+        (omega (arith, g .later));
   }
 
   pub goes-back : Goes h l t (n - a) (back a p) (back a q)
@@ -56,14 +60,17 @@ module _ (h : Heading) (l : Lists) (t n a : ℕ) (p q : Place) (begun : a ≤ p 
     within = omega (arith, g .within);
     short = g .short;
     low = g .low;
-    moment = ap (λ (k : ℕ). after h l t k (momentOf p)) {x = q .second - a - (p .second - a)} {y = q .second - p .second} (omega (arith, g .later)) ∙ g .moment;
+    moment =
+        ap (λ (k : ℕ). after h l t k (momentOf p)) {x = q .second - a - (p .second - a)} {y = q .second - p .second} (omega (arith, g .later))
+        ∙ g .moment;
     straight = rw (lt-ltb (p .second - a) (q .second - a) (omega (arith, g .later))) (refl, omega (arith, g .later), own-line, refl);
   }
 
 between-back : (a : ℕ) (p q : Place) (off : ℕ) → a ≤ p .second → p .second < q .second → offBetween p q off ≡ offBetween (back a p) (back a q) off
 unfolding offBetween
 between-back a p q off h k =
-    ap (λ (d : ℕ). pick (eqb (p .level) 0 && eqb (q .level) 0) (held (off + d)) 0) {x = q .second - p .second} {y = q .second - a - (p .second - a)} (omega arith)
+    ap (λ (d : ℕ). pick (eqb (p .level) 0 && eqb (q .level) 0) (held (off + d)) 0) {x = q .second - p .second} {y = q .second - a - (p .second - a)}
+    (omega arith)
 
 module _ (u : UnitData) (c : Course) (before : ℕ) (up : Bool) where
   pub watching-start : up ≡ ltb (c .start .grains) (grains (c .target)) → Watching u c before up (beginning c (c .begin)) (offStarting c before)
@@ -92,7 +99,8 @@ module _ (u : UnitData) (c : Course) (before : ℕ) (up : Bool) where
     turned q e =
         rw (heading-is u c up (w .rises)) (goes-back (headed up) (listsIn u c) (grains (c .target)) n (c .begin) p q (w .begun) (rw e watching-goes))
 
-    pub watching-on : (q : Place) (o : ℕ) → q ≡ onward (headed up) (listsIn u c) (grains (c .target)) n p → o ≡ offBetween p q off → Watching u c before up q o
+    pub watching-on : (q : Place) (o : ℕ) → q ≡ onward (headed up) (listsIn u c) (grains (c .target)) n p → o ≡ offBetween p q off →
+        Watching u c before up q o
     watching-on q o e f =
         let g : Goes (headed up) (listsIn u c) (grains (c .target)) n p q = rw e watching-goes in
         let a : ℕ = c .begin in
@@ -101,12 +109,16 @@ module _ (u : UnitData) (c : Course) (before : ℕ) (up : Bool) where
           begun = omega (arith, w .begun, g .later);
           short = g .short;
           moment = moment-on (trajectoryOf u c) before (n - a) (back a p) (back a q) (w .moment) (turned q e);
-          off-is = f ∙ between-back a p q off (w .begun) (g .later) ∙ ap (offBetween (back a p) (back a q)) (w .off-is) ∙ sym (off-on (trajectoryOf u c) before (n - a) (back a p) (back a q) (w .moment) (turned q e));
+          off-is =
+              f ∙ between-back a p q off (w .begun) (g .later) ∙ ap (offBetween (back a p) (back a q)) (w .off-is)
+              ∙ sym (off-on (trajectoryOf u c) before (n - a) (back a p) (back a q) (w .moment) (turned q e));
         }
 
-  pub watching-state : (p : Place) (off : ℕ) → Watching u c before up p off → (record { level = p .level; off = off }) ≡ byRule (trajectoryOf u c) before (p .second - c .begin)
+  pub watching-state : (p : Place) (off : ℕ) → Watching u c before up p off →
+      (record { level = p .level; off = off }) ≡ byRule (trajectoryOf u c) before (p .second - c .begin)
   watching-state p off w =
-      (λ i. record { level = p .level; off = (w .off-is) i }) ∙ state-there (trajectoryOf u c) before (back (c .begin) p) (p .second - c .begin) refl (w .moment)
+      (λ i. record { level = p .level; off = (w .off-is) i })
+      ∙ state-there (trajectoryOf u c) before (back (c .begin) p) (p .second - c .begin) refl (w .moment)
 
 -- the state at the second t, of the course under way
 pub watching-at : (u : UnitData) (now : UnderWay) (up : Bool) (p : Place) (off t : ℕ) → Watching u (now .course) (now .off) up p off → p .second ≡ t →

@@ -22,7 +22,8 @@ use Rattle.profile.proofs.States.{watch-moment, watch-off, off-more, off-none, 
 use Rattle.profile_areas.specs.Watching.{offBetween}
 
 -- the one piece of a straight part
-the-line : (h : Heading) (f : ℕ → ℕ) (a b v w : ℕ) → a < b → Traces h f a b (piece a b v w) → Line h f (record { from = a; to = b; enter = v; leave = w })
+the-line : (h : Heading) (f : ℕ → ℕ) (a b v w : ℕ) → a < b → Traces h f a b (piece a b v w) →
+    Line h f (record { from = a; to = b; enter = v; leave = w })
 unfolding piece
 the-line h f a b v w lt t = (rw (lt-ltb a b lt) at t) .2
 
@@ -105,7 +106,8 @@ module _ (c : Trajectory) (off : ℕ) where
         let b : ℕ = q .second - p .second - 1 in
         let to : q .second ≡ a + d = omega (arith, g .later) in
         let last : q .second ≡ suc (a + b) = omega (arith, g .later) in
-        let end : Along (heading c) (p .level) (d * straight .rate) (q .level) = rw (ap (levelAt c) (sym to) ∙ sym here) at (line-at d (omega arith)) in
+        let end : Along (heading c) (p .level) (d * straight .rate) (q .level) =
+        rw (ap (levelAt c) (sym to) ∙ sym here) at (line-at d (omega arith)) in
         elim (ℕ-discrete (q .level) 0) [
           | yes zq ↦ elim (ℕ-discrete (p .level) 0) [
             | yes zp ↦
@@ -114,7 +116,8 @@ module _ (c : Trajectory) (off : ℕ) where
                 ∙ sym (simp (eq-eqb _ _ zp, eq-eqb _ _ zq))
             | no np ↦
                 ap (λ (k : ℕ). watch c off k .off) last
-                ∙ off-new c off (a + b) (sinks (heading c) b (straight .rate) (p .level) (levelAt c (a + b)) (q .level) np zq (line-at b (omega (arith, g .later)))
+                ∙ off-new c off (a + b) (sinks (heading c) b (straight .rate) (p .level) (levelAt c (a + b)) (q .level) np zq
+                (line-at b (omega (arith, g .later)))
                 (ap-along (heading c) (p .level) (straight .rate) (q .level) d (suc b) (omega (arith, g .later)) end))
                 ∙ sym (simp (ne-eqb _ _ np))
           ]
@@ -125,7 +128,8 @@ module _ (c : Trajectory) (off : ℕ) where
         ]
 
   -- what is read at a second
-  pub state-there : (p : Place) (k : ℕ) → p .second ≡ k → momentOf p ≡ momentAt c (p .second) → (record { level = p .level; off = watch c off (p .second) .off }) ≡ byRule c off k
+  pub state-there : (p : Place) (k : ℕ) → p .second ≡ k → momentOf p ≡ momentAt c (p .second) →
+      (record { level = p .level; off = watch c off (p .second) .off }) ≡ byRule c off k
   unfolding byRule
   state-there p k at e =
       (λ i. record { level = (ap (λ (m : Moment). m .level) (e ∙ sym (watch-moment c off (p .second)))) i; off = watch c off (p .second) .off })

@@ -43,7 +43,8 @@ module _ (fates : List ℕ) (count number fate : ℕ) where
   unfolding overFate
   over-one z h e = simp (ne-eqb number 0 z, lt-leb count (number - 1) h, eq-eqb (getD fates (number - 1) 0) 1 e)
 
-  over-set : (number ≡ 0 → ⊥) → number - 1 < count → (getD fates (number - 1) 0 ≡ 1 → ⊥) → set fates (number - 1) fate ≡ overFate fates count number fate
+  over-set : (number ≡ 0 → ⊥) → number - 1 < count → (getD fates (number - 1) 0 ≡ 1 → ⊥) →
+      set fates (number - 1) fate ≡ overFate fates count number fate
   unfolding overFate
   over-set z h e = simp (ne-eqb number 0 z, lt-leb count (number - 1) h, ne-eqb (getD fates (number - 1) 0) 1 e)
 
@@ -64,7 +65,8 @@ module _ (s : Fates) (number fate : ℕ) where
   unfolding overlaid
   overlaid-one z h e = ap with (over-one (s .fates) (s .count) number fate z h e)
 
-  pub overlaid-set : (number ≡ 0 → ⊥) → number - 1 < s .count → (getD (s .fates) (number - 1) 0 ≡ 1 → ⊥) → with (set (s .fates) (number - 1) fate) ≡ overlaid s number fate
+  pub overlaid-set : (number ≡ 0 → ⊥) → number - 1 < s .count → (getD (s .fates) (number - 1) 0 ≡ 1 → ⊥) →
+      with (set (s .fates) (number - 1) fate) ≡ overlaid s number fate
   unfolding overlaid
   overlaid-set z h e = ap with (over-set (s .fates) (s .count) number fate z h e)
 
@@ -75,11 +77,13 @@ module _ (acts : List Numbered) (own : List ℕ) (n : ℕ) where
   marks-none = ap (marksFrom acts own n) {x = n - n} {y = 0} (omega arith)
 
   pub marks-back : (i : ℕ) → 0 < i → i ≤ n →
-      marksFrom acts own (i - 1) (n - (i - 1)) ≡ record { number = getD acts (i - 1) noNumbered .number; fate = getD own (i - 1) 0 } ∷ marksFrom acts own i (n - i)
+      marksFrom acts own (i - 1) (n - (i - 1)) ≡ record { number = getD acts (i - 1) noNumbered .number; fate = getD own (i - 1) 0 } ∷ marksFrom acts
+      own i (n - i)
   unfolding marksFrom
   marks-back i h k =
       ap (marksFrom acts own (i - 1)) {x = n - (i - 1)} {y = suc (n - i)} (omega arith)
-      ∙ ap (λ (j : ℕ). record { number = getD acts (i - 1) noNumbered .number; fate = getD own (i - 1) 0 } ∷ marksFrom acts own j (n - i)) {x = suc (i - 1)} {y = i} (omega arith)
+      ∙ ap (λ (j : ℕ). record { number = getD acts (i - 1) noNumbered .number; fate = getD own (i - 1) 0 } ∷ marksFrom acts own j (n - i))
+      {x = suc (i - 1)} {y = i} (omega arith)
 
   pub overlaid-start : (s : Fates) → s ≡ overlaidAll s (marksFrom acts own n (n - n))
   unfolding overlaidAll overAll
@@ -88,10 +92,13 @@ module _ (acts : List Numbered) (own : List ℕ) (n : ℕ) where
   pub overlaid-back : (s r : Fates) (i : ℕ) → 0 < i → i ≤ n → r ≡ overlaidAll s (marksFrom acts own i (n - i)) →
       overlaid r (getD acts (i - 1) noNumbered .number) (getD own (i - 1) 0) ≡ overlaidAll s (marksFrom acts own (i - 1) (n - (i - 1)))
   unfolding overlaidAll overlaid overAll
-  overlaid-back s r i h k e = ap (λ (x : Fates). overlaid x (getD acts (i - 1) noNumbered .number) (getD own (i - 1) 0)) e ∙ sym (ap (overlaidAll s) (marks-back i h k))
+  overlaid-back s r i h k e =
+      ap (λ (x : Fates). overlaid x (getD acts (i - 1) noNumbered .number) (getD own (i - 1) 0)) e ∙ sym (ap (overlaidAll s) (marks-back i h k))
 
   pub overlaid-end : (s r : Fates) (i : ℕ) → i ≡ 0 → r ≡ overlaidAll s (marksFrom acts own i (n - i)) → r ≡ overlaidAll s (marksFrom acts own 0 n)
-  overlaid-end s r i z e = e ∙ ap (λ (k : ℕ). overlaidAll s (marksFrom acts own k (n - k))) z ∙ ap (λ (k : ℕ). overlaidAll s (marksFrom acts own 0 k)) {x = n - 0} {y = n} (omega arith)
+  overlaid-end s r i z e =
+      e ∙ ap (λ (k : ℕ). overlaidAll s (marksFrom acts own k (n - k))) z
+      ∙ ap (λ (k : ℕ). overlaidAll s (marksFrom acts own 0 k)) {x = n - 0} {y = n} (omega arith)
 
 -- the fates of those from the place i on are laid over
 pub record LaidFrom (n : ℕ) (acts : List Numbered) (own : List ℕ) (s r : Fates) (i : ℕ) : Type 0 where
@@ -139,7 +146,8 @@ marks-not : (end : ℕ) (os : List Numbered) → NotOne (validated end os .marks
 unfolding validated keptOf
 marks-not end os =
     let s : Checked = check (record { kept = []; marks = [] }) (used end os) in
-    all-append (s .marks) (lateMarks end (turned (s .kept) [])) (check-not (record { kept = []; marks = [] }) (used end os) tt) (late-not end (turned (s .kept) []))
+    all-append (s .marks) (lateMarks end (turned (s .kept) [])) (check-not (record { kept = []; marks = [] }) (used end os) tt)
+    (late-not end (turned (s .kept) []))
 
 among-not : (n : ℕ) (ms : List Mark) → NotOne ms → eqb (fateAmong n ms) 1 ≡ false
 unfolding fateAmong
@@ -165,10 +173,12 @@ module _ (all : List Numbered) (m : Mark) (ms : List Mark) where
   mark-other k (i ∷ is) h =
       let o : Numbered = record { number = k; instruction = i } in
       let e : eqb (m .number) k ≡ false = ne-eqb (m .number) k (λ q. h 0 (omega arith) (omega arith)) in
-      λ x. pick (superseded all o) 1 ((ap (λ (b : Bool). pick b (m .fate) (fateAmong k ms)) e) x) ∷ (mark-other (suc k) is (λ j p q. h (suc j) (omega arith) (omega arith))) x
+      λ x. pick (superseded all o) 1 ((ap (λ (b : Bool). pick b (m .fate) (fateAmong k ms)) e) x) ∷
+      (mark-other (suc k) is (λ j p q. h (suc j) (omega arith) (omega arith))) x
 
   -- one that step 1 settles
-  mark-one : NotOne ms → (k j : ℕ) (is : List Instruction) → j < length is → m .number ≡ k + j → getD (before k is) j 0 ≡ 1 → behind k is ≡ before k is
+  mark-one : NotOne ms → (k j : ℕ) (is : List Instruction) → j < length is → m .number ≡ k + j → getD (before k is) j 0 ≡ 1 →
+      behind k is ≡ before k is
   unfolding fatesOf numbered fateAmong
   mark-one d k j [] h e one = absurd (omega arith)
   mark-one d k zero (i ∷ is) h e one =
@@ -181,9 +191,11 @@ module _ (all : List Numbered) (m : Mark) (ms : List Mark) where
   mark-one d k (suc j) (i ∷ is) h e one =
       let o : Numbered = record { number = k; instruction = i } in
       let f : eqb (m .number) k ≡ false = ne-eqb (m .number) k (λ q. omega arith) in
-      λ x. pick (superseded all o) 1 ((ap (λ (b : Bool). pick b (m .fate) (fateAmong k ms)) f) x) ∷ (mark-one d (suc k) j is (omega arith) (omega arith) one) x
+      λ x. pick (superseded all o) 1 ((ap (λ (b : Bool). pick b (m .fate) (fateAmong k ms)) f) x) ∷
+      (mark-one d (suc k) j is (omega arith) (omega arith) one) x
 
-  mark-set : (k j : ℕ) (is : List Instruction) → j < length is → m .number ≡ k + j → (getD (before k is) j 0 ≡ 1 → ⊥) → behind k is ≡ set (before k is) j (m .fate)
+  mark-set : (k j : ℕ) (is : List Instruction) → j < length is → m .number ≡ k + j → (getD (before k is) j 0 ≡ 1 → ⊥) →
+      behind k is ≡ set (before k is) j (m .fate)
   unfolding fatesOf numbered fateAmong
   mark-set k j [] h e one = absurd (omega arith)
   mark-set k zero (i ∷ is) h e one =
@@ -196,7 +208,8 @@ module _ (all : List Numbered) (m : Mark) (ms : List Mark) where
   mark-set k (suc j) (i ∷ is) h e one =
       let o : Numbered = record { number = k; instruction = i } in
       let f : eqb (m .number) k ≡ false = ne-eqb (m .number) k (λ q. omega arith) in
-      λ x. pick (superseded all o) 1 ((ap (λ (b : Bool). pick b (m .fate) (fateAmong k ms)) f) x) ∷ (mark-set (suc k) j is (omega arith) (omega arith) one) x
+      λ x. pick (superseded all o) 1 ((ap (λ (b : Bool). pick b (m .fate) (fateAmong k ms)) f) x) ∷
+      (mark-set (suc k) j is (omega arith) (omega arith) one) x
 
 -- ---- one more mark in front is one more fate laid over
 module _ (all : List Numbered) (is : List Instruction) (few : length is ≤ instructionPlaces) where
@@ -206,18 +219,23 @@ module _ (all : List Numbered) (is : List Instruction) (few : length is ≤ inst
   many : (ms : List Mark) → length (fatesBy ms) ≡ length is
   many ms = fates-length all ms (numbered 1 is) ∙ numbered-length 1 is
 
-  over-mark : (m : Mark) (ms : List Mark) → NotOne ms → overFate (filled instructionPlaces 0 (fatesBy ms)) (length is) (m .number) (m .fate) ≡ filled instructionPlaces 0 (fatesBy (m ∷ ms))
+  over-mark : (m : Mark) (ms : List Mark) → NotOne ms →
+      overFate (filled instructionPlaces 0 (fatesBy ms)) (length is) (m .number) (m .fate) ≡ filled instructionPlaces 0 (fatesBy (m ∷ ms))
   over-mark m ms d =
       let xs : List ℕ = filled instructionPlaces 0 (fatesBy ms) in
       let j : ℕ = m .number - 1 in
       elim (ℕ-discrete (m .number) 0) [
-        | yes z ↦ sym (over-none xs (length is) (m .number) (m .fate) z) ∙ sym (ap (filled instructionPlaces 0) (mark-other all m ms 1 is (λ i p q. omega arith)))
+        | yes z ↦ sym (over-none xs (length is) (m .number) (m .fate) z)
+            ∙ sym (ap (filled instructionPlaces 0) (mark-other all m ms 1 is (λ i p q. omega arith)))
         | no z ↦ elim (decLe (length is) j) [
-          | yes h ↦ sym (over-out xs (length is) (m .number) (m .fate) z h) ∙ sym (ap (filled instructionPlaces 0) (mark-other all m ms 1 is (λ i p q. omega arith)))
+          | yes h ↦ sym (over-out xs (length is) (m .number) (m .fate) z h)
+              ∙ sym (ap (filled instructionPlaces 0) (mark-other all m ms 1 is (λ i p q. omega arith)))
           | no h ↦
-              let here : getD xs j 0 ≡ getD (fatesBy ms) j 0 = filled-at 0 instructionPlaces (fatesBy ms) j 0 (omega (arith, many ms)) (omega arith) in
+              let here : getD xs j 0 ≡ getD (fatesBy ms) j 0 =
+              filled-at 0 instructionPlaces (fatesBy ms) j 0 (omega (arith, many ms)) (omega arith) in
               elim (ℕ-discrete (getD (fatesBy ms) j 0) 1) [
-                | yes e ↦ sym (over-one xs (length is) (m .number) (m .fate) z (omega arith) (here ∙ e)) ∙ sym (ap (filled instructionPlaces 0) (mark-one all m ms d 1 j is (omega arith) (omega arith) e))
+                | yes e ↦ sym (over-one xs (length is) (m .number) (m .fate) z (omega arith) (here ∙ e))
+                    ∙ sym (ap (filled instructionPlaces 0) (mark-one all m ms d 1 j is (omega arith) (omega arith) e))
                 | no e ↦
                     sym (over-set xs (length is) (m .number) (m .fate) z (omega arith) (λ q. e (sym here ∙ q)))
                     ∙ filled-set 0 instructionPlaces (fatesBy ms) j (m .fate) (omega (arith, many ms)) (omega arith)
@@ -226,18 +244,21 @@ module _ (all : List Numbered) (is : List Instruction) (few : length is ≤ inst
         ]
       ]
 
-  over-marks : (ns ms : List Mark) → NotOne ns → NotOne ms → overAll (filled instructionPlaces 0 (fatesBy ms)) (length is) ns ≡ filled instructionPlaces 0 (fatesBy (ns ++ ms))
+  over-marks : (ns ms : List Mark) → NotOne ns → NotOne ms →
+      overAll (filled instructionPlaces 0 (fatesBy ms)) (length is) ns ≡ filled instructionPlaces 0 (fatesBy (ns ++ ms))
   unfolding overAll
   over-marks [] ms p q = refl
   over-marks (n ∷ ns) ms p q =
-      ap (λ (xs : List ℕ). overFate xs (length is) (n .number) (n .fate)) (over-marks ns ms (p .1) q) ∙ over-mark n (ns ++ ms) (all-append ns ms (p .1) q)
+      ap (λ (xs : List ℕ). overFate xs (length is) (n .number) (n .fate)) (over-marks ns ms (p .1) q)
+      ∙ over-mark n (ns ++ ms) (all-append ns ms (p .1) q)
 
 -- ---- the marks of those that act
 abbrev noMark : Mark
 noMark = record { number = 0; fate = 0 }
 
 marks-are : (acts : List Numbered) (own : List ℕ) (i : ℕ) (ms : List Mark) →
-    ((j : ℕ) → j < length ms → (getD acts (i + j) noNumbered .number ≡ getD ms j noMark .number) × (getD own (i + j) 0 ≡ getD ms j noMark .fate)) → marksFrom acts own i (length ms) ≡ ms
+    ((j : ℕ) → j < length ms → (getD acts (i + j) noNumbered .number ≡ getD ms j noMark .number) ×
+    (getD own (i + j) 0 ≡ getD ms j noMark .fate)) → marksFrom acts own i (length ms) ≡ ms
 unfolding marksFrom
 marks-are acts own i [] h = refl
 marks-are acts own i (m ∷ ms) h =
@@ -286,7 +307,8 @@ module _ (u : UnitData) (now : UnderWay) (os : List Numbered) (few : length os �
       let e : 0 + j ≡ j = omega arith in
       let q : j < length (map fateIn own) = omega (arith, length-map own fateIn) in (
         ap (λ (k : ℕ). getD (filled instructionPlaces noNumbered os) k noNumbered .number) e
-            ∙ ap (λ (o : Numbered). o .number) (filled-at noNumbered instructionPlaces os j noNumbered (omega (arith, f .many)) (omega (arith, f .many))) ∙ sym (f .numbers j),
+            ∙ ap (λ (o : Numbered). o .number) (filled-at noNumbered instructionPlaces os j noNumbered (omega (arith, f .many))
+            (omega (arith, f .many))) ∙ sym (f .numbers j),
         ap (λ (k : ℕ). getD (filled instructionPlaces 0 (map fateIn own)) k 0) e
             ∙ filled-at 0 instructionPlaces (map fateIn own) j 0 q (omega (arith, f .many)) ∙ List·getD-map fateIn own j noMark,
       ))
@@ -294,4 +316,5 @@ module _ (u : UnitData) (now : UnderWay) (os : List Numbered) (few : length os �
   pub fates-found : (end : ℕ) (is : List Instruction) → length is ≤ instructionPlaces →
       overAll (filled instructionPlaces 0 (fatesOf (numbered 1 is) (validated end (numbered 1 is) .marks) (numbered 1 is))) (length is) own
       ≡ filled instructionPlaces 0 (fatesOf (numbered 1 is) (own ++ validated end (numbered 1 is) .marks) (numbered 1 is))
-  fates-found end is h = over-marks (numbered 1 is) is h own (validated end (numbered 1 is) .marks) (follow-marks u now os .not-one) (marks-not end (numbered 1 is))
+  fates-found end is h =
+      over-marks (numbered 1 is) is h own (validated end (numbered 1 is) .marks) (follow-marks u now os .not-one) (marks-not end (numbered 1 is))

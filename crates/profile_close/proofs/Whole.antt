@@ -42,7 +42,8 @@ use Rattle.profile_close.specs.Laying.{overAll, overlaidAll, marksFrom}
 use Rattle.profile_close.proofs.Laying.{own-marks, fates-found}
 
 -- ---- those that act stand in order
-rising-ordered : (end a : ℕ) (os : List Numbered) → a ≤ end → All (λ (l : Numbered). a ≤ acting l) os → Rises os → All (λ (o : Numbered). acting o < end) os → Ordered end a os
+rising-ordered : (end a : ℕ) (os : List Numbered) → a ≤ end → All (λ (l : Numbered). a ≤ acting l) os → Rises os →
+    All (λ (o : Numbered). acting o < end) os → Ordered end a os
 rising-ordered end a [] le m r e = le
 rising-ordered end a (o ∷ os) le m r e = (m .0, rising-ordered end (acting o) os (omega (arith, e .0)) (all-less (acting o) os (r .0)) (r .1) (e .1))
   where
@@ -109,7 +110,8 @@ module _ (t : Taken) (n : ℕ) (places : length (t .instructions) ≡ instructio
   in-order : Ordered end (first .course .begin) (take (v .acting) (v .acts))
   in-order =
       let r = acting-rise end (numbered 1 (entered t)) in
-      subst (λ (a : ℕ). Ordered end a (take (v .acting) (v .acts))) (sym begins) (subst (Ordered end 0) (sym acts-are) (rising-ordered end 0 acts (omega arith) (all-from acts) (r .0) (r .1)))
+      subst (λ (a : ℕ). Ordered end a (take (v .acting) (v .acts))) (sym begins)
+      (subst (Ordered end 0) (sym acts-are) (rising-ordered end 0 acts (omega arith) (all-from acts) (r .0) (r .1)))
 
   starts-low : Words t → All LowStart (coursesFrom u first (take (v .acting) (v .acts)))
   unfolding grains coursesFrom
@@ -117,7 +119,8 @@ module _ (t : Taken) (n : ℕ) (places : length (t .instructions) ≡ instructio
       rw acts-are
       (all-map (Below 4294967296) LowStart (λ c b. omega (arith, b .start)) courses
       (courses-below u 4294967296 (omega (arith, w .capacity)) (omega (arith, w .maximum)) first acts
-      (start-below u 4294967296 (omega (arith, w .capacity)) (omega (arith, w .maximum)) (t .start) (omega (arith, w .level)) (omega (arith, w .target)) (omega (arith, w .ordered)))))
+      (start-below u 4294967296 (omega (arith, w .capacity)) (omega (arith, w .maximum)) (t .start) (omega (arith, w .level))
+      (omega (arith, w .target)) (omega (arith, w .ordered)))))
 
   pub acts-fit : n ≤ mostHalfHours → Words t → Followable u first (v .acts) (v .acting) n
   acts-fit long w = record { few = acting-few; long = long; ordered = in-order; starts = starts-low w }
@@ -125,7 +128,8 @@ module _ (t : Taken) (n : ℕ) (places : length (t .instructions) ≡ instructio
   abbrev settled : Fates
   settled = record { count = min (t .count) instructionPlaces; fates = v .fates }
 
-  fates-are : overAll (v .fates) (min (t .count) instructionPlaces) (marksFrom (v .acts) (filled instructionPlaces 0 (map fateIn (f .marks))) 0 (v .acting)) ≡ arraysOf (found paper n t) .fates
+  fates-are : overAll (v .fates) (min (t .count) instructionPlaces)
+      (marksFrom (v .acts) (filled instructionPlaces 0 (map fateIn (f .marks))) 0 (v .acting)) ≡ arraysOf (found paper n t) .fates
   unfolding validationOf outcomeOf arraysOf found foundBy entered
   fates-are =
       ap (overAll (v .fates) (min (t .count) instructionPlaces)) (own-marks u first acts few-acts)
@@ -136,7 +140,8 @@ module _ (t : Taken) (n : ℕ) (places : length (t .instructions) ≡ instructio
   unfolding found foundBy
   sums-are =
       let ss : List Span = spansOf u end courses in
-      sym (list-same (recordedTo ss) (twinTo ss) 0 (suc n) (λ j p. area-to n ss (day-tiles byRule end u (t .start) (numbered 1 (entered t))) j (omega arith)))
+      sym (list-same (recordedTo ss) (twinTo ss) 0 (suc n)
+      (λ j p. area-to n ss (day-tiles byRule end u (t .start) (numbered 1 (entered t))) j (omega arith)))
 
   -- what following comes to, with its fates laid over
   pub find-is : (r : Following) → FollowedBy u first (take (v .acting) (v .acts)) n r →
@@ -152,7 +157,9 @@ module _ (t : Taken) (n : ℕ) (places : length (t .instructions) ≡ instructio
   find-is r by =
       let walk : r .walk ≡ walkAll u first acts = by .walk ∙ ap (walkAll u first) acts-are in
       λ i. record {
-        fates = (ap (λ (x : Walk). overAll (v .fates) (min (t .count) instructionPlaces) (marksFrom (v .acts) (x .fates) 0 (v .acting))) walk ∙ fates-are) i;
+        fates =
+            (ap (λ (x : Walk). overAll (v .fates) (min (t .count) instructionPlaces) (marksFrom (v .acts) (x .fates) 0 (v .acting))) walk ∙ fates-are)
+            i;
         started = (ap (λ (x : Walk). x .started) walk ∙ sym (length-map (f .courses) courseOf)) i;
         courses = (ap (λ (x : Walk). x .courses) walk) i;
         sums = (

@@ -82,7 +82,8 @@ module _ (u : UnitData) where
   unfolding coursesFrom coursesAfter
   from-head now os = headed-by 0 now os .head
 
-  pub end-new : (end : ℕ) (now : UnderWay) (o : Numbered) (os : List Numbered) (g : Setting) → comesTo byRule u now o ≡ Sets g → endOf u end now (o ∷ os) ≡ acting o
+  pub end-new : (end : ℕ) (now : UnderWay) (o : Numbered) (os : List Numbered) (g : Setting) → comesTo byRule u now o ≡ Sets g →
+      endOf u end now (o ∷ os) ≡ acting o
   unfolding beginOf
   end-new end now o os g e = ap (beginOf end) (after-new now o os g e ∙ from-head (newCourse byRule u now o g) os) ∙ begins-there now o g
 
@@ -112,32 +113,45 @@ module _ (u : UnitData) (c : Course) where
   up = ltb (c .start .grains) (grains (c .target))
 
   -- of a course from its beginning to the second n
-  course-area : (n : ℕ) → twiceArea (piecesIn (trajectoryOf u c) 0 (n - c .begin)) ≡ twiceTo (headed up) (listsBy (ownLists u c up) c) (grains (c .target)) n (beginning c (c .begin))
+  course-area : (n : ℕ) →
+      twiceArea (piecesIn (trajectoryOf u c) 0 (n - c .begin)) ≡ twiceTo (headed up) (listsBy (ownLists u c up) c) (grains (c .target)) n
+      (beginning c (c .begin))
   unfolding beginning
   course-area n =
       let a : ℕ = c .begin in
       pieces-area (trajectoryOf u c) (n - a)
       ∙ ap (λ (k : ℕ). area (levelAt (trajectoryOf u c)) k (n - a)) {x = 0} {y = a - a} (omega arith)
       ∙ sym (twice-is u c up refl a a n)
-      ∙ ap (twiceTo (headed up) (listsIn u c) (grains (c .target)) n) (standing-here (headed up) (listsIn u c) (grains (c .target)) a (beginning c a) (begins a))
+      ∙ ap (twiceTo (headed up) (listsIn u c) (grains (c .target)) n)
+      (standing-here (headed up) (listsIn u c) (grains (c .target)) a (beginning c a) (begins a))
       ∙ sym (own-twice u c up (ownLists u c up) refl (grains (c .target)) n (beginning c a))
     where
       begins : (a : ℕ) → a ≡ beginning c a .second
       begins a = refl
 
-module _ (u : UnitData) (now : UnderWay) (l : OwnLists) (up : Bool) (total : ℕ) (rises : up ≡ ltb (now .course .start .grains) (grains (now .course .target))) (own : l ≡ ownLists u (now .course) up) where
-  pub set-out-sum : (end : ℕ) (os : List Numbered) (j : ℕ) → piecesTo (spansOf u end (coursesFrom u now os)) (halfHour * j) ≡ sumAfter u end now l (setOut now l up total) os j
+module _ (u : UnitData) (now : UnderWay) (l : OwnLists) (up : Bool) (total : ℕ)
+    (rises : up ≡ ltb (now .course .start .grains) (grains (now .course .target))) (own : l ≡ ownLists u (now .course) up) where
+  pub set-out-sum : (end : ℕ) (os : List Numbered) (j : ℕ) →
+      piecesTo (spansOf u end (coursesFrom u now os)) (halfHour * j) ≡ sumAfter u end now l (setOut now l up total) os j
   unfolding sumAfter setOut reachedAt spansOf piecesTo
   set-out-sum end os j =
       let n : ℕ = min (endOf u end now os) (halfHour * j) in
       ap (λ (cs : List Course). piecesTo (spansOf u end cs) (halfHour * j)) (from-head u now os)
       ∙ ap (λ (k : ℕ). k + piecesTo (spansOf u end (coursesAfter u now os)) (halfHour * j)) (course-area u (now .course) n
-      ∙ ap (λ (b : Bool). twiceTo (headed b) (listsBy (ownLists u (now .course) b) (now .course)) (grains (now .course .target)) n (beginning (now .course) (now .course .begin))) (sym rises)
-      ∙ ap (λ (x : OwnLists). twiceTo (headed up) (listsBy x (now .course)) (grains (now .course .target)) n (beginning (now .course) (now .course .begin))) (sym own))
+      ∙ ap (λ (b : Bool). twiceTo (headed b) (listsBy (ownLists u (now .course) b) (now .course)) (grains (now .course .target)) n
+      (beginning (now .course) (now .course .begin))) (sym rises)
+      ∙ ap (λ (x : OwnLists). twiceTo (headed up) (listsBy x (now .course)) (grains (now .course .target)) n
+      (beginning (now .course) (now .course .begin))) (sym own))
 
   -- a course set out on is where its rule says
   pub out-on : LowStart (now .course) → OnIt u now l (setOut now l up total)
   unfolding setOut reachedAt beginning
   out-on low =
       let w = watching-start u (now .course) (now .off) up rises in
-      record { lists = own; watching = w; known = known-at (headed up) (listsBy l (now .course)) (grains (now .course .target)) (beginning (now .course) (now .course .begin)) (w .short); low = low }
+      record {
+        lists = own;
+        watching = w;
+        known = known-at (headed up) (listsBy l (now .course)) (grains (now .course .target))
+            (beginning (now .course) (now .course .begin)) (w .short);
+        low = low;
+      }

@@ -42,6 +42,8 @@ module _ (halves : ℕ) (xs : List ℕ) (size : length xs ≡ boundaryPlaces) wh
         places-same 0 ys (filled boundaryPlaces 0 first) (c .size ∙ sym (filled-length 0 boundaryPlaces first))
         (λ j l. elim (decLe j halves) [
           | yes k ↦
-              c .kept j k ∙ sym (filled-at 0 boundaryPlaces first j 0 (omega (arith, many)) (omega (arith, c .size)) ∙ getD-take (suc halves) xs j 0 (omega arith))
-          | no k ↦ c .clear j (omega arith) (omega (arith, c .size)) ∙ sym (filled-past 0 boundaryPlaces first j (omega (arith, many)) (omega (arith, c .size)))
+              c .kept j k ∙ sym (filled-at 0 boundaryPlaces first j 0 (omega (arith, many)) (omega (arith, c .size))
+              ∙ getD-take (suc halves) xs j 0 (omega arith))
+          | no k ↦ c .clear j (omega arith) (omega (arith, c .size))
+              ∙ sym (filled-past 0 boundaryPlaces first j (omega (arith, many)) (omega (arith, c .size)))
         ])

@@ -52,21 +52,25 @@ use Rattle.profile_follow.proofs.After.{begins-there, from-head, after-
 
 -- the last piece of a course, up to the second n
 pub last-goes : (h : Bool) (l : OwnLists) (c : Course) (n : ℕ) (p q : Place) → Short (headed h) (grains (c .target)) (p .level) → q .second ≡ n →
-    (p .second < n → q ≡ onward (headed h) (listsBy l c) (grains (c .target)) n p) → p .second < q .second → Goes (headed h) (listsBy l c) (grains (c .target)) (q .second) p q
+    (p .second < n → q ≡ onward (headed h) (listsBy l c) (grains (c .target)) n p) → p .second < q .second → Goes (headed h) (listsBy l c)
+    (grains (c .target)) (q .second) p q
 last-goes h l c n p q sh there run lt =
     let e : q ≡ onward (headed h) (listsBy l c) (grains (c .target)) n p = run (omega arith) in
     subst (λ (k : ℕ). Goes (headed h) (listsBy l c) (grains (c .target)) k p q) (sym there)
-    (subst (Goes (headed h) (listsBy l c) (grains (c .target)) n p) (sym e) (onward-goes (headed h) (listsBy l c) (grains (c .target)) n p (omega arith) sh))
+    (subst (Goes (headed h) (listsBy l c) (grains (c .target)) n p) (sym e)
+    (onward-goes (headed h) (listsBy l c) (grains (c .target)) n p (omega arith) sh))
 
 -- those that act all told, and those that are left; the walk so far, the course under way with its lists, and the sums
-pub record Sofar (u : UnitData) (end : ℕ) (first : UnderWay) (all left : List Numbered) (w : Walk) (g : OnCourse) (l : OwnLists) (ys : List ℕ) : Type 0 where
+pub record Sofar (u : UnitData) (end : ℕ) (first : UnderWay) (all left : List Numbered) (w : Walk) (g : OnCourse) (l : OwnLists) (ys : List ℕ) : Type
+    0 where
   pub going : Going u w left (follow byRule u first all)
   pub few : w .started ≤ w .acted + 1
   pub on : OnIt u (w .now) l g
   pub ordered : Ordered end (g .reached .place .second) left
   pub starts : All LowStart (coursesFrom u (w .now) left)
   pub sums : (j : ℕ) → j ≤ mostHalfHours →
-      upTo (summed (g .reached .place .second) ys (g .total)) j + sumAfter u end (w .now) l g left j ≡ piecesTo (spansOf u end (coursesFrom u first all)) (halfHour * j)
+      upTo (summed (g .reached .place .second) ys (g .total)) j + sumAfter u end (w .now) l g left j ≡ piecesTo
+      (spansOf u end (coursesFrom u first all)) (halfHour * j)
   pub fits : Fits (summed (g .reached .place .second) ys (g .total))
 
 -- where the next of those that act does so, else the day's end
@@ -93,8 +97,10 @@ nothing s j = elim (decLe (halfHour * j) s) [
 ]
 
 module _ (u : UnitData) (end : ℕ) (first : UnderWay) (all : List Numbered) where
-  pub sofar-start : (w : Walk) (g : OnCourse) (l : OwnLists) (up : Bool) → w ≡ walkOf first (record { marks = []; courses = first ∷ [] }) → g ≡ setOut first l up 0 →
-      up ≡ ltb (first .course .start .grains) (grains (first .course .target)) → l ≡ ownLists u (first .course) up → Ordered end (first .course .begin) all → All LowStart (coursesFrom u first all) → Sofar u end first all all w g l (replicate boundaryPlaces 0)
+  pub sofar-start : (w : Walk) (g : OnCourse) (l : OwnLists) (up : Bool) → w ≡ walkOf first (record { marks = []; courses = first ∷ [] }) →
+      g ≡ setOut first l up 0 →
+      up ≡ ltb (first .course .start .grains) (grains (first .course .target)) → l ≡ ownLists u (first .course) up → Ordered end
+      (first .course .begin) all → All LowStart (coursesFrom u first all) → Sofar u end first all all w g l (replicate boundaryPlaces 0)
   unfolding walkOf setOut reachedAt beginning
   sofar-start w g l up a e r k ord low = rw (a, e) (record {
     going = going-start u first all;
@@ -114,27 +120,32 @@ module _ (u : UnitData) (end : ℕ) (first : UnderWay) (all : List Numbered) whe
     pub ends-later : secondOf end left ≤ endOf u end (w .now) left
     ends-later = end-after u end (w .now) left (secondOf end left) (ordered-next end (g .reached .place .second) left (f .ordered) .ordered)
 
-    pub sofar-pass : (s : Passed) (zs : List ℕ) → Passing l c (g .up) (g .reached .place) (g .off) (secondOf end left) (summed (g .reached .place .second) ys (g .total)) zs s →
+    pub sofar-pass : (s : Passed) (zs : List ℕ) →
+        Passing l c (g .up) (g .reached .place) (g .off) (secondOf end left) (summed (g .reached .place .second) ys (g .total)) zs s →
         Sofar u end first all left w (wentTo (g .up) s) l zs
     unfolding sumAfter
     sofar-pass s zs p = record {
       going = f .going;
       few = f .few;
       on = record { lists = f .on .lists; watching = p .watched u (w .now .off) (f .on .lists) (f .on .watching) .0; known = p .known; low = p .low };
-      ordered = ordered-less end (s .reached .place .second) (secondOf end left) left (p .within) (ordered-next end (g .reached .place .second) left (f .ordered) .ordered);
+      ordered =
+          ordered-less end (s .reached .place .second) (secondOf end left) left (p .within)
+          (ordered-next end (g .reached .place .second) left (f .ordered) .ordered);
       starts = f .starts;
       sums = λ j h.
           omega (
             arith,
             f .sums j h,
             p .adds j h,
-            twice-through (headed (g .up)) (listsBy l c) (grains (c .target)) (g .reached .place) (s .reached .place) (p .stands) (p .later) (endOf u end (w .now) left) (halfHour * j) (omega (arith, p .within, ends-later)),
+            twice-through (headed (g .up)) (listsBy l c) (grains (c .target)) (g .reached .place) (s .reached .place) (p .stands) (p .later)
+                (endOf u end (w .now) left) (halfHour * j) (omega (arith, p .within, ends-later)),
           );
       fits = p .fits;
     }
 
 -- ---- an instruction acts
-module _ (u : UnitData) (end : ℕ) (first : UnderWay) (all : List Numbered) (act : Numbered) (left : List Numbered) (w : Walk) (g : OnCourse) (l : OwnLists) (ys : List ℕ)
+module _ (u : UnitData) (end : ℕ) (first : UnderWay) (all : List Numbered) (act : Numbered) (left : List Numbered) (w : Walk) (g : OnCourse)
+    (l : OwnLists) (ys : List ℕ)
     (f : Sofar u end first all (act ∷ left) w g l ys) (room : w .acted < instructionPlaces) where
   abbrev whole : Following
   whole = follow byRule u first all
@@ -149,16 +160,20 @@ module _ (u : UnitData) (end : ℕ) (first : UnderWay) (all : List Numbered) (ac
         few = omega (arith, f .few);
         on = f .on;
         ordered = ordered-less end (g .reached .place .second) (acting act) left (f .ordered .0) (f .ordered .1);
-        starts = subst (All LowStart) (from-head u (w .now) (act ∷ left) ∙ ap (λ (cs : List Course). w .now .course ∷ cs) same ∙ sym (from-head u (w .now) left)) (f .starts);
+        starts =
+            subst (All LowStart) (from-head u (w .now) (act ∷ left) ∙ ap (λ (cs : List Course). w .now .course ∷ cs) same
+            ∙ sym (from-head u (w .now) left)) (f .starts);
         sums = subst (λ (cs : List Course). (j : ℕ) → j ≤ mostHalfHours → upTo (summed (g .reached .place .second) ys (g .total)) j
-            + (twiceTo (headed (g .up)) (listsBy l (w .now .course)) (grains (w .now .course .target)) (min (beginOf end cs) (halfHour * j)) (g .reached .place) + piecesTo (spansOf u end cs) (halfHour * j))
+            + (twiceTo (headed (g .up)) (listsBy l (w .now .course)) (grains (w .now .course .target)) (min (beginOf end cs) (halfHour * j))
+            (g .reached .place) + piecesTo (spansOf u end cs) (halfHour * j))
             ≡ piecesTo (spansOf u end (coursesFrom u first all)) (halfHour * j)) same (f .sums);
         fits = f .fits;
       }
 
   -- with effect: it ends at the place q, and the next one begins
   module _ (set : Setting) (new : comesTo byRule u (w .now) act ≡ Sets set) (q : Place) (there : q .second ≡ acting act)
-      (run : g .reached .place .second < acting act → q ≡ onward (headed (g .up)) (listsBy l (w .now .course)) (grains (w .now .course .target)) (acting act) (g .reached .place)) where
+      (run : g .reached .place .second < acting act → q ≡ onward (headed (g .up)) (listsBy l (w .now .course)) (grains (w .now .course .target))
+      (acting act) (g .reached .place)) where
     abbrev then : UnderWay
     then = newCourse byRule u (w .now) act set
 
@@ -171,21 +186,26 @@ module _ (u : UnitData) (end : ℕ) (first : UnderWay) (all : List Numbered) (ac
     abbrev t : ℕ
     t = grains (w .now .course .target)
 
-    by-end : (j : ℕ) → sumAfter u end (w .now) l g (act ∷ left) j ≡ twiceTo h ls t (min (q .second) (halfHour * j)) (g .reached .place) + piecesTo (spansOf u end (coursesFrom u then left)) (halfHour * j)
+    by-end : (j : ℕ) →
+        sumAfter u end (w .now) l g (act ∷ left) j ≡ twiceTo h ls t (min (q .second) (halfHour * j)) (g .reached .place) + piecesTo
+        (spansOf u end (coursesFrom u then left)) (halfHour * j)
     unfolding sumAfter
     by-end j = λ k.
         twiceTo h ls t (min ((end-new u end (w .now) act left set new ∙ sym there) k) (halfHour * j)) (g .reached .place)
         + piecesTo (spansOf u end (after-new u (w .now) act left set new k)) (halfHour * j)
 
     later-starts : All LowStart (coursesFrom u then left)
-    later-starts = (subst (All LowStart) (from-head u (w .now) (act ∷ left) ∙ ap (λ (cs : List Course). w .now .course ∷ cs) (after-new u (w .now) act left set new)) (f .starts)) .1
+    later-starts =
+        (subst (All LowStart) (from-head u (w .now) (act ∷ left)
+        ∙ ap (λ (cs : List Course). w .now .course ∷ cs) (after-new u (w .now) act left set new)) (f .starts)) .1
 
     begins-here : then .course .begin ≡ q .second
     begins-here = begins-there u (w .now) act set ∙ sym there
 
     pub sofar-new : (zs : List ℕ) (total : ℕ) (d : UnderWay) (g′ : OnCourse) (l′ : OwnLists) (up : Bool) → d ≡ then → g′ ≡ setOut then l′ up total →
         up ≡ ltb (then .course .start .grains) (grains (then .course .target)) → l′ ≡ ownLists u (then .course) up →
-        Adds (pieceFrom h (g .reached .place) q) (summed (g .reached .place .second) ys (g .total)) (summed (q .second) zs total) → Fits (summed (q .second) zs total) →
+        Adds (pieceFrom h (g .reached .place) q) (summed (g .reached .place .second) ys (g .total)) (summed (q .second) zs total) → Fits
+        (summed (q .second) zs total) →
         Sofar u end first all left (replacedBy w d) g′ l′ zs
     unfolding setOut reachedAt beginning replacedBy
     sofar-new zs total d g′ l′ up is out-is rises lists-are added fits = rw (is, out-is) (record {
@@ -199,9 +219,11 @@ module _ (u : UnitData) (end : ℕ) (first : UnderWay) (all : List Numbered) (ac
             arith,
             f .sums j k,
             by-end j,
-            subst (λ (i : ℕ). upTo (summed i zs total) j ≡ upTo (summed (g .reached .place .second) ys (g .total)) j + twiceTo h ls t (min (q .second) (halfHour * j)) (g .reached .place)) (sym begins-here)
+            subst (λ (i : ℕ). upTo (summed i zs total) j ≡ upTo (summed (g .reached .place .second) ys (g .total)) j + twiceTo h ls t
+                (min (q .second) (halfHour * j)) (g .reached .place)) (sym begins-here)
                 (piece-on h ls t (q .second) (g .reached .place) q (summed (g .reached .place .second) ys (g .total)) (summed (q .second) zs total)
-                (last-goes (g .up) l (w .now .course) (acting act) (g .reached .place) q (f .on .watching .short) there run) (omega (arith, f .ordered .0, there)) refl added j k),
+                (last-goes (g .up) l (w .now .course) (acting act) (g .reached .place) q (f .on .watching .short) there run)
+                (omega (arith, f .ordered .0, there)) refl added j k),
             set-out-sum u then l′ up total rises lists-are end left j,
           );
       fits = subst (λ (k : ℕ). Fits (summed k zs total)) (sym begins-here) fits;
@@ -209,9 +231,11 @@ module _ (u : UnitData) (end : ℕ) (first : UnderWay) (all : List Numbered) (ac
 
 -- ---- the day's end
 
-module _ (u : UnitData) (halves : ℕ) (long : halves ≤ mostHalfHours) (first : UnderWay) (all left : List Numbered) (none : left ≡ []) (w : Walk) (g : OnCourse) (l : OwnLists) (ys : List ℕ)
+module _ (u : UnitData) (halves : ℕ) (long : halves ≤ mostHalfHours) (first : UnderWay) (all left : List Numbered) (none : left ≡ []) (w : Walk)
+    (g : OnCourse) (l : OwnLists) (ys : List ℕ)
     (f : Sofar u (halfHour * halves) first all left w g l ys) (q : Place) (there : q .second ≡ halfHour * halves)
-    (run : g .reached .place .second < halfHour * halves → q ≡ onward (headed (g .up)) (listsBy l (w .now .course)) (grains (w .now .course .target)) (halfHour * halves) (g .reached .place)) where
+    (run : g .reached .place .second < halfHour * halves → q ≡ onward (headed (g .up)) (listsBy l (w .now .course)) (grains (w .now .course .target))
+    (halfHour * halves) (g .reached .place)) where
   abbrev end : ℕ
   end = halfHour * halves
 
@@ -221,14 +245,18 @@ module _ (u : UnitData) (halves : ℕ) (long : halves ≤ mostHalfHours) (first 
   v : Sofar u end first all [] w g l ys
   v = subst (λ (os : List Numbered). Sofar u end first all os w g l ys) none f
 
-  sum-last : (j : ℕ) → sumAfter u end (w .now) l g [] j ≡ twiceTo (headed (g .up)) (listsBy l (w .now .course)) (grains (w .now .course .target)) (min (q .second) (halfHour * j)) (g .reached .place)
+  sum-last : (j : ℕ) →
+      sumAfter u end (w .now) l g [] j ≡ twiceTo (headed (g .up)) (listsBy l (w .now .course)) (grains (w .now .course .target))
+      (min (q .second) (halfHour * j)) (g .reached .place)
   unfolding sumAfter spansOf piecesTo
   sum-last j =
-      (λ k. twiceTo (headed (g .up)) (listsBy l (w .now .course)) (grains (w .now .course .target)) (min ((end-none u end (w .now) ∙ sym there) k) (halfHour * j)) (g .reached .place)
+      (λ k. twiceTo (headed (g .up)) (listsBy l (w .now .course)) (grains (w .now .course .target))
+      (min ((end-none u end (w .now) ∙ sym there) k) (halfHour * j)) (g .reached .place)
       + piecesTo (spansOf u end (after-none u (w .now) k)) (halfHour * j))
       ∙ omega arith
 
-  module _ (zs : List ℕ) (total : ℕ) (added : Adds (pieceFrom (headed (g .up)) (g .reached .place) q) (summed (g .reached .place .second) ys (g .total)) (summed (q .second) zs total))
+  module _ (zs : List ℕ) (total : ℕ) (added : Adds (pieceFrom (headed (g .up)) (g .reached .place) q)
+      (summed (g .reached .place .second) ys (g .total)) (summed (q .second) zs total))
       (fits : Fits (summed (q .second) zs total)) where
     -- what is noted at a boundary of the day
     noted : (j : ℕ) → j ≤ halves → getD zs j 0 ≡ twinTo ss j
@@ -239,8 +267,10 @@ module _ (u : UnitData) (halves : ℕ) (long : halves ≤ mostHalfHours) (first 
           v .sums j (omega arith),
           sum-last j,
           upto-noted (summed (q .second) zs total) j (omega (arith, there)),
-          piece-on (headed (g .up)) (listsBy l (w .now .course)) (grains (w .now .course .target)) (q .second) (g .reached .place) q (summed (g .reached .place .second) ys (g .total)) (summed (q .second) zs total)
-              (last-goes (g .up) l (w .now .course) end (g .reached .place) q (v .on .watching .short) there run) (omega (arith, v .ordered, there)) refl added j (omega arith),
+          piece-on (headed (g .up)) (listsBy l (w .now .course)) (grains (w .now .course .target)) (q .second) (g .reached .place) q
+              (summed (g .reached .place .second) ys (g .total)) (summed (q .second) zs total)
+              (last-goes (g .up) l (w .now .course) end (g .reached .place) q (v .on .watching .short) there run) (omega (arith, v .ordered, there))
+              refl added j (omega arith),
         )
 
     all-noted : take (suc halves) zs ≡ listFrom (twinTo ss) 0 (suc halves)

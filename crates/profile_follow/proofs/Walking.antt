@@ -57,8 +57,10 @@ module _ (u : UnitData) where
   unfolding walkOf
   going-start now os = record { us = []; ms = []; courses = refl; marks = refl; holds = refl }
 
-  module _ (w : Walk) (o : Numbered) (us : List UnderWay) (ms : List Mark) (e : w ≡ walkOf (w .now) (record { marks = ms; courses = us ++ (w .now ∷ []) })) where
-    fated : (fate : ℕ) → w .acted < instructionPlaces → set (w .fates) (w .acted) fate ≡ filled instructionPlaces 0 (map fateIn (ms ++ (mark fate o ∷ [])))
+  module _ (w : Walk) (o : Numbered) (us : List UnderWay) (ms : List Mark)
+      (e : w ≡ walkOf (w .now) (record { marks = ms; courses = us ++ (w .now ∷ []) })) where
+    fated : (fate : ℕ) → w .acted < instructionPlaces →
+        set (w .fates) (w .acted) fate ≡ filled instructionPlaces 0 (map fateIn (ms ++ (mark fate o ∷ [])))
     unfolding walkOf
     fated fate h =
         ap (λ (x : Walk). set (x .fates) (x .acted) fate) e
@@ -106,7 +108,8 @@ module _ (u : UnitData) where
           holds = held-on w o (g .us) (g .ms) (g .holds) h;
         }
 
-    pub going-new : (set : Setting) → w .started < coursePlaces → comesTo byRule u (w .now) o ≡ Sets set → Going (replacedBy w (newCourse byRule u (w .now) o set)) os whole
+    pub going-new : (set : Setting) → w .started < coursePlaces → comesTo byRule u (w .now) o ≡ Sets set →
+        Going (replacedBy w (newCourse byRule u (w .now) o set)) os whole
     unfolding replaces replacedBy
     going-new set k e =
         let next : UnderWay = newCourse byRule u (w .now) o set in
@@ -114,7 +117,8 @@ module _ (u : UnitData) where
         record {
           us = g .us ++ (w .now ∷ []);
           ms = g .ms ++ (mark 0 o ∷ []);
-          courses = append-one (g .us) (w .now) (follow byRule u next os .courses) ∙ ap (λ (f : Followed). g .us ++ f .courses) (sym step) ∙ g .courses;
+          courses =
+              append-one (g .us) (w .now) (follow byRule u next os .courses) ∙ ap (λ (f : Followed). g .us ++ f .courses) (sym step) ∙ g .courses;
           marks = append-one (g .ms) (mark 0 o) (follow byRule u next os .marks) ∙ ap (λ (f : Followed). g .ms ++ f .marks) (sym step) ∙ g .marks;
           holds = changed w o (g .us) (g .ms) (g .holds) next h k;
         }

@@ -33,7 +33,12 @@ use Rattle.profile_follow.specs.Walk.{walkAll}
 unfoldable pub setOut : UnderWay → OwnLists → Bool → ℕ → OnCourse
 setOut now l up total =
     let c : Course = now .course in
-    record { up = up; reached = reachedAt (headed up) (listsBy l c) (grains (c .target)) (beginning c (c .begin)); off = offStarting c (now .off); total = total }
+    record {
+      up = up;
+      reached = reachedAt (headed up) (listsBy l c) (grains (c .target)) (beginning c (c .begin));
+      off = offStarting c (now .off);
+      total = total;
+    }
 
 -- the same course further on
 abbrev pub wentTo : Bool → Passed → OnCourse

@@ -31,7 +31,8 @@ module _ (most : ℕ) (sums : List ℕ) (e i : ℕ) where
   unfolding rounded
   above-here h k = above-one h ∙ simp (lt-ltb most (quantityAt sums i) (omega (arith, quantity-is sums i)))
 
-  pub above-next : i < e → getD sums (i + 1) 0 - getD sums i 0 < most * 216000 + 108000 → someAbove most sums i (e - i) ≡ someAbove most sums (i + 1) (e - (i + 1))
+  pub above-next : i < e → getD sums (i + 1) 0 - getD sums i 0 < most * 216000 + 108000 →
+      someAbove most sums i (e - i) ≡ someAbove most sums (i + 1) (e - (i + 1))
   unfolding rounded
   above-next h k = above-one h ∙ simp (le-ltb most (quantityAt sums i) (omega (arith, quantity-is sums i)))
 

@@ -37,7 +37,8 @@ abbrev none : List ℕ
 none = 0 ∷ 0 ∷ 0 ∷ 0 ∷ []
 
 abbrev answered : List ℕ → List ℕ → ℕ → List ℕ → List ℕ → List ℕ → ℕ
-answered effective issue code level up down = numberOf (instructionAnswer mostSeconds (effective ++ (issue ++ ((code ∷ []) ++ (level ++ (up ++ down))))))
+answered effective issue code level up down =
+    numberOf (instructionAnswer mostSeconds (effective ++ (issue ++ ((code ∷ []) ++ (level ++ (up ++ down))))))
 
 -- effective at 86,399 and at 86,400
 effective-times :
@@ -68,7 +69,8 @@ mwof-figures = refl
 -- a level of 1, an up rate of 1, a down rate of 1: by the codes in order, only MWOF may carry them
 others-figures :
     map (λ (n : ℕ). answered none none n (0 ∷ 0 ∷ 0 ∷ 1 ∷ []) none none) codes ++
-    (map (λ (n : ℕ). answered none none n none (0 ∷ 0 ∷ 0 ∷ 1 ∷ []) none) codes ++ map (λ (n : ℕ). answered none none n none none (0 ∷ 0 ∷ 0 ∷ 1 ∷ [])) codes)
+    (map (λ (n : ℕ). answered none none n none (0 ∷ 0 ∷ 0 ∷ 1 ∷ []) none) codes ++ map
+    (λ (n : ℕ). answered none none n none none (0 ∷ 0 ∷ 0 ∷ 1 ∷ [])) codes)
     ≡ 9 ∷ 0 ∷ 9 ∷ 9 ∷ 9 ∷ 9 ∷ 9 ∷ 9 ∷ 0 ∷ 9 ∷ 9 ∷ 9 ∷ 9 ∷ 9 ∷ 9 ∷ 0 ∷ 9 ∷ 9 ∷ 9 ∷ 9 ∷ 9 ∷ []
 unfolding instructionAnswer instructionOf meaningOf issueOf figuresFit
 others-figures = refl
@@ -111,7 +113,8 @@ abbrev changed : ℕ → ℕ → ℕ
 changed i v = numberOf (unitAnswer (set listed i v))
 
 unit-as-listed : numberOf (unitAnswer listed) ≡ 0
-unfolding unitAnswer unitOf columnOf triggerOf disagrees some falls fallsBelow fitFrom inRange unitRanges columnRanges rampRanges aLevel aMaximum aRate aHold aBoundary
+unfolding unitAnswer unitOf columnOf triggerOf disagrees some falls fallsBelow fitFrom inRange unitRanges columnRanges rampRanges aLevel aMaximum
+    aRate aHold aBoundary
 unit-as-listed = refl
 
 -- MSG 0; hot boundary 100,001, warm 100,000; hot block load 2,000,001; rate 0, 200,001, 200,000, 0; soak and dwell minutes 1,441 and 1,440
@@ -120,7 +123,8 @@ unit-ranges :
     ∷ changed 6 0 ∷ changed 6 200001 ∷ changed 6 200000 ∷ changed 60 0
     ∷ changed 13 1441 ∷ changed 13 1440 ∷ changed 49 1441 ∷ changed 49 1440 ∷ []
     ≡ 3 ∷ 3 ∷ 0 ∷ 3 ∷ 3 ∷ 3 ∷ 0 ∷ 3 ∷ 3 ∷ 0 ∷ 3 ∷ 0 ∷ []
-unfolding unitAnswer unitOf columnOf triggerOf disagrees some falls fallsBelow fitFrom inRange unitRanges columnRanges rampRanges aLevel aMaximum aRate aHold aBoundary
+unfolding unitAnswer unitOf columnOf triggerOf disagrees some falls fallsBelow fitFrom inRange unitRanges columnRanges rampRanges aLevel aMaximum
+    aRate aHold aBoundary
 unit-ranges = refl
 
 -- maximum below capacity; MSG above capacity, and at it; hot and cold block load above MSG, and at it; hot boundary above warm;
@@ -130,5 +134,6 @@ unit-figures :
     ∷ changed 5 100001 ∷ changed 25 100001 ∷ changed 25 100000 ∷ changed 3 1
     ∷ changed 19 1 ∷ changed 43 399999 ∷ changed 55 1 ∷ changed 11 1 ∷ changed 44 1 ∷ []
     ≡ 4 ∷ 4 ∷ 0 ∷ 4 ∷ 4 ∷ 0 ∷ 4 ∷ 4 ∷ 4 ∷ 4 ∷ 0 ∷ 0 ∷ []
-unfolding unitAnswer unitOf columnOf triggerOf disagrees some falls fallsBelow fitFrom inRange unitRanges columnRanges rampRanges aLevel aMaximum aRate aHold aBoundary
+unfolding unitAnswer unitOf columnOf triggerOf disagrees some falls fallsBelow fitFrom inRange unitRanges columnRanges rampRanges aLevel aMaximum
+    aRate aHold aBoundary
 unit-figures = refl

@@ -40,7 +40,9 @@ module _ (rs : List Range) (ns : List ℕ) (i : ℕ) (h : i < length rs) where
   range-at = rw (low-at, high-at) refl
 
   -- one number more is looked at
-  pub fit-more : (b : Bool) → (b && (leb (getD (lowsOf rs) i 0) (getD ns i 0) && leb (getD ns i 0) (getD (highsOf rs) i 0))) && fitFrom (drop (i + 1) rs) ns (i + 1) ≡ b && fitFrom (drop i rs) ns i
+  pub fit-more : (b : Bool) →
+      (b && (leb (getD (lowsOf rs) i 0) (getD ns i 0) && leb (getD ns i 0) (getD (highsOf rs) i 0))) && fitFrom (drop (i + 1) rs) ns (i + 1) ≡ b &&
+      fitFrom (drop i rs) ns i
   fit-more true = sym (fit-step _ range-at)
   fit-more false = refl
 
@@ -67,7 +69,8 @@ or-false : (b : Bool) → b || false ≡ b
 or-false true = refl
 or-false false = refl
 
-pub some-three : {A : Type 0} (f : A → Bool) (xs : List A) (z : A) → length xs ≡ 3 → f (getD xs 0 z) || (f (getD xs 1 z) || f (getD xs 2 z)) ≡ some f xs
+pub some-three : {A : Type 0} (f : A → Bool) (xs : List A) (z : A) → length xs ≡ 3 →
+    f (getD xs 0 z) || (f (getD xs 1 z) || f (getD xs 2 z)) ≡ some f xs
 unfolding some
 some-three f [] z e = absurd (omega arith)
 some-three f (x ∷ []) z e = absurd (omega arith)

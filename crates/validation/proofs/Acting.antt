@@ -26,7 +26,8 @@ acts : (end : ℕ) (o : Numbered) (later : List Numbered) → eqb (lateFate end 
 unfolding lateFate
 acts end o later = go (overtaken o later) (leb end (acting o)) refl refl
   where
-    go : (a b : Bool) → overtaken o later ≡ a → leb end (acting o) ≡ b → eqb (pick a 6 (pick b 8 0)) 0 ≡ true → (overtaken o later ≡ false) × (acting o < end)
+    go : (a b : Bool) → overtaken o later ≡ a → leb end (acting o) ≡ b → eqb (pick a 6 (pick b 8 0)) 0 ≡ true →
+        (overtaken o later ≡ false) × (acting o < end)
     go true b p q e = absurd (true≢false (sym e))
     go false true p q e = absurd (true≢false (sym e))
     go false false p q e = (p, nleb→lt end (acting o) (rw q tt))

@@ -34,7 +34,8 @@ worked =
     ∷ fates (order 86279 0 Mwof 1 ∷ [])
     ∷ fates (order 86280 0 Mwof 1 ∷ [])
     ∷ fates (order 50 0 Mwof 7 ∷ order 50 1 Mwof 3 ∷ order 50 1 Mwof 5 ∷ order 50 1 Desy 0 ∷ order 50 1 Sync 0 ∷ order 50 1 Mwof 5 ∷ [])  -- SYNC(5)
-    ∷ acts (validated mostSeconds (numbered 1 (order 50 0 Mwof 7 ∷ order 50 1 Mwof 3 ∷ order 50 1 Mwof 5 ∷ order 50 1 Desy 0 ∷ order 50 1 Sync 0 ∷ order 50 1 Mwof 5 ∷ [])) .acts)
+    ∷ acts (validated mostSeconds (numbered 1 (order 50 0 Mwof 7 ∷ order 50 1 Mwof 3 ∷ order 50 1 Mwof 5 ∷ order 50 1 Desy 0 ∷ order 50 1 Sync 0 ∷
+    order 50 1 Mwof 5 ∷ [])) .acts)
     ∷ fates (order 10 0 Desy 0 ∷ order 20 0 Sync 0 ∷ order 30 0 Fail 0 ∷ order 40 0 Desy 0 ∷ [])  -- against the last kept one
     ∷ fates (order 100 0 Desy 0 ∷ order 200 0 Sync 0 ∷ [])  -- overtaken, whatever becomes of the later one
     ∷ fates (order 50 0 Mwof 7 ∷ order 50 0 Mxon 0 ∷ order 50 0 Sync 0 ∷ [])  -- rank first, then merge
@@ -45,5 +46,7 @@ worked =
 worked-are : worked ≡
     (4 ∷ 4 ∷ 5 ∷ []) ∷ (0 ∷ 0 ∷ 5 ∷ []) ∷ (0 ∷ 3 ∷ 5 ∷ []) ∷ (6 ∷ 0 ∷ []) ∷ (0 ∷ 0 ∷ []) ∷ (0 ∷ 0 ∷ []) ∷ (0 ∷ []) ∷ (8 ∷ [])
     ∷ (1 ∷ 2 ∷ 2 ∷ 2 ∷ 0 ∷ 2 ∷ []) ∷ (5 ∷ 50 ∷ 5 ∷ []) ∷ (0 ∷ 4 ∷ 5 ∷ 3 ∷ []) ∷ (6 ∷ 0 ∷ []) ∷ (2 ∷ 2 ∷ 0 ∷ []) ∷ (0 ∷ 2 ∷ []) ∷ (2 ∷ 0 ∷ []) ∷ []
-unfolding order fates acts worked those some numbered superseded group goesBefore highest present carrying merged usedOf nextTime usedFrom used repeats syncWithinHour fromSync beforeSync failed checkOne check acting overtaken lateFate actors lateMarks turned keptOf validated fateAmong fatesOf meaningOf
+unfolding order fates acts worked those some numbered superseded group goesBefore highest present carrying merged usedOf nextTime usedFrom used
+    repeats syncWithinHour fromSync beforeSync failed checkOne check acting overtaken lateFate actors lateMarks turned keptOf validated fateAmong
+    fatesOf meaningOf
 worked-are = refl

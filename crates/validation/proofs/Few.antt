@@ -42,7 +42,10 @@ merged-one g o = go (same (effectOf o) Mwof)
     carrier = orElse (present Sync g) (present Desy g)
 
     go : (b : Bool) → length (pick b (orElse (map (carrying o) carrier) (o ∷ [])) (o ∷ [])) ≤ 1
-    go true = or-else (map (carrying o) carrier) (o ∷ []) (omega (arith, map-length (carrying o) carrier, or-else (present Sync g) (present Desy g) (present-one Sync g) (present-one Desy g))) (omega arith)
+    go true =
+        or-else (map (carrying o) carrier) (o ∷ []) (omega
+        (arith, map-length (carrying o) carrier, or-else (present Sync g) (present Desy g) (present-one Sync g) (present-one Desy g)))
+        (omega arith)
     go false = omega arith
 
 used-one : (g : List Numbered) → length (usedOf g) ≤ 1
@@ -56,7 +59,8 @@ used-few end os zero t = omega arith
 used-few end os (suc n) t = go (ltb (nextTime end os t) end) (used-few end os n (suc (nextTime end os t)))
   where
     go : (b : Bool) → length (usedFrom end os n (suc (nextTime end os t))) ≤ n →
-        (let l : List Numbered = elim b [ true ↦ usedOf (group os (nextTime end os t)) ++ usedFrom end os n (suc (nextTime end os t)) | false ↦ [] ] in length l) ≤ suc n
+        (let l : List Numbered = elim b [ true ↦ usedOf (group os (nextTime end os t)) ++ usedFrom end os n (suc (nextTime end os t)) | false ↦ [] ]
+        in length l) ≤ suc n
     go true ih = simp length-append (omega (arith, used-one (group os (nextTime end os t))))
     go false ih = omega arith
 

@@ -1,4 +1,5 @@
--- Believed: document 01, Which instructions are kept (P.12, P.13). Steps 1 to 4. "Each instruction gets one fate; the first step that settles it counts."
+-- Believed: document 01, Which instructions are kept (P.12, P.13). Steps 1 to 4. "Each instruction gets one fate; the first step that settles it
+-- counts."
 use Prim.Native.Nat.{ℕ, zero, suc, _+_, min}
 use mathlib.Core.List.{List, [], _∷_, _++_, map}
 use mathlib.Core.Bool.{Bool, true, false, _&&_, _||_, not}

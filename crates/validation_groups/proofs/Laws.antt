@@ -30,11 +30,13 @@ use Rattle.validation_rank.specs.declared.Found.the-variants.{One, Nothing}
 
 -- ---- what is left of the first n places, from the place i on
 module _ {A : Type 0} (xs : List A) (n : ℕ) where
-  pub those-skip : (f : A → Bool) (i : ℕ) (d : A) → i < n → n ≤ length xs → f (getD xs i d) ≡ false → those f (drop i (take n xs)) ≡ those f (drop (i + 1) (take n xs))
+  pub those-skip : (f : A → Bool) (i : ℕ) (d : A) → i < n → n ≤ length xs → f (getD xs i d) ≡ false →
+      those f (drop i (take n xs)) ≡ those f (drop (i + 1) (take n xs))
   unfolding those
   those-skip f i d h k e = rw (left-cons xs n i d h k, e)
 
-  pub those-keep : (f : A → Bool) (i : ℕ) (d : A) → i < n → n ≤ length xs → f (getD xs i d) ≡ true → those f (drop i (take n xs)) ≡ getD xs i d ∷ those f (drop (i + 1) (take n xs))
+  pub those-keep : (f : A → Bool) (i : ℕ) (d : A) → i < n → n ≤ length xs → f (getD xs i d) ≡ true →
+      those f (drop i (take n xs)) ≡ getD xs i d ∷ those f (drop (i + 1) (take n xs))
   unfolding those
   those-keep f i d h k e = rw (left-cons xs n i d h k, e)
 
@@ -69,7 +71,8 @@ module _ {s : Sequence} {rest whole : List Numbered} where
       }
 
   -- stored in place
-  pub begun-store : (k : ℕ) (o : Numbered) → s .count ≡ k → k < instructionPlaces → Begun s (o ∷ rest) whole → Begun (record { items = set (s .items) k o; count = k + 1 }) rest whole
+  pub begun-store : (k : ℕ) (o : Numbered) → s .count ≡ k → k < instructionPlaces → Begun s (o ∷ rest) whole →
+      Begun (record { items = set (s .items) k o; count = k + 1 }) rest whole
   unfolding pushed
   begun-store k o e h b = rw e at (begun-push o (omega arith) b)
 
@@ -81,7 +84,8 @@ module _ {s : Sequence} {rest whole : List Numbered} where
 -- the list that a sequence holds
 pub held : {s : Sequence} {xs : List Numbered} → s ≡ sequenceOf xs → s .count ≤ instructionPlaces → take (s .count) (s .items) ≡ xs
 held {s} {xs} e h =
-    ap (λ (q : Sequence). take (q .count) (q .items)) e ∙ filled-listed noNumbered instructionPlaces xs (omega (arith, ap (λ (q : Sequence). q .count) e))
+    ap (λ (q : Sequence). take (q .count) (q .items)) e
+    ∙ filled-listed noNumbered instructionPlaces xs (omega (arith, ap (λ (q : Sequence). q .count) e))
 
 pub joined-count : (s : Sequence) (f : Found) → joined s f .count ≤ s .count + 1
 unfolding joined pushed
@@ -116,11 +120,14 @@ unfolding latestAt
 latest-none js t e = rw e
 
 module _ (ts : List ℕ) (n : ℕ) (fits : n ≤ length ts) where
-  pub next-more : (end t i : ℕ) → i < n → earlierOf (getD ts i 0) t (nextTimeAmong end (drop (i + 1) (take n ts)) t) ≡ nextTimeAmong end (drop i (take n ts)) t
+  pub next-more : (end t i : ℕ) → i < n →
+      earlierOf (getD ts i 0) t (nextTimeAmong end (drop (i + 1) (take n ts)) t) ≡ nextTimeAmong end (drop i (take n ts)) t
   unfolding nextTimeAmong
   next-more end t i h = rw (left-cons ts n i 0 h fits)
 
-  pub latest-more : (js : List ℕ) → n ≤ length js → (t i : ℕ) → i < n → laterOf (getD ts i 0) (getD js i 0) t (latestAt (drop (i + 1) (take n ts)) (drop (i + 1) (take n js)) t) ≡ latestAt (drop i (take n ts)) (drop i (take n js)) t
+  pub latest-more : (js : List ℕ) → n ≤ length js → (t i : ℕ) → i < n →
+      laterOf (getD ts i 0) (getD js i 0) t (latestAt (drop (i + 1) (take n ts)) (drop (i + 1) (take n js)) t) ≡ latestAt (drop i (take n ts))
+      (drop i (take n js)) t
   unfolding latestAt
   latest-more js room t i h = rw (left-cons ts n i 0 h fits, left-cons js n i 0 h room)
 
@@ -129,14 +136,20 @@ later-either : (e : Bool) (issue j best : ℕ) → ltb issue (pick e (max j best
 later-either false issue j best = refl
 later-either true issue j best = elim (decLe (suc issue) j) [
   | yes h ↦ rw (lt-ltb issue j h, lt-ltb issue (max j best) (omega arith))
-  | no h ↦ rw (le-ltb issue j (omega arith)) (elim (decLe (suc issue) best) [ yes k ↦ rw (lt-ltb issue best k, lt-ltb issue (max j best) (omega arith)) | no k ↦ rw (le-ltb issue best (omega arith), le-ltb issue (max j best) (omega arith)) ])
+  | no h ↦ rw (le-ltb issue j (omega arith)) (elim (decLe (suc issue) best) [
+    | yes k ↦ rw (lt-ltb issue best k, lt-ltb issue (max j best) (omega arith))
+    | no k ↦ rw
+        (le-ltb issue best (omega arith), le-ltb issue (max j best) (omega arith))
+  ])
 ]
 
-superseded-times : (os : List Numbered) (o : Numbered) → supersededAmong (map effectiveOf os) (map issueTimeOf os) (effectiveOf o) (issueTimeOf o) ≡ superseded os o
+superseded-times : (os : List Numbered) (o : Numbered) →
+    supersededAmong (map effectiveOf os) (map issueTimeOf os) (effectiveOf o) (issueTimeOf o) ≡ superseded os o
 unfolding superseded some latestAt laterOf
 superseded-times [] o = le-ltb (issueTimeOf o) 0 (omega arith)
 superseded-times (x ∷ os) o =
-    later-either (eqb (effectiveOf x) (effectiveOf o)) (issueTimeOf o) (issueTimeOf x) (latestAt (map effectiveOf os) (map issueTimeOf os) (effectiveOf o))
+    later-either (eqb (effectiveOf x) (effectiveOf o)) (issueTimeOf o) (issueTimeOf x)
+    (latestAt (map effectiveOf os) (map issueTimeOf os) (effectiveOf o))
     ∙ ap (λ (b : Bool). (eqb (effectiveOf x) (effectiveOf o) && ltb (issueTimeOf o) (issueTimeOf x)) || b) (superseded-times os o)
 
 next-times : (end : ℕ) (os : List Numbered) (t : ℕ) → nextTimeAmong end (map effectiveOf os) t ≡ nextTime end os t
@@ -160,13 +173,18 @@ map-at f (x ∷ xs) (suc i) = map-at f xs i
 pub time-fits : (f : Numbered → ℕ) (os : List Numbered) (ts : List ℕ) (n : ℕ) → take n ts ≡ map f (take n os) → n ≤ length os → n ≤ length ts
 time-fits f os ts n e h = omega (arith, length-take n ts, ap length e, map-length f (take n os), length-take-le n os h)
 
-pub time-at : (f : Numbered → ℕ) (os : List Numbered) (ts : List ℕ) (n i : ℕ) → take n ts ≡ map f (take n os) → i < n → getD ts i (f noNumbered) ≡ f (getD os i noNumbered)
+pub time-at : (f : Numbered → ℕ) (os : List Numbered) (ts : List ℕ) (n i : ℕ) → take n ts ≡ map f (take n os) → i < n →
+    getD ts i (f noNumbered) ≡ f (getD os i noNumbered)
 time-at f os ts n i e h =
-    sym (getD-take n ts i (f noNumbered) h) ∙ (ap (λ (l : List ℕ). getD l i (f noNumbered)) e ∙ (map-at f (take n os) i ∙ ap f (getD-take n os i noNumbered h)))
+    sym (getD-take n ts i (f noNumbered) h) ∙ (ap (λ (l : List ℕ). getD l i (f noNumbered)) e
+    ∙ (map-at f (take n os) i ∙ ap f (getD-take n os i noNumbered h)))
 
-pub superseded-at : {os : List Numbered} {ts js : List ℕ} → Timed os ts js → (i : ℕ) → supersededAmong ts js (getD ts i 0) (getD js i 0) ≡ superseded os (getD os i noNumbered)
+pub superseded-at : {os : List Numbered} {ts js : List ℕ} → Timed os ts js → (i : ℕ) →
+    supersededAmong ts js (getD ts i 0) (getD js i 0) ≡ superseded os (getD os i noNumbered)
 superseded-at {os} {ts} {js} timed i =
-    superseded-is timed (getD os i noNumbered) (getD ts i 0) (getD js i 0) (ap (λ (l : List ℕ). getD l i 0) (timed .effective) ∙ map-at effectiveOf os i) (ap (λ (l : List ℕ). getD l i 0) (timed .issued) ∙ map-at issueTimeOf os i)
+    superseded-is timed (getD os i noNumbered) (getD ts i 0) (getD js i 0)
+    (ap (λ (l : List ℕ). getD l i 0) (timed .effective) ∙ map-at effectiveOf os i)
+    (ap (λ (l : List ℕ). getD l i 0) (timed .issued) ∙ map-at issueTimeOf os i)
 
 -- left at the effective time t
 unfoldable pub inGroup : List Numbered → ℕ → Numbered → Bool
@@ -203,7 +221,8 @@ unfolding bestFrom highest
 best-more (One b) o rest = refl
 best-more Nothing o rest = refl
 
-present-more : (code : Effect) (f : Found) (o : Numbered) (rest : List Numbered) → orElse (orElse (foundList f) (present code (o ∷ []))) (present code rest) ≡ orElse (foundList f) (present code (o ∷ rest))
+present-more : (code : Effect) (f : Found) (o : Numbered) (rest : List Numbered) →
+    orElse (orElse (foundList f) (present code (o ∷ []))) (present code rest) ≡ orElse (foundList f) (present code (o ∷ rest))
 unfolding present those
 present-more code (One b) o rest = refl
 present-more code Nothing o rest = go (same (effectOf o) code)
@@ -215,8 +234,10 @@ present-more code Nothing o rest = go (same (effectOf o) code)
     go false = refl
 
 -- with o looked at
-pub walked-more : {best sync desy better s d : Found} {rest whole : List Numbered} (o : Numbered) → foundList better ≡ bestFrom (foundList best) (o ∷ []) →
-    foundList s ≡ orElse (foundList sync) (present Sync (o ∷ [])) → foundList d ≡ orElse (foundList desy) (present Desy (o ∷ [])) → Walked best sync desy (o ∷ rest) whole → Walked better s d rest whole
+pub walked-more : {best sync desy better s d : Found} {rest whole : List Numbered} (o : Numbered) →
+    foundList better ≡ bestFrom (foundList best) (o ∷ []) →
+    foundList s ≡ orElse (foundList sync) (present Sync (o ∷ [])) → foundList d ≡ orElse (foundList desy) (present Desy (o ∷ [])) → Walked best sync
+    desy (o ∷ rest) whole → Walked better s d rest whole
 walked-more {best} {sync} {desy} {better} {s} {d} {rest} o p q r w = record {
   highest-so = ap (λ (l : List Numbered). bestFrom l rest) p ∙ (best-more best o rest ∙ w .highest-so);
   sync-so = ap (λ (l : List Numbered). orElse l (present Sync rest)) q ∙ (present-more Sync sync o rest ∙ w .sync-so);
@@ -277,7 +298,8 @@ used-begins end os n h =
     ap (λ (k : ℕ). usedFrom end os k 0) e
 
 -- ---- the instructions as entered
-number-from : (k : ℕ) (is : List Instruction) (i : ℕ) → i < length is → getD (numbered k is) i noNumbered ≡ record { number = k + i; instruction = getD is i (noNumbered .instruction) }
+number-from : (k : ℕ) (is : List Instruction) (i : ℕ) → i < length is →
+    getD (numbered k is) i noNumbered ≡ record { number = k + i; instruction = getD is i (noNumbered .instruction) }
 unfolding numbered
 number-from k [] i h = absurd (omega arith)
 number-from k (x ∷ xs) zero h = let e : k ≡ k + 0 = omega arith in λ j. record { number = e j; instruction = x }
@@ -295,7 +317,8 @@ module _ (is : List Instruction) (n : ℕ) (fits : n ≤ length is) where
   pub number-here : (i : ℕ) → i < n → getD (numbered 1 (take n is)) i noNumbered ≡ numberedAt i (getD is i (noNumbered .instruction))
   number-here i h =
       let e : 1 + i ≡ i + 1 = omega arith in
-      number-from 1 (take n is) i (omega (arith, length-take-le n is fits)) ∙ (λ j. record { number = e j; instruction = getD-take n is i (noNumbered .instruction) h j })
+      number-from 1 (take n is) i (omega (arith, length-take-le n is fits))
+      ∙ (λ j. record { number = e j; instruction = getD-take n is i (noNumbered .instruction) h j })
 
   -- the times are theirs
   pub timed-all : {ts js : List ℕ} → Timed (numbered 1 (take n is)) ts js → Timed (take n (numbered 1 (take n is))) ts js

@@ -32,7 +32,8 @@ unfolding nextTime
 next-least end t m [] e h = e
 next-least end t m (o ∷ os) e h = go (decLe t (effectiveOf o)) (next-least end t m os e (λ j l. h (suc j) (omega arith)))
   where
-    go : Dec (t ≤ effectiveOf o) → m ≤ nextTime end os t → m ≤ pick (leb t (effectiveOf o)) (min (effectiveOf o) (nextTime end os t)) (nextTime end os t)
+    go : Dec (t ≤ effectiveOf o) → m ≤ nextTime end os t →
+        m ≤ pick (leb t (effectiveOf o)) (min (effectiveOf o) (nextTime end os t)) (nextTime end os t)
     go (yes p) ih = rw (le-leb t (effectiveOf o) p) (omega (arith, h 0 (omega arith) p))
     go (no p) ih = rw (lt-leb t (effectiveOf o) (omega arith)) ih
 
@@ -53,11 +54,13 @@ module _ {A : Type 0} (d : A) (f : A → Bool) where
   those-no [] h = refl
   those-no (x ∷ xs) h = rw (h 0 (omega arith)) (those-no xs (λ j l. h (suc j) (omega arith)))
 
-  those-one : (xs : List A) (i : ℕ) → i < length xs → f (getD xs i d) ≡ true → ((j : ℕ) → j < length xs → (j ≡ i → ⊥) → f (getD xs j d) ≡ false) → those f xs ≡ getD xs i d ∷ []
+  those-one : (xs : List A) (i : ℕ) → i < length xs → f (getD xs i d) ≡ true → ((j : ℕ) → j < length xs → (j ≡ i → ⊥) → f (getD xs j d) ≡ false) →
+      those f xs ≡ getD xs i d ∷ []
   unfolding those
   those-one [] i l e h = absurd (omega arith)
   those-one (x ∷ xs) zero l e h = rw e (ap (λ (ys : List A). x ∷ ys) (those-no xs (λ j k. h (suc j) (omega arith) (omega arith))))
-  those-one (x ∷ xs) (suc i) l e h = rw (h 0 (omega arith) (omega arith)) (those-one xs i (omega arith) e (λ j k n. h (suc j) (omega arith) (λ q. n (omega arith))))
+  those-one (x ∷ xs) (suc i) l e h =
+      rw (h 0 (omega arith) (omega arith)) (those-one xs i (omega arith) e (λ j k n. h (suc j) (omega arith) (λ q. n (omega arith))))
 
   some-no : (xs : List A) → ((j : ℕ) → j < length xs → f (getD xs j d) ≡ false) → some f xs ≡ false
   unfolding some
@@ -79,10 +82,16 @@ module _ (os : List Numbered) (i : ℕ) (h : i < length os) (alone : (j : ℕ) �
   unfolding superseded
   stays = some-no noNumbered (λ (x : Numbered). eqb (effectiveOf x) (timeAt os i) && ltb (issueTimeOf (getD os i noNumbered)) (issueTimeOf x)) os each
     where
-      each : (j : ℕ) → j < length os → (eqb (timeAt os j) (timeAt os i) && ltb (issueTimeOf (getD os i noNumbered)) (issueTimeOf (getD os j noNumbered))) ≡ false
+      each : (j : ℕ) → j < length os →
+          (eqb (timeAt os j) (timeAt os i) && ltb (issueTimeOf (getD os i noNumbered)) (issueTimeOf (getD os j noNumbered))) ≡ false
       each j l = elim (ℕ-discrete j i) [
         | no n ↦ rw (ne-eqb (timeAt os j) (timeAt os i) (alone j l n))
-        | yes e ↦ rw (e, eq-eqb (timeAt os i) (timeAt os i) refl, le-ltb (issueTimeOf (getD os i noNumbered)) (issueTimeOf (getD os i noNumbered)) (omega arith))
+        | yes e ↦ rw (
+          e,
+          eq-eqb (timeAt os i) (timeAt os i) refl,
+          le-ltb (issueTimeOf (getD os i noNumbered)) (issueTimeOf (getD os i noNumbered))
+              (omega arith),
+        )
       ]
 
   group-alone : group os (timeAt os i) ≡ getD os i noNumbered ∷ []
@@ -108,10 +117,19 @@ pub record Reached (end : ℕ) (os : List Numbered) (ts : List ℕ) (n i : ℕ) 
   pub after : (j : ℕ) → i ≤ j → j < n → time ≤ getD ts j 0
   pub begun : Begun out (usedFrom end os fuel time) (used end os)
 
-module _ (end : ℕ) (os : List Numbered) (ts : List ℕ) (n : ℕ) (long : length os ≡ n) (at : (j : ℕ) → j < n → getD ts j 0 ≡ timeAt os j) (rising : Rising ts n) where
+module _ (end : ℕ) (os : List Numbered) (ts : List ℕ) (n : ℕ) (long : length os ≡ n) (at : (j : ℕ) → j < n → getD ts j 0 ≡ timeAt os j)
+    (rising : Rising ts n) where
   pub reached-none : Reached end os ts n 0 (sequenceOf [])
   unfolding used
-  reached-none = record { time = 0; fuel = length os; enough = omega arith; before = λ j l. absurd (omega arith); after = λ j p l. omega arith; begun = begun-none (usedFrom end os (length os) 0) }
+  reached-none =
+      record {
+        time = 0;
+        fuel = length os;
+        enough = omega arith;
+        before = λ j l. absurd (omega arith);
+        after = λ j p l. omega arith;
+        begun = begun-none (usedFrom end os (length os) 0);
+      }
 
   module _ (i : ℕ) (out : Sequence) (r : Reached end os ts n i out) where
     -- none before the place i is from the time on
@@ -123,22 +141,29 @@ module _ (end : ℕ) (os : List Numbered) (ts : List ℕ) (n : ℕ) (long : leng
 
     pub reached-late : i < n → end ≤ getD ts i 0 → Begun out [] (used end os)
     reached-late h late =
-        let e : end ≤ nextTime end os (r .time) = next-least end (r .time) end os (omega arith) (λ j l p. omega (arith, at j (omega arith), rising i j (from-here j (omega arith) p) (omega arith))) in
+        let e : end ≤ nextTime end os (r .time) =
+        next-least end (r .time) end os (omega arith)
+        (λ j l p. omega (arith, at j (omega arith), rising i j (from-here j (omega arith) p) (omega arith))) in
         rw (used-stop end os (r .fuel) (r .time) e) at (r .begun)
 
     pub reached-all : n ≤ i → Begun out [] (used end os)
     reached-all h =
-        let e : end ≤ nextTime end os (r .time) = next-least end (r .time) end os (omega arith) (λ j l p. absurd (omega (arith, from-here j (omega arith) p))) in
+        let e : end ≤ nextTime end os (r .time) =
+        next-least end (r .time) end os (omega arith) (λ j l p. absurd (omega (arith, from-here j (omega arith) p))) in
         rw (used-stop end os (r .fuel) (r .time) e) at (r .begun)
 
     next-here : i < n → getD ts i 0 < end → nextTime end os (r .time) ≡ getD ts i 0
     next-here h early =
-        let a : getD ts i 0 ≤ nextTime end os (r .time) = next-least end (r .time) (getD ts i 0) os (omega arith) (λ j l p. omega (arith, at j (omega arith), rising i j (from-here j (omega arith) p) (omega arith))) in
-        let b : nextTime end os (r .time) ≤ timeAt os i = next-reached end (r .time) os i (omega arith) (omega (arith, at i h, r .after i (omega arith) h)) in
+        let a : getD ts i 0 ≤ nextTime end os (r .time) =
+        next-least end (r .time) (getD ts i 0) os (omega arith)
+        (λ j l p. omega (arith, at j (omega arith), rising i j (from-here j (omega arith) p) (omega arith))) in
+        let b : nextTime end os (r .time) ≤ timeAt os i =
+        next-reached end (r .time) os i (omega arith) (omega (arith, at i h, r .after i (omega arith) h)) in
         omega (arith, at i h)
 
     -- one group more: those from the place i up to the place k
-    pub reached-more : (k : ℕ) (f : Found) → out .count < instructionPlaces → i < n → getD ts i 0 < end → Run ts n (getD ts i 0) (i + 1) k → foundList f ≡ usedOf (group os (getD ts i 0)) → Reached end os ts n k (joined out f)
+    pub reached-more : (k : ℕ) (f : Found) → out .count < instructionPlaces → i < n → getD ts i 0 < end → Run ts n (getD ts i 0) (i + 1) k →
+        foundList f ≡ usedOf (group os (getD ts i 0)) → Reached end os ts n k (joined out f)
     reached-more k f room h early run e =
         let x : ℕ = getD ts i 0 in
         let q : usedFrom end os (r .fuel) (r .time) ≡ foundList f ++ usedFrom end os (r .fuel - 1) (x + 1) =
@@ -170,20 +195,29 @@ module _ (end : ℕ) (os : List Numbered) (ts : List ℕ) (n : ℕ) (long : leng
       where
         other : (j : ℕ) → j < length os → (j ≡ i → ⊥) → timeAt os j ≡ timeAt os i → ⊥
         other j l ne q = elim (decLe i j) [
-          | yes p ↦ run .other (omega arith) (omega (arith, rising i (i + 1) (omega arith) (omega arith), rising (i + 1) j (omega arith) (omega arith), at i h, at j (omega arith)))
+          | yes p ↦ run .other (omega arith) (omega (
+            arith,
+            rising i (i + 1) (omega arith) (omega arith),
+            rising (i + 1) j (omega arith)
+                (omega arith),
+            at i h,
+            at j (omega arith),
+          ))
           | no p ↦ absurd (omega (arith, r .before j (omega arith), r .after i (omega arith) h, at i h, at j (omega arith)))
         ]
 
 -- ---- the times in order
 -- any two of them
-rising-any : (before : ℕ) (ts : List ℕ) → rises before ts ≡ true → (i j : ℕ) → i ≤ j → j < length ts → (before ≤ getD ts i 0) × (getD ts i 0 ≤ getD ts j 0)
+rising-any : (before : ℕ) (ts : List ℕ) → rises before ts ≡ true → (i j : ℕ) → i ≤ j → j < length ts →
+    (before ≤ getD ts i 0) × (getD ts i 0 ≤ getD ts j 0)
 unfolding rises
 rising-any before [] e i j p l = absurd (omega arith)
 rising-any before (t ∷ ts) e i j p l =
     let a = and-true (leb before t) (rises t ts) e in
     go i j p l (leb-true before t (a .0)) (rising-any t ts (a .1))
   where
-    go : (i j : ℕ) → i ≤ j → j < suc (length ts) → before ≤ t → ((i j : ℕ) → i ≤ j → j < length ts → (t ≤ getD ts i 0) × (getD ts i 0 ≤ getD ts j 0)) →
+    go : (i j : ℕ) → i ≤ j → j < suc (length ts) → before ≤ t →
+        ((i j : ℕ) → i ≤ j → j < length ts → (t ≤ getD ts i 0) × (getD ts i 0 ≤ getD ts j 0)) →
         (before ≤ getD (t ∷ ts) i 0) × (getD (t ∷ ts) i 0 ≤ getD (t ∷ ts) j 0)
     go zero zero p l b ih = omega arith
     go zero (suc j) p l b ih = omega (arith, ih j j (omega arith) (omega arith))
@@ -192,7 +226,8 @@ rising-any before (t ∷ ts) e i j p l =
 
 module _ (ts : List ℕ) (n : ℕ) (fits : n ≤ length ts) where
   pub rises-rising : rises 0 (take n ts) ≡ true → Rising ts n
-  rises-rising e i j p l = rw (getD-take n ts i 0 (omega arith), getD-take n ts j 0 l) at (rising-any 0 (take n ts) e i j p (omega (arith, length-take n ts)) .1)
+  rises-rising e i j p l =
+      rw (getD-take n ts i 0 (omega arith), getD-take n ts j 0 l) at (rising-any 0 (take n ts) e i j p (omega (arith, length-take n ts)) .1)
 
   -- from the place i on: it is not earlier; it is earlier; none is left
   module _ (before i : ℕ) where
@@ -208,7 +243,8 @@ module _ (ts : List ℕ) (n : ℕ) (fits : n ≤ length ts) where
     unfolding rises
     rises-all h = rw (left-none ts n i h)
 
-pub same-more : (ts : List ℕ) (from i t : ℕ) → getD ts i 0 ≡ t → ((j : ℕ) → from ≤ j → j < i → getD ts j 0 ≡ t) → (j : ℕ) → from ≤ j → j < i + 1 → getD ts j 0 ≡ t
+pub same-more : (ts : List ℕ) (from i t : ℕ) → getD ts i 0 ≡ t → ((j : ℕ) → from ≤ j → j < i → getD ts j 0 ≡ t) → (j : ℕ) → from ≤ j → j < i + 1 →
+    getD ts j 0 ≡ t
 same-more ts from i t e same j p l = elim (ℕ-discrete j i) [ yes q ↦ rw q e | no n ↦ same j p (omega arith) ]
 
 -- ---- neighbours
@@ -266,10 +302,13 @@ latest-high (x ∷ xs) (y ∷ js) t (suc j) h k e = go (eqb x t) (latest-high xs
     go false ih = ih
 
 -- one alone has the latest issue time itself
-pub alone-latest : (ts js : List ℕ) (n at : ℕ) → at < n → n ≤ length ts → n ≤ length js → (rises 0 (take n ts) && aloneAt ts n at) ≡ true → getD js at 0 ≡ latestAt (take n ts) (take n js) (getD ts at 0)
+pub alone-latest : (ts js : List ℕ) (n at : ℕ) → at < n → n ≤ length ts → n ≤ length js → (rises 0 (take n ts) && aloneAt ts n at) ≡ true →
+    getD js at 0 ≡ latestAt (take n ts) (take n js) (getD ts at 0)
 alone-latest ts js n at h fits room alone =
     let low = latest-low (take n ts) (take n js) (getD ts at 0) (getD js at 0) (λ j l. each j (omega (arith, length-take n ts))) in
-    let high = latest-high (take n ts) (take n js) (getD ts at 0) at (omega (arith, length-take n ts)) (omega (arith, length-take n js)) (getD-take n ts at 0 h) in
+    let high =
+    latest-high (take n ts) (take n js) (getD ts at 0) at (omega (arith, length-take n ts)) (omega (arith, length-take n js)) (getD-take n ts at 0 h)
+    in
     omega (arith, getD-take n js at 0 h)
   where
     both : (rises 0 (take n ts) ≡ true) × (aloneAt ts n at ≡ true)
@@ -279,4 +318,6 @@ alone-latest ts js n at h fits room alone =
     only = alone-only ts n at (rises-rising ts n fits (both .0)) h (both .1)
 
     each : (j : ℕ) → j < n → getD (take n ts) j 0 ≡ getD ts at 0 → getD (take n js) j 0 ≤ getD js at 0
-    each j l = rw (getD-take n ts j 0 l, getD-take n js j 0 l) (elim (ℕ-discrete j at) [ no ne ↦ λ q. absurd (only j l ne q) | yes e ↦ λ q. rw e (omega arith) ])
+    each j l =
+        rw (getD-take n ts j 0 l, getD-take n js j 0 l)
+        (elim (ℕ-discrete j at) [ no ne ↦ λ q. absurd (only j l ne q) | yes e ↦ λ q. rw e (omega arith) ])

@@ -54,7 +54,8 @@ latestAt [] js t = 0
 latestAt (x ∷ xs) [] t = 0
 latestAt (x ∷ xs) (j ∷ js) t = laterOf x j t (latestAt xs js t)
 
--- one of those at the effective time t has a later issue time: `superseded` of the validation, over the times (`superseded-is`, proofs/Laws, equates them)
+-- one of those at the effective time t has a later issue time: `superseded` of the validation, over the times (`superseded-is`, proofs/Laws, equates
+-- them)
 abbrev pub supersededAmong : List ℕ → List ℕ → ℕ → ℕ → Bool
 supersededAmong ts js t issue = ltb issue (latestAt ts js t)
 

@@ -23,12 +23,14 @@ use Rattle.level.proofs.Lists.{left-cons}
 use Rattle.level.proofs.Arrays.{filled-push}
 
 -- ---- the instructions as entered
-number-last : (k : ℕ) (is : List Instruction) (x : Instruction) → numbered k (is ++ (x ∷ [])) ≡ numbered k is ++ (record { number = k + length is; instruction = x } ∷ [])
+number-last : (k : ℕ) (is : List Instruction) (x : Instruction) →
+    numbered k (is ++ (x ∷ [])) ≡ numbered k is ++ (record { number = k + length is; instruction = x } ∷ [])
 unfolding numbered
 number-last k [] x = let e : k ≡ k + 0 = omega arith in λ j. record { number = e j; instruction = x } ∷ []
 number-last k (y ∷ ys) x =
     let e : suc k + length ys ≡ k + suc (length ys) = omega arith in
-    ap (λ (l : List Numbered). record { number = k; instruction = y } ∷ l) (number-last (suc k) ys x ∙ (λ j. numbered (suc k) ys ++ (record { number = e j; instruction = x } ∷ [])))
+    ap (λ (l : List Numbered). record { number = k; instruction = y } ∷ l)
+    (number-last (suc k) ys x ∙ (λ j. numbered (suc k) ys ++ (record { number = e j; instruction = x } ∷ [])))
 
 map-last : (f : Numbered → ℕ) (xs : List Numbered) (x : Numbered) → map f (xs ++ (x ∷ [])) ≡ map f xs ++ (f x ∷ [])
 map-last f [] x = refl
@@ -40,15 +42,20 @@ timed-none is times issues = record { effective = refl; issued = refl }
 
 -- one more of them
 module _ (is : List Instruction) (i : ℕ) (h : i < length is) where
-  one-more : numbered 1 (take (i + 1) is) ≡ numbered 1 (take i is) ++ (record { number = 1 + length (take i is); instruction = getD is i (noNumbered .instruction) } ∷ [])
+  one-more : numbered 1 (take (i + 1) is) ≡ numbered 1 (take i is) ++
+      (record { number = 1 + length (take i is); instruction = getD is i (noNumbered .instruction) } ∷ [])
   one-more = rw (add-one, take-suc is i (noNumbered .instruction) h) (number-last 1 (take i is) (getD is i (noNumbered .instruction)))
 
-  time-more : (f : Numbered → ℕ) (ts : List ℕ) (v : ℕ) → i < length ts → v ≡ f (record { number = 1 + length (take i is); instruction = getD is i (noNumbered .instruction) }) → take i ts ≡ map f (numbered 1 (take i is)) →
+  time-more : (f : Numbered → ℕ) (ts : List ℕ) (v : ℕ) → i < length ts →
+      v ≡ f (record { number = 1 + length (take i is); instruction = getD is i (noNumbered .instruction) }) → take i ts ≡ map f
+      (numbered 1 (take i is)) →
       take (i + 1) (set ts i v) ≡ map f (numbered 1 (take (i + 1) is))
   time-more f ts v k e q = rw (one-more, map-last f (numbered 1 (take i is)), add-one, take-suc-set ts i v k, q, e)
 
   pub timed-more : (times issues : List ℕ) → i < length times → i < length issues → Timed (numbered 1 (take i is)) (take i times) (take i issues) →
-      let x : Instruction = getD is i (noNumbered .instruction) in Timed (numbered 1 (take (i + 1) is)) (take (i + 1) (set times i (x .effective))) (take (i + 1) (set issues i (x .issue)))
+      let x : Instruction =
+      getD is i (noNumbered .instruction) in Timed (numbered 1 (take (i + 1) is)) (take (i + 1) (set times i (x .effective)))
+      (take (i + 1) (set issues i (x .issue)))
   timed-more times issues p q t = record {
     effective = time-more effectiveOf times _ p refl (t .effective);
     issued = time-more issueTimeOf issues _ q refl (t .issued);
@@ -78,16 +85,21 @@ module _ (fates : List ℕ) (number fate : ℕ) where
 leb-min : (e a own : ℕ) → (leb a own || leb e own) ≡ leb (min e a) own
 leb-min e a own = elim (decLe a own) [
   | yes h ↦ rw (le-leb a own h, le-leb (min e a) own (omega arith))
-  | no h ↦ rw (lt-leb a own (omega arith)) (elim (decLe e own) [ yes k ↦ rw (le-leb e own k, le-leb (min e a) own (omega arith)) | no k ↦ rw (lt-leb e own (omega arith), lt-leb (min e a) own (omega arith)) ])
+  | no h ↦ rw (lt-leb a own (omega arith)) (elim (decLe e own) [
+    | yes k ↦ rw (le-leb e own k, le-leb (min e a) own (omega arith))
+    | no k ↦ rw (lt-leb e own (omega arith), lt-leb (min e a) own (omega arith))
+  ])
 ]
 
 -- one of those after it acts no later exactly where the earliest of them does
 overtaken-is : (o : Numbered) (os : List Numbered) → acting o < never → overtaken o os ≡ leb (earliestActing os) (acting o)
 unfolding overtaken some earliestActing
 overtaken-is o [] h = sym (lt-leb never (acting o) h)
-overtaken-is o (l ∷ os) h = ap (λ (b : Bool). leb (acting l) (acting o) || b) (overtaken-is o os h) ∙ leb-min (earliestActing os) (acting l) (acting o)
+overtaken-is o (l ∷ os) h =
+    ap (λ (b : Bool). leb (acting l) (acting o) || b) (overtaken-is o os h) ∙ leb-min (earliestActing os) (acting l) (acting o)
 
-pub late-is : (end own earliest : ℕ) (o : Numbered) (os : List Numbered) → own ≡ acting o → own < never → earliest ≡ earliestActing os → lateFateBy end own earliest ≡ lateFate end o os
+pub late-is : (end own earliest : ℕ) (o : Numbered) (os : List Numbered) → own ≡ acting o → own < never → earliest ≡ earliestActing os →
+    lateFateBy end own earliest ≡ lateFate end o os
 unfolding lateFateBy lateFate
 late-is end own earliest o os e h k = rw (k, e, overtaken-is o os (rw e at h))
 
@@ -96,29 +108,35 @@ unfolding earliestActing
 acting-none e = rw e
 
 module _ (ks : List Numbered) (n : ℕ) (fits : n ≤ length ks) where
-  pub acting-more : (i : ℕ) → i < n → min (earliestActing (drop (i + 1) (take n ks))) (acting (getD ks i noNumbered)) ≡ earliestActing (drop i (take n ks))
+  pub acting-more : (i : ℕ) → i < n →
+      min (earliestActing (drop (i + 1) (take n ks))) (acting (getD ks i noNumbered)) ≡ earliestActing (drop i (take n ks))
   unfolding earliestActing
   acting-more i h = rw (left-cons ks n i noNumbered h fits)
 
-  pub actors-skip : (end i : ℕ) → i < n → (lateFate end (getD ks i noNumbered) (drop (i + 1) (take n ks)) ≡ 0 → ⊥) → actors end (drop i (take n ks)) ≡ actors end (drop (i + 1) (take n ks))
+  pub actors-skip : (end i : ℕ) → i < n → (lateFate end (getD ks i noNumbered) (drop (i + 1) (take n ks)) ≡ 0 → ⊥) →
+      actors end (drop i (take n ks)) ≡ actors end (drop (i + 1) (take n ks))
   unfolding actors
   actors-skip end i h e = rw (left-cons ks n i noNumbered h fits) (simp (ne-eqb _ _ e))
 
-  pub actors-keep : (end i : ℕ) → i < n → lateFate end (getD ks i noNumbered) (drop (i + 1) (take n ks)) ≡ 0 → actors end (drop i (take n ks)) ≡ getD ks i noNumbered ∷ actors end (drop (i + 1) (take n ks))
+  pub actors-keep : (end i : ℕ) → i < n → lateFate end (getD ks i noNumbered) (drop (i + 1) (take n ks)) ≡ 0 →
+      actors end (drop i (take n ks)) ≡ getD ks i noNumbered ∷ actors end (drop (i + 1) (take n ks))
   unfolding actors
   actors-keep end i h e = rw (left-cons ks n i noNumbered h fits) (simp (eq-eqb _ _ e))
 
   settled-next : (end i : ℕ) (fates : List ℕ) → i < n →
       settled fates (lateMarks end (drop i (take n ks)))
-      ≡ settled (settleFate fates (getD ks i noNumbered .number) (lateFate end (getD ks i noNumbered) (drop (i + 1) (take n ks)))) (lateMarks end (drop (i + 1) (take n ks)))
+      ≡ settled (settleFate fates (getD ks i noNumbered .number) (lateFate end (getD ks i noNumbered) (drop (i + 1) (take n ks))))
+      (lateMarks end (drop (i + 1) (take n ks)))
   unfolding settled lateMarks
   settled-next end i fates h = rw (left-cons ks n i noNumbered h fits)
 
   -- with the fate of the one at the place i
-  pub settled-more : (end i : ℕ) (fates next : List ℕ) (fate : ℕ) → i < n → fate ≡ lateFate end (getD ks i noNumbered) (drop (i + 1) (take n ks)) → next ≡ settleFate fates (getD ks i noNumbered .number) fate →
+  pub settled-more : (end i : ℕ) (fates next : List ℕ) (fate : ℕ) → i < n → fate ≡ lateFate end (getD ks i noNumbered) (drop (i + 1) (take n ks)) →
+      next ≡ settleFate fates (getD ks i noNumbered .number) fate →
       settled next (lateMarks end (drop (i + 1) (take n ks))) ≡ settled fates (lateMarks end (drop i (take n ks)))
   settled-more end i fates next fate h e q =
-      ap (λ (l : List ℕ). settled l (lateMarks end (drop (i + 1) (take n ks)))) (q ∙ ap (settleFate fates (getD ks i noNumbered .number)) e) ∙ sym (settled-next end i fates h)
+      ap (λ (l : List ℕ). settled l (lateMarks end (drop (i + 1) (take n ks)))) (q ∙ ap (settleFate fates (getD ks i noNumbered .number)) e)
+      ∙ sym (settled-next end i fates h)
 
 -- ---- the fates by number
 module _ (times issues later : List ℕ) where
@@ -127,20 +145,26 @@ module _ (times issues later : List ℕ) where
   fates-count zero = refl
   fates-count (suc i) = simp length-append (omega (arith, fates-count i))
 
-  fates-step : (i : ℕ) → fatesTo times issues later (i + 1) ≡ fatesTo times issues later i ++ (pick (supersededAmong times issues (getD times i 0) (getD issues i 0)) 1 (getD later i 0) ∷ [])
+  fates-step : (i : ℕ) →
+      fatesTo times issues later (i + 1) ≡ fatesTo times issues later i ++
+      (pick (supersededAmong times issues (getD times i 0) (getD issues i 0)) 1 (getD later i 0) ∷ [])
   unfolding fatesTo
   fates-step i = rw add-one
 
 pub fates-more : (ts js : List ℕ) (n i : ℕ) (later : List ℕ) → i < n → i < instructionPlaces →
-    set (filled instructionPlaces 0 (fatesTo (take n ts) (take n js) later i)) i (pick (supersededAmong (take n ts) (take n js) (getD ts i 0) (getD js i 0)) 1 (getD later i 0)) ≡ filled instructionPlaces 0 (fatesTo (take n ts) (take n js) later (i + 1))
+    set (filled instructionPlaces 0 (fatesTo (take n ts) (take n js) later i)) i
+    (pick (supersededAmong (take n ts) (take n js) (getD ts i 0) (getD js i 0)) 1 (getD later i 0)) ≡ filled instructionPlaces 0
+    (fatesTo (take n ts) (take n js) later (i + 1))
 fates-more ts js n i later h k =
     let xs = fatesTo (take n ts) (take n js) later i in
     let v : ℕ = pick (supersededAmong (take n ts) (take n js) (getD ts i 0) (getD js i 0)) 1 (getD later i 0) in
     let e : length xs ≡ i = fates-count (take n ts) (take n js) later i in
-    let p : set (filled instructionPlaces 0 xs) i v ≡ filled instructionPlaces 0 (xs ++ (v ∷ [])) = ap (λ (j : ℕ). set (filled instructionPlaces 0 xs) j v) (sym e) ∙ filled-push 0 instructionPlaces xs v (omega arith) in
+    let p : set (filled instructionPlaces 0 xs) i v ≡ filled instructionPlaces 0 (xs ++ (v ∷ [])) =
+    ap (λ (j : ℕ). set (filled instructionPlaces 0 xs) j v) (sym e) ∙ filled-push 0 instructionPlaces xs v (omega arith) in
     let a : getD ts i 0 ≡ getD (take n ts) i 0 = sym (getD-take n ts i 0 h) in
     let b : getD js i 0 ≡ getD (take n js) i 0 = sym (getD-take n js i 0 h) in
-    p ∙ ap (filled instructionPlaces 0) ((λ q. xs ++ (pick (supersededAmong (take n ts) (take n js) (a q) (b q)) 1 (getD later i 0) ∷ [])) ∙ sym (fates-step (take n ts) (take n js) later i))
+    p ∙ ap (filled instructionPlaces 0) ((λ q. xs ++ (pick (supersededAmong (take n ts) (take n js) (a q) (b q)) 1 (getD later i 0) ∷ []))
+    ∙ sym (fates-step (take n ts) (take n js) later i))
 
 pub actors-none : {os : List Numbered} (end : ℕ) → os ≡ [] → actors end os ≡ []
 unfolding actors

@@ -45,7 +45,8 @@ module _ (fates : List ℕ) (ms : List Mark) (r : Reads fates ms) (m : Mark) whe
     | no z ↦ ap length (sym (set-some fates (m .number) (m .fate) z)) ∙ (length-set fates (m .number - 1) (m .fate) ∙ r .long)
   ]
 
-  set-at : (i : ℕ) → i < instructionPlaces → getD (setFate fates (m .number) (m .fate)) i 0 ≡ pick (eqb (m .number) (i + 1)) (m .fate) (fateAmong (i + 1) ms)
+  set-at : (i : ℕ) → i < instructionPlaces →
+      getD (setFate fates (m .number) (m .fate)) i 0 ≡ pick (eqb (m .number) (i + 1)) (m .fate) (fateAmong (i + 1) ms)
   set-at i h = elim (ℕ-discrete (m .number) (i + 1)) [
     | yes e ↦
         let z : m .number ≡ 0 → ⊥ = omega arith in
@@ -54,9 +55,11 @@ module _ (fates : List ℕ) (ms : List Mark) (r : Reads fates ms) (m : Mark) whe
     | no n ↦ rw (ne-eqb (m .number) (i + 1) n) (other i h n (ℕ-discrete (m .number) 0))
   ]
     where
-      other : (i : ℕ) → i < instructionPlaces → (m .number ≡ i + 1 → ⊥) → Dec (m .number ≡ 0) → getD (setFate fates (m .number) (m .fate)) i 0 ≡ fateAmong (i + 1) ms
+      other : (i : ℕ) → i < instructionPlaces → (m .number ≡ i + 1 → ⊥) → Dec (m .number ≡ 0) →
+          getD (setFate fates (m .number) (m .fate)) i 0 ≡ fateAmong (i + 1) ms
       other i h n (yes z) = rw (← set-zero fates (m .number) (m .fate) z) (r .at i h)
-      other i h n (no z) = rw (← set-some fates (m .number) (m .fate) z) (getD-set-other fates (m .number - 1) i (m .fate) 0 (λ q. n (omega arith)) ∙ r .at i h)
+      other i h n (no z) =
+          rw (← set-some fates (m .number) (m .fate) z) (getD-set-other fates (m .number - 1) i (m .fate) 0 (λ q. n (omega arith)) ∙ r .at i h)
 
 reads-set : (fates : List ℕ) (ms : List Mark) → Reads fates ms → (m : Mark) → Reads (setFate fates (m .number) (m .fate)) (m ∷ ms)
 unfolding fateAmong
@@ -74,28 +77,34 @@ NotTwo f = f ≡ 2 → ⊥
 abbrev NoTwo : List Mark → Type 0
 NoTwo ms = Fated NotTwo ms
 
-among-last : (k : ℕ) (ms : List Mark) (m : Mark) → NoTwo ms → fateAmong k (ms ++ (m ∷ [])) ≡ pick (eqb (fateAmong k ms) 2) (pick (eqb (m .number) k) (m .fate) 2) (fateAmong k ms)
+among-last : (k : ℕ) (ms : List Mark) (m : Mark) → NoTwo ms →
+    fateAmong k (ms ++ (m ∷ [])) ≡ pick (eqb (fateAmong k ms) 2) (pick (eqb (m .number) k) (m .fate) 2) (fateAmong k ms)
 unfolding fateAmong
 among-last k [] m n = refl
 among-last k (x ∷ xs) m n = go (eqb (x .number) k) (among-last k xs m (n .1))
   where
     go : (b : Bool) → fateAmong k (xs ++ (m ∷ [])) ≡ pick (eqb (fateAmong k xs) 2) (pick (eqb (m .number) k) (m .fate) 2) (fateAmong k xs) →
-        pick b (x .fate) (fateAmong k (xs ++ (m ∷ []))) ≡ pick (eqb (pick b (x .fate) (fateAmong k xs)) 2) (pick (eqb (m .number) k) (m .fate) 2) (pick b (x .fate) (fateAmong k xs))
+        pick b (x .fate) (fateAmong k (xs ++ (m ∷ []))) ≡ pick (eqb (pick b (x .fate) (fateAmong k xs)) 2) (pick (eqb (m .number) k) (m .fate) 2)
+        (pick b (x .fate) (fateAmong k xs))
     go true ih = rw (ne-eqb (x .fate) 2 (n .0))
     go false ih = ih
 
 module _ (fates : List ℕ) (ms : List Mark) (r : Reads fates ms) (none : NoTwo ms) (m : Mark) where
   -- where it is another number, or the number is settled
-  kept-fate : (i : ℕ) → i < instructionPlaces → (m .number ≡ i + 1 → ⊥) ⊎ (getD fates i 0 ≡ 2 → ⊥) → getD (settleFate fates (m .number) (m .fate)) i 0 ≡ getD fates i 0
+  kept-fate : (i : ℕ) → i < instructionPlaces → (m .number ≡ i + 1 → ⊥) ⊎ (getD fates i 0 ≡ 2 → ⊥) →
+      getD (settleFate fates (m .number) (m .fate)) i 0 ≡ getD fates i 0
   kept-fate i h q = elim (ℕ-discrete (m .number) 0) [
     | yes z ↦ rw (← settle-zero fates (m .number) (m .fate) z)
     | no z ↦ settled-or z (ℕ-discrete (getD fates (m .number - 1) 0) 2) q
   ]
     where
-      settled-or : (m .number ≡ 0 → ⊥) → Dec (getD fates (m .number - 1) 0 ≡ 2) → (m .number ≡ i + 1 → ⊥) ⊎ (getD fates i 0 ≡ 2 → ⊥) → getD (settleFate fates (m .number) (m .fate)) i 0 ≡ getD fates i 0
+      settled-or : (m .number ≡ 0 → ⊥) → Dec (getD fates (m .number - 1) 0 ≡ 2) → (m .number ≡ i + 1 → ⊥) ⊎ (getD fates i 0 ≡ 2 → ⊥) →
+          getD (settleFate fates (m .number) (m .fate)) i 0 ≡ getD fates i 0
       settled-or z (no d) q = rw (← settle-done fates (m .number) (m .fate) z d)
-      settled-or z (yes d) (inl n) = rw (← settle-some fates (m .number) (m .fate) z d) (getD-set-other fates (m .number - 1) i (m .fate) 0 (λ e. n (omega arith)))
-      settled-or z (yes d) (inr n) = rw (← settle-some fates (m .number) (m .fate) z d) (getD-set-other fates (m .number - 1) i (m .fate) 0 (λ e. n (rw (← e) at d)))
+      settled-or z (yes d) (inl n) =
+          rw (← settle-some fates (m .number) (m .fate) z d) (getD-set-other fates (m .number - 1) i (m .fate) 0 (λ e. n (omega arith)))
+      settled-or z (yes d) (inr n) =
+          rw (← settle-some fates (m .number) (m .fate) z d) (getD-set-other fates (m .number - 1) i (m .fate) 0 (λ e. n (rw (← e) at d)))
 
   settle-long : length (settleFate fates (m .number) (m .fate)) ≡ instructionPlaces
   settle-long = elim (ℕ-discrete (m .number) 0) [
@@ -106,24 +115,29 @@ module _ (fates : List ℕ) (ms : List Mark) (r : Reads fates ms) (none : NoTwo 
     ]
   ]
 
-  settle-at : (i : ℕ) → i < instructionPlaces → getD (settleFate fates (m .number) (m .fate)) i 0 ≡ pick (eqb (getD fates i 0) 2) (pick (eqb (m .number) (i + 1)) (m .fate) 2) (getD fates i 0)
+  settle-at : (i : ℕ) → i < instructionPlaces →
+      getD (settleFate fates (m .number) (m .fate)) i 0 ≡ pick (eqb (getD fates i 0) 2) (pick (eqb (m .number) (i + 1)) (m .fate) 2) (getD fates i 0)
   settle-at i h = elim (ℕ-discrete (getD fates i 0) 2) [
     | no d ↦ rw (ne-eqb (getD fates i 0) 2 d) (kept-fate i h (inr d))
     | yes d ↦ rw (eq-eqb (getD fates i 0) 2 d) (unsettled d (ℕ-discrete (m .number) (i + 1)))
   ]
     where
-      unsettled : getD fates i 0 ≡ 2 → Dec (m .number ≡ i + 1) → getD (settleFate fates (m .number) (m .fate)) i 0 ≡ pick (eqb (m .number) (i + 1)) (m .fate) 2
+      unsettled : getD fates i 0 ≡ 2 → Dec (m .number ≡ i + 1) →
+          getD (settleFate fates (m .number) (m .fate)) i 0 ≡ pick (eqb (m .number) (i + 1)) (m .fate) 2
       unsettled d (no n) = rw (ne-eqb (m .number) (i + 1) n) (kept-fate i h (inl n) ∙ d)
       unsettled d (yes e) =
           let z : m .number ≡ 0 → ⊥ = omega arith in
           let p : m .number - 1 ≡ i = omega arith in
           let q : getD fates (m .number - 1) 0 ≡ 2 = ap (λ (k : ℕ). getD fates k 0) p ∙ d in
-          rw (eq-eqb (m .number) (i + 1) e, ← settle-some fates (m .number) (m .fate) z q, p) (getD-set-same fates i (m .fate) 0 (omega (arith, r .long)))
+          rw (eq-eqb (m .number) (i + 1) e, ← settle-some fates (m .number) (m .fate) z q, p)
+          (getD-set-same fates i (m .fate) 0 (omega (arith, r .long)))
 
   reads-settle : Reads (settleFate fates (m .number) (m .fate)) (ms ++ (m ∷ []))
   reads-settle = record {
     long = settle-long;
-    at = λ i h. settle-at i h ∙ (ap (λ (k : ℕ). pick (eqb k 2) (pick (eqb (m .number) (i + 1)) (m .fate) 2) k) (r .at i h) ∙ sym (among-last (i + 1) ms m none));
+    at =
+        λ i h. settle-at i h ∙ (ap (λ (k : ℕ). pick (eqb k 2) (pick (eqb (m .number) (i + 1)) (m .fate) 2) k) (r .at i h)
+        ∙ sym (among-last (i + 1) ms m none));
   }
 
 pub reads-settled : (fates : List ℕ) (ms ls : List Mark) → Reads fates ms → NoTwo ms → NoTwo ls → Reads (settled fates ls) (ms ++ ls)
@@ -131,7 +145,8 @@ unfolding settled
 reads-settled fates ms [] r n k = rw append-nil r
 reads-settled fates ms (l ∷ ls) r n k =
     rw append-assoc at
-    (reads-settled (settleFate fates (l .number) (l .fate)) (ms ++ (l ∷ [])) ls (reads-settle fates ms r n l) (fated-append NotTwo ms (l ∷ []) n (k .0, tt)) (k .1))
+    (reads-settled (settleFate fates (l .number) (l .fate)) (ms ++ (l ∷ [])) ls (reads-settle fates ms r n l)
+    (fated-append NotTwo ms (l ∷ []) n (k .0, tt)) (k .1))
 
 -- ---- the fates by number
 pub number-at : (k : ℕ) (is : List Instruction) (i : ℕ) → i < length is → getD (numbered k is) i noNumbered .number ≡ k + i
@@ -140,12 +155,14 @@ number-at k [] i h = absurd (omega arith)
 number-at k (x ∷ is) zero h = omega arith
 number-at k (x ∷ is) (suc i) h = omega (arith, number-at (suc k) is i (omega arith))
 
-fates-last : (all : List Numbered) (ms : List Mark) (xs : List Numbered) (x : Numbered) → fatesOf all ms (xs ++ (x ∷ [])) ≡ fatesOf all ms xs ++ (pick (superseded all x) 1 (fateAmong (x .number) ms) ∷ [])
+fates-last : (all : List Numbered) (ms : List Mark) (xs : List Numbered) (x : Numbered) →
+    fatesOf all ms (xs ++ (x ∷ [])) ≡ fatesOf all ms xs ++ (pick (superseded all x) 1 (fateAmong (x .number) ms) ∷ [])
 unfolding fatesOf
 fates-last all ms [] x = refl
 fates-last all ms (y ∷ ys) x = ap (λ (l : List ℕ). pick (superseded all y) 1 (fateAmong (y .number) ms) ∷ l) (fates-last all ms ys x)
 
-module _ (is : List Instruction) (few : length is ≤ instructionPlaces) (times issues : List ℕ) (timed : Timed (numbered 1 is) times issues) (later : List ℕ) (ms : List Mark) (r : Reads later ms) where
+module _ (is : List Instruction) (few : length is ≤ instructionPlaces) (times issues : List ℕ) (timed : Timed (numbered 1 is) times issues)
+    (later : List ℕ) (ms : List Mark) (r : Reads later ms) where
   fates-upto : (i : ℕ) → i ≤ length is → fatesTo times issues later i ≡ fatesOf (numbered 1 is) ms (take i (numbered 1 is))
   unfolding fatesTo fatesOf
   fates-upto zero h = refl
@@ -179,7 +196,9 @@ module _ (end : ℕ) (os : List Numbered) (s : Checking) (t : Tracks s (check no
       let m : Checked = check noneChecked (used end os) in
       let ls = lateMarks end (turned (m .kept) []) in
       rw (in-order, t .settled)
-      (reads-settled (marked (replicate instructionPlaces 2) (m .marks)) (m .marks) ls (reads-marked (m .marks)) (checked-fated NotTwo (omega arith) (omega arith) (omega arith) noneChecked (used end os) tt) (late-fated NotTwo (omega arith) (omega arith) (omega arith) end (turned (m .kept) [])))
+      (reads-settled (marked (replicate instructionPlaces 2) (m .marks)) (m .marks) ls (reads-marked (m .marks))
+      (checked-fated NotTwo (omega arith) (omega arith) (omega arith) noneChecked (used end os) tt)
+      (late-fated NotTwo (omega arith) (omega arith) (omega arith) end (turned (m .kept) [])))
 
 -- what the code puts together
 abbrev pub result : ℕ → List ℕ → List ℕ → Checking → ℕ → Validation
@@ -189,13 +208,15 @@ result end times issues s n = record {
   acting = length (actors end (take (s .height) (s .kept)));
 }
 
-outcome-is : (end : ℕ) (is : List Instruction) → length is ≤ instructionPlaces → (times issues : List ℕ) → Timed (numbered 1 is) times issues → (s : Checking) → Tracks s (check noneChecked (used end (numbered 1 is))) → s .height ≤ length (s .kept) →
+outcome-is : (end : ℕ) (is : List Instruction) → length is ≤ instructionPlaces → (times issues : List ℕ) → Timed (numbered 1 is) times issues →
+    (s : Checking) → Tracks s (check noneChecked (used end (numbered 1 is))) → s .height ≤ length (s .kept) →
     result end times issues s (length is) ≡ outcomeOf (numbered 1 is) end
 unfolding outcomeOf
 outcome-is end is few times issues timed s t fits =
     let os = numbered 1 is in
     let later = settled (s .fates) (lateMarks end (take (s .height) (s .kept))) in
-    let f : fatesTo times issues later (length is) ≡ fatesOf os (validated end os .marks) os = fates-all is few times issues timed later (validated end os .marks) (marks-are end os s t fits) in
+    let f : fatesTo times issues later (length is) ≡ fatesOf os (validated end os .marks) os =
+    fates-all is few times issues timed later (validated end os .marks) (marks-are end os s t fits) in
     let a : actors end (take (s .height) (s .kept)) ≡ validated end os .acts = acts-are end os s t fits in
     λ j. record { fates = filled instructionPlaces 0 (f j); acts = filled instructionPlaces noNumbered (a j); acting = length (a j) }
 
@@ -209,16 +230,19 @@ module _ (is : List Instruction) (count end n : ℕ) (all : length is ≡ instru
         rw e (take-all instructionPlaces is (omega arith) ∙ sym (take-all count is (omega arith)))
   ]
 
-  pub validation-is : (times issues : List ℕ) → Timed (numbered 1 (take n is)) times issues → (used-ones : Sequence) → used-ones ≡ sequenceOf (used end (numbered 1 (take n is))) → used-ones .count ≤ instructionPlaces →
+  pub validation-is : (times issues : List ℕ) → Timed (numbered 1 (take n is)) times issues → (used-ones : Sequence) →
+      used-ones ≡ sequenceOf (used end (numbered 1 (take n is))) → used-ones .count ≤ instructionPlaces →
       (s : Checking) → Tracks s (check noneChecked (take (used-ones .count) (used-ones .items))) → s .height ≤ length (s .kept) →
       result end times issues s n ≡ validationOf is count end
   unfolding validationOf
   validation-is times issues timed u q c s t fits =
       let k : n ≡ length (take n is) = omega (arith, length-take n is) in
       ap (result end times issues s) k
-      ∙ (outcome-is end (take n is) (omega arith) times issues timed s (rw (held q c) at t) fits ∙ ap (λ (l : List Instruction). outcomeOf (numbered 1 l) end) entered)
+      ∙ (outcome-is end (take n is) (omega arith) times issues timed s (rw (held q c) at t) fits
+      ∙ ap (λ (l : List Instruction). outcomeOf (numbered 1 l) end) entered)
 
 -- none entered
-pub none-entered : (is : List Instruction) (count end : ℕ) → count ≡ 0 → record { fates = replicate instructionPlaces 0; acts = replicate instructionPlaces noNumbered; acting = 0 } ≡ validationOf is count end
+pub none-entered : (is : List Instruction) (count end : ℕ) → count ≡ 0 →
+    record { fates = replicate instructionPlaces 0; acts = replicate instructionPlaces noNumbered; acting = 0 } ≡ validationOf is count end
 unfolding validationOf outcomeOf numbered validated keptOf used usedFrom check turned actors lateMarks fatesOf filled
 none-entered is count end e = rw e refl

@@ -18,7 +18,8 @@ unfoldable pub earliestActing : List Numbered → ℕ
 earliestActing [] = never
 earliestActing (o ∷ os) = min (earliestActing os) (acting o)
 
--- the fate of one that acts at the time own, by the earliest acting time of those after it: `lateFate` of the validation, over the times (`late-is`, proofs/Late, equates them)
+-- the fate of one that acts at the time own, by the earliest acting time of those after it: `lateFate` of the validation, over the times (`late-is`,
+-- proofs/Late, equates them)
 unfoldable pub lateFateBy : ℕ → ℕ → ℕ → ℕ
 lateFateBy end own earliest = pick (leb earliest own) 6 (pick (leb end own) 8 0)
 
@@ -41,4 +42,5 @@ actingWith fates acts = record { fates = fates; acts = filled instructionPlaces 
 -- the first i fates, by the times and by what the later steps say
 unfoldable pub fatesTo : List ℕ → List ℕ → List ℕ → ℕ → List ℕ
 fatesTo times issues later zero = []
-fatesTo times issues later (suc i) = fatesTo times issues later i ++ (pick (supersededAmong times issues (getD times i 0) (getD issues i 0)) 1 (getD later i 0) ∷ [])
+fatesTo times issues later (suc i) =
+    fatesTo times issues later i ++ (pick (supersededAmong times issues (getD times i 0) (getD issues i 0)) 1 (getD later i 0) ∷ [])

@@ -27,11 +27,13 @@ module _ (x o : Numbered) where
   unfolding goesBefore
   goes-other h k = rw (le-ltb _ _ h, k)
 
-  pub goes-second : o .instruction .meaning .rank ≤ x .instruction .meaning .rank → same (effectOf x) Mwof ≡ true → same (effectOf o) Mwof ≡ false → false ≡ goesBefore x o
+  pub goes-second : o .instruction .meaning .rank ≤ x .instruction .meaning .rank → same (effectOf x) Mwof ≡ true → same (effectOf o) Mwof ≡ false →
+      false ≡ goesBefore x o
   unfolding goesBefore
   goes-second h k j = rw (le-ltb _ _ h, k, j)
 
-  pub goes-level : o .instruction .meaning .rank ≤ x .instruction .meaning .rank → same (effectOf x) Mwof ≡ true → same (effectOf o) Mwof ≡ true → ltb (levelOf o) (levelOf x) ≡ goesBefore x o
+  pub goes-level : o .instruction .meaning .rank ≤ x .instruction .meaning .rank → same (effectOf x) Mwof ≡ true → same (effectOf o) Mwof ≡ true →
+      ltb (levelOf o) (levelOf x) ≡ goesBefore x o
   unfolding goesBefore
   goes-level h k j = rw (le-ltb _ _ h, k, j)
 
@@ -47,11 +49,13 @@ module _ (g : List Numbered) where
   unfolding merged
   merged-other o h = rw h
 
-  pub merged-into : (o : Numbered) (f : Found) (c : Numbered) → same (effectOf o) Mwof ≡ true → foundList f ≡ orElse (present Sync g) (present Desy g) → f ≡ One c → carrying o c ∷ [] ≡ merged g o
+  pub merged-into : (o : Numbered) (f : Found) (c : Numbered) → same (effectOf o) Mwof ≡ true →
+      foundList f ≡ orElse (present Sync g) (present Desy g) → f ≡ One c → carrying o c ∷ [] ≡ merged g o
   unfolding merged
   merged-into o f c h p q = let e : orElse (present Sync g) (present Desy g) ≡ c ∷ [] = sym p ∙ ap foundList q in rw (h, e)
 
-  pub merged-alone : (o : Numbered) (f : Found) → same (effectOf o) Mwof ≡ true → foundList f ≡ orElse (present Sync g) (present Desy g) → f ≡ Nothing → o ∷ [] ≡ merged g o
+  pub merged-alone : (o : Numbered) (f : Found) → same (effectOf o) Mwof ≡ true → foundList f ≡ orElse (present Sync g) (present Desy g) →
+      f ≡ Nothing → o ∷ [] ≡ merged g o
   unfolding merged
   merged-alone o f h p q = let e : orElse (present Sync g) (present Desy g) ≡ [] = sym p ∙ ap foundList q in rw (h, e)
 

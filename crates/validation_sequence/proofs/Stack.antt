@@ -86,14 +86,16 @@ sync-set ks (suc h) j o p =
     let ih : syncPlace (set ks j o) h ≡ syncPlace ks h = sync-set ks h j o (omega arith) in
     λ i. pick (same (effectOf (e i)) Sync) (suc h) (ih i)
 
-sync-push : (ks : List Numbered) (h : ℕ) (o : Numbered) → h < length ks → syncPlace (set ks h o) (suc h) ≡ pick (same (effectOf o) Sync) (suc h) (syncPlace ks h)
+sync-push : (ks : List Numbered) (h : ℕ) (o : Numbered) → h < length ks →
+    syncPlace (set ks h o) (suc h) ≡ pick (same (effectOf o) Sync) (suc h) (syncPlace ks h)
 unfolding syncPlace
 sync-push ks h o p =
     let e : getD (set ks h o) h noNumbered ≡ o = getD-set-same ks h o noNumbered p in
     let r : syncPlace (set ks h o) h ≡ syncPlace ks h = sync-set ks h h o (omega arith) in
     λ i. pick (same (effectOf (e i)) Sync) (suc h) (r i)
 
-pub synced-push : (places : List ℕ) (ks : List Numbered) (h v place : ℕ) (o : Numbered) → v ≡ pick (same (effectOf o) Sync) (h + 1) place → place ≡ syncPlace ks h → h < length places → h < length ks →
+pub synced-push : (places : List ℕ) (ks : List Numbered) (h v place : ℕ) (o : Numbered) → v ≡ pick (same (effectOf o) Sync) (h + 1) place →
+    place ≡ syncPlace ks h → h < length places → h < length ks →
     Synced places ks h → Synced (set places h v) (set ks h o) (h + 1)
 synced-push places ks h v place o e f p q r j l = elim (ℕ-discrete j h) [
   | yes i ↦

@@ -48,7 +48,9 @@ marked-append fates [] ys = refl
 marked-append fates (x ∷ xs) ys = ap (λ (l : List ℕ). setFate l (x .number) (x .fate)) (marked-append fates xs ys)
 
 -- one more of those from the place a on
-pub voided-more : (fates : List ℕ) (ks : List Numbered) (a d : ℕ) → setFate (marked fates (map (mark 4) (stackFrom ks a d))) (getD ks (a + d) noNumbered .number) 4 ≡ marked fates (map (mark 4) (stackFrom ks a (suc d)))
+pub voided-more : (fates : List ℕ) (ks : List Numbered) (a d : ℕ) →
+    setFate (marked fates (map (mark 4) (stackFrom ks a d))) (getD ks (a + d) noNumbered .number) 4 ≡ marked fates
+    (map (mark 4) (stackFrom ks a (suc d)))
 unfolding marked stackFrom
 voided-more fates ks a d = refl
 
@@ -57,7 +59,8 @@ unfolding marked stackFrom
 voided-none fates ks a = refl
 
 -- ---- step 3
-failed-off : (m : Checked) (o : Numbered) → syncWithinHour (effectiveOf o) (m .kept) ≡ false → failed m o ≡ record { kept = m .kept; marks = mark 5 o ∷ m .marks }
+failed-off : (m : Checked) (o : Numbered) → syncWithinHour (effectiveOf o) (m .kept) ≡ false →
+    failed m o ≡ record { kept = m .kept; marks = mark 5 o ∷ m .marks }
 unfolding failed
 failed-off m o e = rw e
 
@@ -73,48 +76,60 @@ module _ (s : Checking) (o : Numbered) where
 
   pub failed-none : syncPlace (s .kept) (s .height) ≡ 0 → Follows s (withFate s o 5) (λ (m : Checked). failed m o)
   failed-none p m t =
-      let e : syncWithinHour (effectiveOf o) (m .kept) ≡ false = ap (syncWithinHour (effectiveOf o)) (sym (t .stack)) ∙ hour-none (s .kept) (effectiveOf o) (s .height) p in
+      let e : syncWithinHour (effectiveOf o) (m .kept) ≡ false =
+      ap (syncWithinHour (effectiveOf o)) (sym (t .stack)) ∙ hour-none (s .kept) (effectiveOf o) (s .height) p in
       rw (failed-off m o e) (tracks-fate 5 m t)
 
-  pub failed-late : 0 < syncPlace (s .kept) (s .height) → syncWithinHour (effectiveOf o) (getD (s .kept) (syncPlace (s .kept) (s .height) - 1) noNumbered ∷ []) ≡ false → Follows s (withFate s o 5) (λ (m : Checked). failed m o)
+  pub failed-late : 0 < syncPlace (s .kept) (s .height) →
+      syncWithinHour (effectiveOf o) (getD (s .kept) (syncPlace (s .kept) (s .height) - 1) noNumbered ∷ []) ≡ false → Follows s (withFate s o 5)
+      (λ (m : Checked). failed m o)
   failed-late p w m t =
-      let e : syncWithinHour (effectiveOf o) (m .kept) ≡ false = ap (syncWithinHour (effectiveOf o)) (sym (t .stack)) ∙ (hour-some (s .kept) (effectiveOf o) (s .height) p ∙ w) in
+      let e : syncWithinHour (effectiveOf o) (m .kept) ≡ false =
+      ap (syncWithinHour (effectiveOf o)) (sym (t .stack)) ∙ (hour-some (s .kept) (effectiveOf o) (s .height) p ∙ w) in
       rw (failed-off m o e) (tracks-fate 5 m t)
 
-  pub failed-void : 0 < syncPlace (s .kept) (s .height) → syncWithinHour (effectiveOf o) (getD (s .kept) (syncPlace (s .kept) (s .height) - 1) noNumbered ∷ []) ≡ true →
+  pub failed-void : 0 < syncPlace (s .kept) (s .height) →
+      syncWithinHour (effectiveOf o) (getD (s .kept) (syncPlace (s .kept) (s .height) - 1) noNumbered ∷ []) ≡ true →
       Follows s
       (record {
         kept = s .kept;
         height = syncPlace (s .kept) (s .height) - 1;
-        fates = setFate (marked (s .fates) (map (mark 4) (stackFrom (s .kept) (syncPlace (s .kept) (s .height) - 1) (s .height - (syncPlace (s .kept) (s .height) - 1))))) (o .number) 5;
+        fates =
+            setFate (marked (s .fates) (map (mark 4) (stackFrom (s .kept) (syncPlace (s .kept) (s .height) - 1)
+            (s .height - (syncPlace (s .kept) (s .height) - 1))))) (o .number) 5;
       })
       (λ (m : Checked). failed m o)
   unfolding marked
   failed-void p w m t =
-      let e : syncWithinHour (effectiveOf o) (m .kept) ≡ true = ap (syncWithinHour (effectiveOf o)) (sym (t .stack)) ∙ (hour-some (s .kept) (effectiveOf o) (s .height) p ∙ w) in
+      let e : syncWithinHour (effectiveOf o) (m .kept) ≡ true =
+      ap (syncWithinHour (effectiveOf o)) (sym (t .stack)) ∙ (hour-some (s .kept) (effectiveOf o) (s .height) p ∙ w) in
       let voids = stackFrom (s .kept) (syncPlace (s .kept) (s .height) - 1) (s .height - (syncPlace (s .kept) (s .height) - 1)) in
       let f : fromSync (m .kept) ≡ voids = ap fromSync (sym (t .stack)) ∙ from-sync (s .kept) (s .height) p in
       let g : marked (s .fates) (map (mark 4) voids) ≡ marked (replicate instructionPlaces 2) (map (mark 4) (fromSync (m .kept)) ++ m .marks) =
       ap (λ (l : List ℕ). marked l (map (mark 4) voids)) (t .settled)
-      ∙ (sym (marked-append (replicate instructionPlaces 2) (map (mark 4) voids) (m .marks)) ∙ ap (λ (l : List Numbered). marked (replicate instructionPlaces 2) (map (mark 4) l ++ m .marks)) (sym f)) in
+      ∙ (sym (marked-append (replicate instructionPlaces 2) (map (mark 4) voids) (m .marks))
+      ∙ ap (λ (l : List Numbered). marked (replicate instructionPlaces 2) (map (mark 4) l ++ m .marks)) (sym f)) in
       rw (failed-on m o e)
       (record {
         stack = sym (before-sync (s .kept) (s .height)) ∙ ap beforeSync (t .stack);
         settled = ap (λ (l : List ℕ). setFate l (o .number) 5) g;
       })
 
-  pub check-fail : {r : Checking} → same (effectOf o) Fail ≡ true → Follows s r (λ (m : Checked). failed m o) → Follows s r (λ (m : Checked). checkOne m o)
+  pub check-fail : {r : Checking} → same (effectOf o) Fail ≡ true → Follows s r (λ (m : Checked). failed m o) →
+      Follows s r (λ (m : Checked). checkOne m o)
   unfolding checkOne
   check-fail e f m t = let q : checkOne m o ≡ failed m o = rw e in rw q (f m t)
 
-  pub check-repeat : same (effectOf o) Fail ≡ false → repeats o (stackOf (s .kept) (s .height)) ≡ true → Follows s (withFate s o 3) (λ (m : Checked). checkOne m o)
+  pub check-repeat : same (effectOf o) Fail ≡ false → repeats o (stackOf (s .kept) (s .height)) ≡ true →
+      Follows s (withFate s o 3) (λ (m : Checked). checkOne m o)
   unfolding checkOne
   check-repeat n r m t =
       let e : repeats o (m .kept) ≡ true = ap (repeats o) (sym (t .stack)) ∙ r in
       let q : checkOne m o ≡ record { kept = m .kept; marks = mark 3 o ∷ m .marks } = rw (n, e) in
       rw q (tracks-fate 3 m t)
 
-  pub check-keep : s .height < length (s .kept) → same (effectOf o) Fail ≡ false → repeats o (stackOf (s .kept) (s .height)) ≡ false → Follows s (keeping s o) (λ (m : Checked). checkOne m o)
+  pub check-keep : s .height < length (s .kept) → same (effectOf o) Fail ≡ false → repeats o (stackOf (s .kept) (s .height)) ≡ false →
+      Follows s (keeping s o) (λ (m : Checked). checkOne m o)
   unfolding checkOne keeping
   check-keep h n r m t =
       let e : repeats o (m .kept) ≡ false = ap (repeats o) (sym (t .stack)) ∙ r in
@@ -130,11 +145,13 @@ pub check-none : (ks : List Numbered) → Tracks (checking ks 0 (replicate instr
 unfolding check stackOf marked
 check-none ks = record { stack = refl; settled = refl }
 
-pub check-more : (m : Checked) (os : List Numbered) (i : ℕ) → i < length os → check m (take (i + 1) os) ≡ checkOne (check m (take i os)) (getD os i noNumbered)
+pub check-more : (m : Checked) (os : List Numbered) (i : ℕ) → i < length os →
+    check m (take (i + 1) os) ≡ checkOne (check m (take i os)) (getD os i noNumbered)
 check-more m os i h = rw (add-one, take-suc os i noNumbered) (check-last m (take i os) (getD os i noNumbered))
 
 -- ---- the arrays beside the kept ones
-pub noted-push : (f : Numbered → ℕ) (xs : List ℕ) (ks : List Numbered) (h v : ℕ) (o : Numbered) → v ≡ f o → h < length xs → h < length ks → Noted f xs ks h → Noted f (set xs h v) (set ks h o) (h + 1)
+pub noted-push : (f : Numbered → ℕ) (xs : List ℕ) (ks : List Numbered) (h v : ℕ) (o : Numbered) → v ≡ f o → h < length xs → h < length ks →
+    Noted f xs ks h → Noted f (set xs h v) (set ks h o) (h + 1)
 noted-push f xs ks h v o e p q r j l = elim (ℕ-discrete j h) [
   | yes i ↦ rw i (getD-set-same xs h v 0 p ∙ (e ∙ ap f (sym (getD-set-same ks h o noNumbered q))))
   | no i ↦ getD-set-other xs h j v 0 i ∙ (r j (omega arith) ∙ ap f (sym (getD-set-other ks h j o noNumbered i)))
@@ -148,7 +165,8 @@ soon-push times h v b p r j l = elim (ℕ-discrete j h) [
 
 module _ {ks : List Numbered} {h : ℕ} {fates numbers times : List ℕ} {m : Checked} (r : Stepped ks h fates numbers times m) (o : Numbered) where
   -- none is added
-  pub stepped-on : (k : ℕ) (next : List ℕ) → k ≤ h → Follows (checking ks h fates) (checking ks k next) (λ (c : Checked). checkOne c o) → Stepped ks k next numbers times (checkOne m o)
+  pub stepped-on : (k : ℕ) (next : List ℕ) → k ≤ h → Follows (checking ks h fates) (checking ks k next) (λ (c : Checked). checkOne c o) →
+      Stepped ks k next numbers times (checkOne m o)
   stepped-on k next p f = record {
     few = omega (arith, r .few);
     tracks = f m (r .tracks);
@@ -158,7 +176,8 @@ module _ {ks : List Numbered} {h : ℕ} {fates numbers times : List ℕ} {m : Ch
   }
 
   -- o is added, and acts at the time v
-  pub stepped-keep : (v : ℕ) → v ≡ acting o → v < never → h < instructionPlaces → length ks ≡ instructionPlaces → length numbers ≡ instructionPlaces → length times ≡ instructionPlaces →
+  pub stepped-keep : (v : ℕ) → v ≡ acting o → v < never → h < instructionPlaces → length ks ≡ instructionPlaces → length numbers ≡ instructionPlaces →
+      length times ≡ instructionPlaces →
       Follows (checking ks h fates) (keeping (checking ks h fates) o) (λ (c : Checked). checkOne c o) →
       Stepped (set ks h o) (h + 1) fates (set numbers h (o .number)) (set times h v) (checkOne m o)
   unfolding keeping
@@ -186,7 +205,8 @@ pub record Checks (n i count : ℕ) (first items : List Numbered) (places fates 
   pub stepped : Stepped items count fates numbers times (check noneChecked (take i first))
 
 -- none yet
-pub checks-none : (n : ℕ) (first : List Numbered) (places fates numbers times : List ℕ) → n ≤ instructionPlaces → length first ≡ instructionPlaces → length places ≡ instructionPlaces → fates ≡ replicate instructionPlaces 2 →
+pub checks-none : (n : ℕ) (first : List Numbered) (places fates numbers times : List ℕ) → n ≤ instructionPlaces → length first ≡ instructionPlaces →
+    length places ≡ instructionPlaces → fates ≡ replicate instructionPlaces 2 →
     length numbers ≡ instructionPlaces → length times ≡ instructionPlaces → Checks n 0 0 first first places fates numbers times
 checks-none n first places fates numbers times few a b e c d = record {
   few = few;
@@ -200,17 +220,28 @@ checks-none n first places fates numbers times few a b e c d = record {
   times-long = d;
   ahead = λ j p. refl;
   synced = λ j l. absurd (omega arith);
-  stepped = record { few = omega arith; tracks = rw e (check-none first); named = λ j l. absurd (omega arith); timed = λ j l. absurd (omega arith); soon = λ j l. absurd (omega arith) };
+  stepped =
+      record {
+        few = omega arith;
+        tracks = rw e (check-none first);
+        named = λ j l. absurd (omega arith);
+        timed = λ j l. absurd (omega arith);
+        soon = λ j l. absurd (omega arith);
+      };
 }
 
-module _ {n i count : ℕ} {first items : List Numbered} {places fates numbers times : List ℕ} (r : Checks n i count first items places fates numbers times) (h : i < n) where
+module _ {n i count : ℕ} {first items : List Numbered} {places fates numbers times : List ℕ}
+    (r : Checks n i count first items places fates numbers times) (h : i < n) where
   -- the one looked at is still at its place
   checks-next : check noneChecked (take (i + 1) first) ≡ checkOne (check noneChecked (take i first)) (getD items i noNumbered)
-  checks-next = check-more noneChecked first i (omega (arith, r .few, r .first-long)) ∙ ap (checkOne (check noneChecked (take i first))) (sym (r .ahead i (omega arith)))
+  checks-next =
+      check-more noneChecked first i (omega (arith, r .few, r .first-long))
+      ∙ ap (checkOne (check noneChecked (take i first))) (sym (r .ahead i (omega arith)))
 
   -- none is added
   pub checks-on : (k : ℕ) (next : List ℕ) → k ≤ count → length next ≡ instructionPlaces →
-      Follows (checking items count fates) (checking items k next) (λ (m : Checked). checkOne m (getD items i noNumbered)) → Checks n (i + 1) k first items places next numbers times
+      Follows (checking items count fates) (checking items k next) (λ (m : Checked). checkOne m (getD items i noNumbered)) → Checks n (i + 1) k first
+      items places next numbers times
   checks-on k next p l f = record {
     few = r .few;
     on = omega arith;
@@ -227,9 +258,12 @@ module _ {n i count : ℕ} {first items : List Numbered} {places fates numbers t
   }
 
   -- the one looked at is added; it acts at the time v, and `place` are kept up to the latest SYNC
-  pub checks-keep : (v place before : ℕ) → v ≡ acting (getD items i noNumbered) → v < never → place ≡ pick (same (effectOf (getD items i noNumbered)) Sync) (count + 1) before → before ≡ syncPlace items count →
-      Follows (checking items count fates) (keeping (checking items count fates) (getD items i noNumbered)) (λ (m : Checked). checkOne m (getD items i noNumbered)) →
-      Checks n (i + 1) (count + 1) first (set items count (getD items i noNumbered)) (set places count place) fates (set numbers count (getD items i noNumbered .number)) (set times count v)
+  pub checks-keep : (v place before : ℕ) → v ≡ acting (getD items i noNumbered) → v < never →
+      place ≡ pick (same (effectOf (getD items i noNumbered)) Sync) (count + 1) before → before ≡ syncPlace items count →
+      Follows (checking items count fates) (keeping (checking items count fates) (getD items i noNumbered))
+      (λ (m : Checked). checkOne m (getD items i noNumbered)) →
+      Checks n (i + 1) (count + 1) first (set items count (getD items i noNumbered)) (set places count place) fates
+      (set numbers count (getD items i noNumbered .number)) (set times count v)
   checks-keep v place before e b p q f =
       let o = getD items i noNumbered in
       let room : count < instructionPlaces = omega (arith, r .few, r .fewer) in

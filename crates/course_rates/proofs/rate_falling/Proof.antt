@@ -10,14 +10,16 @@ returns : tie.Need-returns
 unfolding listsBy ratesOf
 returns c =
     let s = c .before .before .before .before .before in
-    c .rate-of-ramp .ensures ∙ rate-down (listsBy (s .args .l) (s .args .c)) _ _ _ (c .before .before .before .before .grains-of .ensures .0) (c .before .before .before .in-ramp .ensures) (c .before .before .if1 .taken)
+    c .rate-of-ramp .ensures ∙ rate-down (listsBy (s .args .l) (s .args .c)) _ _ _ (c .before .before .before .before .grains-of .ensures .0)
+    (c .before .before .before .in-ramp .ensures) (c .before .before .if1 .taken)
 
 returns-2 : tie.Need-returns-2
 unfolding listsBy ratesOf
 returns-2 c =
     let s = c .before .before .before .before .before in
     c .rate-of-deload .ensures
-    ∙ rate-deload (listsBy (s .args .l) (s .args .c)) _ _ _ (c .before .before .before .before .grains-of .ensures .0) (c .before .before .before .in-ramp .ensures) (c .before .before .if1 .left)
+    ∙ rate-deload (listsBy (s .args .l) (s .args .c)) _ _ _ (c .before .before .before .before .grains-of .ensures .0)
+    (c .before .before .before .in-ramp .ensures) (c .before .before .if1 .left)
 
 pub rate-falling-spec : {M : Type 1} → statement M
 rate-falling-spec = tie.close (tie.spec (λ c κs. search needs) (λ c κs. search needs) (λ c κs. search needs) returns (λ c κs. search needs) returns-2)

@@ -9,14 +9,20 @@ use Rattle.course_stops.proofs.hold_at.Tie as tie
 
 returns : tie.Need-returns
 returns c =
-    let s = c .before .before in
-    (sym (hold-target (listsBy (s .args .l) (s .args .c)) (grains (s .args .c .target)) (s .args .w) (headed (s .args .up)) (omega arith)), omega arith)
+    let s = c .before .before in (
+      sym (hold-target (listsBy (s .args .l) (s .args .c)) (grains (s .args .c .target)) (s .args .w) (headed (s .args .up)) (omega arith)),
+      omega
+          arith,
+    )
 
 returns-3 : tie.Need-returns-3
 unfolding listsBy
 returns-3 c =
-    let s = c .before .before .before .before .before .before in
-    (c .held-three .ensures .0 ∙ sym (hold-dwell (listsBy (s .args .l) (s .args .c)) (grains (s .args .c .target)) (s .args .w) (λ e. omega arith) (headed (s .args .up)) (omega arith)), omega arith)
+    let s = c .before .before .before .before .before .before in (
+      c .held-three .ensures .0 ∙ sym (hold-dwell (listsBy (s .args .l) (s .args .c)) (grains (s .args .c .target)) (s .args .w) (λ e. omega arith)
+          (headed (s .args .up)) (omega arith)),
+      omega arith,
+    )
 
 pub hold-at-spec : {M : Type 1} → statement M
 hold-at-spec =

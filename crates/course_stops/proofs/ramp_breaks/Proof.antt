@@ -7,7 +7,12 @@ use Rattle.course_stops.proofs.ramp_breaks.Tie as tie
 returns : tie.Need-returns
 returns c =
     let s = c .before .before .before .before in
-    rw (c .«break-stop4» .ensures, c .before .«break-stop3» .ensures, c .before .before .«break-stop2» .ensures, c .before .before .before .break-stop .ensures)
+    rw (
+      c .«break-stop4» .ensures,
+      c .before .«break-stop3» .ensures,
+      c .before .before .«break-stop2» .ensures,
+      c .before .before .before .break-stop .ensures,
+    )
     (four-breaks (headed (s .args .up)) (s .args .v) (s .args .n) (s .args .t3) (s .good .1 .1 .0 .1 .0 .1))
 
 pub ramp-breaks-spec : {M : Type 1} → statement M

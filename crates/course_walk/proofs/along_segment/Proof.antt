@@ -12,13 +12,21 @@ returns : tie.Need-returns
 returns c =
     let s = c .before .before .before .before in
     c .arrived .ensures ∙ ap unknown (c .before .after-rest .ensures)
-    ∙ (λ i. record { place = along-stuck (headed (s .args .up)) (s .args .n) (s .args .p) (s .args .s) (c .before .before .if1 .taken) i; rest = rest-stuck (s .args .n) (s .args .p) (s .args .s) (c .before .before .if1 .taken) i })
+    ∙ (λ i. record {
+      place = along-stuck (headed (s .args .up)) (s .args .n) (s .args .p) (s .args .s) (c .before .before .if1 .taken) i;
+      rest = rest-stuck (s .args .n) (s .args .p) (s .args .s) (c .before .before .if1 .taken) i;
+    })
 
 returns-2 : tie.Need-returns-2
 returns-2 c =
     let s = c .before .before .before .before .before .before in
     c .arrived2 .ensures ∙ ap unknown (c .before .after-short .ensures)
-    ∙ (λ i. record { place = along-short (headed (s .args .up)) (s .args .n) (s .args .p) (s .args .s) (c .before .before .before .before .if1 .left) (c .before .before .if2 .taken) i; rest = rest-short (s .args .n) (s .args .p) (s .args .s) (c .before .before .before .before .if1 .left) (c .before .before .if2 .taken) i })
+    ∙ (λ i. record {
+      place = along-short (headed (s .args .up)) (s .args .n) (s .args .p) (s .args .s) (c .before .before .before .before .if1 .left)
+          (c .before .before .if2 .taken) i;
+      rest =
+          rest-short (s .args .n) (s .args .p) (s .args .s) (c .before .before .before .before .if1 .left) (c .before .before .if2 .taken) i;
+    })
 
 after-run-requires : tie.Need-after-run-requires
 after-run-requires c κs = (omega arith, (full-way _ _ _ (omega arith), c .before .before .before .before .before .pre .1))
@@ -27,7 +35,12 @@ returns-3 : tie.Need-returns-3
 returns-3 c =
     let s = c .before .before .before .before .before .before in
     rw (c .after-run .ensures, c .before .run-seconds .ensures)
-    (λ i. record { place = along-run (headed (s .args .up)) (s .args .n) (s .args .p) (s .args .s) (c .before .before .before .before .if1 .left) (c .before .before .if2 .left) i; rest = rest-run (s .args .n) (s .args .p) (s .args .s) (c .before .before .before .before .if1 .left) (c .before .before .if2 .left) i })
+    (λ i. record {
+      place = along-run (headed (s .args .up)) (s .args .n) (s .args .p) (s .args .s) (c .before .before .before .before .if1 .left)
+          (c .before .before .if2 .left) i;
+      rest =
+          rest-run (s .args .n) (s .args .p) (s .args .s) (c .before .before .before .before .if1 .left) (c .before .before .if2 .left) i;
+    })
 
 pub along-segment-spec : {M : Type 1} → statement M
 along-segment-spec =

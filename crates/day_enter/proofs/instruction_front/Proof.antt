@@ -15,17 +15,29 @@ returns-2 c = c .refuse-instruction2 .ensures ∙ rw (le-ltb _ _ (c .before .bef
 
 returns-3 : tie.Need-returns-3
 unfolding instructionFront
-returns-3 c = c .refuse-instruction3 .ensures ∙ rw (le-ltb _ _ (c .before .before .before .if1 .left), c .before .before .if2 .left, c .before .if3 .taken)
+returns-3 c =
+    c .refuse-instruction3 .ensures ∙ rw (le-ltb _ _ (c .before .before .before .if1 .left), c .before .before .if2 .left, c .before .if3 .taken)
 
 returns-4 : tie.Need-returns-4
 unfolding instructionFront
-returns-4 c = c .refuse-instruction4 .ensures ∙ rw (le-ltb _ _ (c .before .before .before .before .if1 .left), c .before .before .before .if2 .left, c .before .before .if3 .left, le-leb _ _ (c .before .if4 .taken))
+returns-4 c =
+    c .refuse-instruction4 .ensures ∙ rw (
+      le-ltb _ _ (c .before .before .before .before .if1 .left),
+      c .before .before .before .if2 .left,
+      c .before .before .if3 .left,
+      le-leb _ _ (c .before .if4 .taken),
+    )
 
 returns-5 : tie.Need-returns-5
 unfolding instructionFront
 returns-5 c =
     c .read-instruction .ensures
-    ∙ rw (le-ltb _ _ (c .before .before .before .before .before .if1 .left), c .before .before .before .before .if2 .left, c .before .before .before .if3 .left, lt-leb _ _ (c .before .before .if4 .left))
+    ∙ rw (
+      le-ltb _ _ (c .before .before .before .before .before .if1 .left),
+      c .before .before .before .before .if2 .left,
+      c .before .before .before .if3 .left,
+      lt-leb _ _ (c .before .before .if4 .left),
+    )
 
 pub instruction-front-spec : {M : Type 1} → statement M
 instruction-front-spec =

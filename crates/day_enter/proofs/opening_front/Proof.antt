@@ -15,18 +15,30 @@ returns-2 c = c .refuse-opening2 .ensures ∙ rw (le-ltb _ _ (c .before .before 
 
 returns-3 : tie.Need-returns-3
 unfolding openingFront
-returns-3 c = c .refuse-opening3 .ensures ∙ rw (le-ltb _ _ (c .before .before .before .if1 .left), c .before .before .if2 .left, c .before .if3 .taken)
+returns-3 c =
+    c .refuse-opening3 .ensures ∙ rw (le-ltb _ _ (c .before .before .before .if1 .left), c .before .before .if2 .left, c .before .if3 .taken)
 
 returns-4 : tie.Need-returns-4
 unfolding openingFront
-returns-4 c = c .refuse-opening4 .ensures ∙ rw (le-ltb _ _ (c .before .before .before .before .if1 .left), c .before .before .before .if2 .left, c .before .before .if3 .left, c .before .if4 .taken)
+returns-4 c =
+    c .refuse-opening4 .ensures ∙ rw (
+      le-ltb _ _ (c .before .before .before .before .if1 .left),
+      c .before .before .before .if2 .left,
+      c .before .before .if3 .left,
+      c .before .if4 .taken,
+    )
 
 returns-5 : tie.Need-returns-5
 unfolding openingFront
 returns-5 c =
     c .below-maximum .ensures
     ∙ (ap (belowMaximum _) (c .before .read-opening .ensures)
-    ∙ rw (le-ltb _ _ (c .before .before .before .before .before .before .if1 .left), c .before .before .before .before .before .if2 .left, c .before .before .before .before .if3 .left, c .before .before .before .if4 .left))
+    ∙ rw (
+      le-ltb _ _ (c .before .before .before .before .before .before .if1 .left),
+      c .before .before .before .before .before .if2 .left,
+      c .before .before .before .before .if3 .left,
+      c .before .before .before .if4 .left,
+    ))
 
 pub opening-front-spec : {M : Type 1} → statement M
 opening-front-spec =

@@ -19,7 +19,12 @@ returns-3 c = c .refuse-unit3 .ensures ∙ rw (le-ltb _ _ (c .before .before .be
 
 returns-4 : tie.Need-returns-4
 unfolding unitFront
-returns-4 c = c .read-unit .ensures ∙ rw (le-ltb _ _ (c .before .before .before .before .if1 .left), c .before .before .before .if2 .left, c .before .before .if3 .left)
+returns-4 c =
+    c .read-unit .ensures ∙ rw (
+      le-ltb _ _ (c .before .before .before .before .if1 .left),
+      c .before .before .before .if2 .left,
+      c .before .before .if3 .left,
+    )
 
 pub unit-front-spec : {M : Type 1} → statement M
 unit-front-spec =

@@ -25,15 +25,26 @@ returns c =
     let s = c .before .before .before .before .before .before in
     let read = c .before .before .before .instruction-front in
     let no = is-refused (read .result .answer) _ (c .before .before .is-accepted .ensures) (c .before .if1 .taken) in
-    c .refused .ensures ∙ (settle-refused (read .result .answer) _ _ no ∙ instruction-step (foundIn paper) (s .args .day) (s .args .input .now) (read .result) (read .ensures) (s .pre))
+    c .refused .ensures ∙ (settle-refused (read .result .answer) _ _ no
+    ∙ instruction-step (foundIn paper) (s .args .day) (s .args .input .now) (read .result) (read .ensures) (s .pre))
 
 -- an instruction that is taken is one of the first forty
-room : (c : lts.After-instruction (instruction-front-reads.Asked, instruction-front-reads.Learnt, is-accepted-reads.Asked, is-accepted-reads.Learnt, refused-reads.Asked, refused-reads.Learnt, accepted-reads.Asked, accepted-reads.Learnt) reads.Pre reads.Post) →
+room : (c : lts.After-instruction (
+  instruction-front-reads.Asked,
+  instruction-front-reads.Learnt,
+  is-accepted-reads.Asked,
+  is-accepted-reads.Learnt,
+  refused-reads.Asked,
+  refused-reads.Learnt,
+  accepted-reads.Asked,
+  accepted-reads.Learnt,
+) reads.Pre reads.Post) →
     c .before .before .before .before .before .before .args .day .taken .count < instructionPlaces
 room c =
     let s = c .before .before .before .before .before .before in
     let read = c .before .before .before .instruction-front in
-    instruction-room (foundIn paper) (s .args .day) (s .args .input .now) (read .result) (read .ensures) (is-taken (read .result .answer) _ (c .before .before .is-accepted .ensures) (c .before .if1 .left))
+    instruction-room (foundIn paper) (s .args .day) (s .args .input .now) (read .result) (read .ensures)
+    (is-taken (read .result .answer) _ (c .before .before .is-accepted .ensures) (c .before .if1 .left))
 
 mul-instruction : tie.Need-mul-instruction
 mul-instruction c = omega (arith, room c)
@@ -52,7 +63,8 @@ returns-2 c =
     let yes = is-taken (read .result .answer) _ (c .before .before .before .is-accepted .ensures) (c .before .before .if1 .left) in
     let says = instruction-says (foundIn paper) (s .args .day) (s .args .input .now) (read .result) (read .ensures) yes in
     c .accepted .ensures
-    ∙ (rw says (settle-taken (read .result .answer) _ (accept (dayWith (foundIn paper) (s .args .day) 3 (body instructionSize (s .args .input .now))) instructionSize) yes)
+    ∙ (rw says (settle-taken (read .result .answer) _
+    (accept (dayWith (foundIn paper) (s .args .day) 3 (body instructionSize (s .args .input .now))) instructionSize) yes)
     ∙ instruction-step (foundIn paper) (s .args .day) (s .args .input .now) (read .result) (read .ensures) (s .pre))
 
 pub instruction-step-spec : {M : Type 1} → statement M

@@ -16,7 +16,8 @@ returns c =
     let s = c .before .before .before .before .before .before .before in
     let read = c .before .before .before .opening-front in
     let no = is-refused (read .result .answer) _ (c .before .before .is-accepted .ensures) (c .before .if1 .taken) in
-    c .refused .ensures ∙ (settle-refused (read .result .answer) _ _ no ∙ opening-step (foundIn paper) (s .args .day) (s .args .input .now) (read .result) (read .ensures) (s .pre))
+    c .refused .ensures ∙ (settle-refused (read .result .answer) _ _ no
+    ∙ opening-step (foundIn paper) (s .args .day) (s .args .input .now) (read .result) (read .ensures) (s .pre))
 
 returns-2 : tie.Need-returns-2
 unfolding dayWith takenWith
@@ -24,9 +25,12 @@ returns-2 c =
     let s = c .before .before .before .before .before .before .before .before in
     let read = c .before .before .before .before .opening-front in
     let yes = is-taken (read .result .answer) _ (c .before .before .before .is-accepted .ensures) (c .before .before .if1 .left) in
-    let says = c .before .start-of .ensures ∙ ap startOf (opening-says (foundIn paper) (s .args .day) (s .args .input .now) (read .result) (read .ensures) yes) in
+    let says =
+    c .before .start-of .ensures ∙ ap startOf (opening-says (foundIn paper) (s .args .day) (s .args .input .now) (read .result) (read .ensures) yes)
+    in
     c .accepted .ensures
-    ∙ (rw says (settle-taken (read .result .answer) _ (accept (dayWith (foundIn paper) (s .args .day) 2 (body openingSize (s .args .input .now))) openingSize) yes)
+    ∙ (rw says (settle-taken (read .result .answer) _
+    (accept (dayWith (foundIn paper) (s .args .day) 2 (body openingSize (s .args .input .now))) openingSize) yes)
     ∙ opening-step (foundIn paper) (s .args .day) (s .args .input .now) (read .result) (read .ensures) (s .pre))
 
 pub opening-step-spec : {M : Type 1} → statement M

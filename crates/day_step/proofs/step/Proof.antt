@@ -15,7 +15,9 @@ returns-5 : tie.Need-returns-5
 returns-5 c = c .close-step .ensures ∙ close-step (foundIn paper) _ _ (omega arith) (omega arith)
 
 returns-6 : tie.Need-returns-6
-returns-6 c = c .refused2 .ensures ∙ no-kind (foundIn paper) _ _ (omega arith) (no-kinds _ (c .before .match .rest .0 .0 .0 .1) (c .before .match .rest .0 .0 .1) (c .before .match .rest .0 .1) (c .before .match .rest .1))
+returns-6 c =
+    c .refused2 .ensures ∙ no-kind (foundIn paper) _ _ (omega arith)
+    (no-kinds _ (c .before .match .rest .0 .0 .0 .1) (c .before .match .rest .0 .0 .1) (c .before .match .rest .0 .1) (c .before .match .rest .1))
 
 pub step-spec : {M : Type 1} → statement M
 step-spec =

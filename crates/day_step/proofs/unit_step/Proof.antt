@@ -16,7 +16,8 @@ returns c =
     let s = c .before .before .before .before .before .before .before in
     let read = c .before .before .before .before .unit-front in
     let no = is-refused (read .result .answer) _ (c .before .before .is-accepted .ensures) (c .before .if1 .taken) in
-    c .refused .ensures ∙ (settle-refused (read .result .answer) _ _ no ∙ unit-step (foundIn paper) (s .args .day) (s .args .input .now) (read .result) (read .ensures) (s .pre))
+    c .refused .ensures ∙ (settle-refused (read .result .answer) _ _ no
+    ∙ unit-step (foundIn paper) (s .args .day) (s .args .input .now) (read .result) (read .ensures) (s .pre))
 
 returns-2 : tie.Need-returns-2
 unfolding dayWith takenWith
@@ -26,7 +27,8 @@ returns-2 c =
     let yes = is-taken (read .result .answer) _ (c .before .before .is-accepted .ensures) (c .before .if1 .left) in
     let says = unit-says (foundIn paper) (s .args .day) (s .args .input .now) (read .result) (read .ensures) yes in
     c .accepted .ensures
-    ∙ (rw says (settle-taken (read .result .answer) _ (accept (dayWith (foundIn paper) (s .args .day) 1 (body unitSize (s .args .input .now))) unitSize) yes)
+    ∙ (rw says (settle-taken (read .result .answer) _
+    (accept (dayWith (foundIn paper) (s .args .day) 1 (body unitSize (s .args .input .now))) unitSize) yes)
     ∙ unit-step (foundIn paper) (s .args .day) (s .args .input .now) (read .result) (read .ensures) (s .pre))
 
 pub unit-step-spec : {M : Type 1} → statement M

@@ -1,4 +1,5 @@
--- `day_take::take` meets its contract: a walk of its MIR, by hand. `step` and `rest_after` are called, and a `Taken` is made of what they return. All that the proof knows of the two is that each meets its contract.
+-- `day_take::take` meets its contract: a walk of its MIR, by hand. `step` and `rest_after` are called, and a `Taken` is made of what they return. All
+-- that the proof knows of the two is that each meets its contract.
 -- The day, the slice and the step are Copy: what each owns is had again for each use.
 use mathlib.Core.Path.{_≡_, refl, ap, _∙_}
 use Prim.Native.Nat.{ℕ}
@@ -73,7 +74,8 @@ module _ {M : Type 1} (𝓤 : URA M) (H : Heap 𝓤) (A : Atoms 𝓤) (mem : Mem
   abbrev Rst : Contract 𝓤
   Rst = tripleOf 𝓤 H A rest.signature (rest.spec 𝓤 H A mem run)
 
-module _ {M : Type 1} (𝓤 : URA M) (H : Heap 𝓤) (A : Atoms 𝓤) (W : Given 𝓤 H A) (mem : Memory → SProp 𝓤) (run : Routine → Fun 𝓤) (κ : Lft) (q : Share) (d : Day) (s : RefT (List ℕ)) where
+module _ {M : Type 1} (𝓤 : URA M) (H : Heap 𝓤) (A : Atoms 𝓤) (W : Given 𝓤 H A) (mem : Memory → SProp 𝓤) (run : Routine → Fun 𝓤) (κ : Lft) (q : Share)
+    (d : Day) (s : RefT (List ℕ)) where
   abbrev α : NamedLft
   α = namedLft 1 0 tt (κ, tt)
 
@@ -119,7 +121,8 @@ module _ {M : Type 1} (𝓤 : URA M) (H : Heap 𝓤) (A : Atoms 𝓤) (W : Given
   abbrev to-step : Stp 𝓤 H A mem run .Ghost
   to-step = (((κ, tt), (q, tt), tt, (d, (s, tt)), vals), tt)
 
-  goes-step : ent 𝓤 (onEntry 𝓤 H A take.signature (κ, tt) (q, tt) (d, (s, tt)) vals) (sep 𝓤 (Stp 𝓤 H A mem run .pre to-step) (sep 𝓤 (sem 𝓤 H A OwnD) (sem 𝓤 H A OwnS)))
+  goes-step : ent 𝓤 (onEntry 𝓤 H A take.signature (κ, tt) (q, tt) (d, (s, tt)) vals)
+      (sep 𝓤 (Stp 𝓤 H A mem run .pre to-step) (sep 𝓤 (sem 𝓤 H A OwnD) (sem 𝓤 H A OwnS)))
   goes-step =
       qed W ((‵ (flft κ q) ⊛ ‵ ftrue) ∷ ‵ (owns (D.the-row ∷ ShrSlice (named 0) κ u8 ∷ []) (d, (s, tt)) vals) ∷ []) ∵
       move ! (1 ∷ []) $ fsplit ! $ use1 W (‵ OwnD ⊛ ‵ OwnD) (LL.copy D.the-type D′.the-copy 𝓤 H A W .twice d (m ∷ [])) $ split ! $
@@ -127,7 +130,8 @@ module _ {M : Type 1} (𝓤 : URA M) (H : Heap 𝓤) (A : Atoms 𝓤) (W : Given
       move ! (2 ∷ []) $ fsplit ! $ use1 W (‵ OwnS ⊛ ‵ OwnS) (shr-slice-copy 𝓤 H A W (named 0) κ u8 .twice s (v ∷ [])) $ split ! $
       -- [slice; slice; nothing; day; day; token]
       move ! (0 ∷ 2 ∷ []) $ fjoin ! $ move ! (2 ∷ 0 ∷ []) $ fjoin ! $ move ! (3 ∷ 0 ∷ []) $
-      use2 W (raw (Stp 𝓤 H A mem run .pre to-step)) (qed W ((‵ (flft κ q) ⊛ ‵ ftrue) ∷ ‵ (owns (D.the-row ∷ ShrSlice (named 0) κ u8 ∷ []) (d, (s, tt)) vals) ∷ []) ∵ join ! $ frame ! $ done !) $
+      use2 W (raw (Stp 𝓤 H A mem run .pre to-step)) (qed W
+      ((‵ (flft κ q) ⊛ ‵ ftrue) ∷ ‵ (owns (D.the-row ∷ ShrSlice (named 0) κ u8 ∷ []) (d, (s, tt)) vals) ∷ []) ∵ join ! $ frame ! $ done !) $
       frame ! $ move ! (1 ∷ 0 ∷ []) $ done !
 
   step-said : (r : Stepped) → ent 𝓤 (ensured 𝓤 H A step.ended (step.clauses 𝓤 H A mem run) (κ, tt) (d, (s, tt)) tt r) (fact 𝓤 (r ≡ found))
@@ -137,7 +141,9 @@ module _ {M : Type 1} (𝓤 : URA M) (H : Heap 𝓤) (A : Atoms 𝓤) (W : Given
   abbrev to-rest : Stepped → Val → Rst 𝓤 H A mem run .Ghost
   to-rest r u = (((κ, tt), (q, tt), tt, (r, (s, tt)), (u ∷ [], (v ∷ [], tt))), tt)
 
-  goes-rest : (r : Stepped) (u : Val) → ent 𝓤 (⋆ 𝓤 H A (‵ (OwnR r u) ∷ (‵ (flft κ q) ⊛ ‵ ftrue) ∷ ‵ OwnS ∷ [])) (sep 𝓤 (Rst 𝓤 H A mem run .pre (to-rest r u)) (sep 𝓤 (sem 𝓤 H A (OwnR r u)) (sem 𝓤 H A OwnS)))
+  goes-rest : (r : Stepped) (u : Val) →
+      ent 𝓤 (⋆ 𝓤 H A (‵ (OwnR r u) ∷ (‵ (flft κ q) ⊛ ‵ ftrue) ∷ ‵ OwnS ∷ []))
+      (sep 𝓤 (Rst 𝓤 H A mem run .pre (to-rest r u)) (sep 𝓤 (sem 𝓤 H A (OwnR r u)) (sem 𝓤 H A OwnS)))
   goes-rest r u =
       qed W (‵ (OwnR r u) ∷ (‵ (flft κ q) ⊛ ‵ ftrue) ∷ ‵ OwnS ∷ []) ∵
       use1 W (‵ (OwnR r u) ⊛ ‵ (OwnR r u)) (LL.copy S.the-type S′.the-copy 𝓤 H A W .twice r (u ∷ [])) $ split ! $
@@ -145,10 +151,13 @@ module _ {M : Type 1} (𝓤 : URA M) (H : Heap 𝓤) (A : Atoms 𝓤) (W : Given
       move ! (3 ∷ []) $ use1 W (‵ OwnS ⊛ ‵ OwnS) (shr-slice-copy 𝓤 H A W (named 0) κ u8 .twice s (v ∷ [])) $ split ! $
       -- [slice; slice; step; step; token]
       nothing ! $ move ! (1 ∷ 0 ∷ []) $ fjoin ! $ move ! (2 ∷ 0 ∷ []) $ fjoin ! $ move ! (3 ∷ 0 ∷ []) $
-      use2 W (raw (Rst 𝓤 H A mem run .pre (to-rest r u))) (qed W ((‵ (flft κ q) ⊛ ‵ ftrue) ∷ ‵ (owns (S.the-row ∷ ShrSlice (named 0) κ u8 ∷ []) (r, (s, tt)) (u ∷ [], (v ∷ [], tt))) ∷ []) ∵ join ! $ frame ! $ done !) $
+      use2 W (raw (Rst 𝓤 H A mem run .pre (to-rest r u)))
+      (qed W ((‵ (flft κ q) ⊛ ‵ ftrue) ∷ ‵ (owns (S.the-row ∷ ShrSlice (named 0) κ u8 ∷ []) (r, (s, tt)) (u ∷ [], (v ∷ [], tt))) ∷ []) ∵ join ! $
+      frame ! $ done !) $
       frame ! $ move ! (1 ∷ 0 ∷ []) $ done !
 
-  rest-said : (r : Stepped) (x : RefT (List ℕ)) → ent 𝓤 (ensured 𝓤 H A rest.ended (rest.clauses 𝓤 H A mem run) (κ, tt) (r, (s, tt)) tt x) (fact 𝓤 (now x ≡ restAfter r (now s)))
+  rest-said : (r : Stepped) (x : RefT (List ℕ)) →
+      ent 𝓤 (ensured 𝓤 H A rest.ended (rest.clauses 𝓤 H A mem run) (κ, tt) (r, (s, tt)) tt x) (fact 𝓤 (now x ≡ restAfter r (now s)))
   rest-said r x = exE 𝓤 _ (λ ws. snd∗ 𝓤 (sem 𝓤 H A (lasts rest.ended (κ, tt) (r, (s, tt)) ws)) (fact 𝓤 (now x ≡ restAfter r (now s))))
 
   -- the struct's type
@@ -162,7 +171,8 @@ module _ {M : Type 1} (𝓤 : URA M) (H : Heap 𝓤) (A : Atoms 𝓤) (W : Given
       → ent 𝓤 (⋆ 𝓤 H A (‵ (OwnX x w) ∷ (‵ (flft κ q) ⊛ ‵ ftrue) ∷ ‵ (OwnR r u) ∷ ‵ OwnS ∷ ‵ OwnD ∷ [])) (Post (mach u w))
   exits r u x w e e′ =
       qed W (‵ (OwnX x w) ∷ (‵ (flft κ q) ⊛ ‵ ftrue) ∷ ‵ (OwnR r u) ∷ ‵ OwnS ∷ ‵ OwnD ∷ []) ∵
-      suffices ! _ (ends-at 𝓤 H A take.ended stayed (take.clauses 𝓤 H A mem run) W (((κ, tt), (q, tt), tt, (d, (s, tt)), vals), tt) (mach u w) (record { stepped = r; rest = x }) (tt, (tt, tt)) (tt, (tt, tt))) $
+      suffices ! _ (ends-at 𝓤 H A take.ended stayed (take.clauses 𝓤 H A mem run) W (((κ, tt), (q, tt), tt, (d, (s, tt)), vals), tt) (mach u w)
+      (record { stepped = r; rest = x }) (tt, (tt, tt)) (tt, (tt, tt))) $
       says ! (e, e′ ∙ (ap (λ (t : Stepped). restAfter t (now s)) e ∙ rest-is d (now s))) $
       move ! (1 ∷ []) $ frame ! $
       -- [rest; step; slice; day]
@@ -172,8 +182,10 @@ module _ {M : Type 1} (𝓤 : URA M) (H : Heap 𝓤) (A : Atoms 𝓤) (W : Given
       feqI ! (List Val) (mach u w ∷ []) (mach u w ∷ []) refl $ fjoin ! $
       fpack ! (Valss (rows (N .parts))) (within (shape N) (intos (N .parts) (r, (x, tt))) (mach u w ∷ [])) (u ∷ [], (w ∷ [], tt)) $ done !
 
-  module _ (C : Calls 𝓤 H) (Λ : Loops 𝓤 H) (fm : FmC 𝓤 H (W .laws) C) (known-step : Triple 𝓤 (C #day-step·step) (Stp 𝓤 H A mem run)) (known-rest : Triple 𝓤 (C #day-take·rest-after) (Rst 𝓤 H A mem run)) where
-    walk : Is D.the-row d (m ∷ []) → Is (ShrSlice (named 0) κ u8) s (v ∷ []) → ent 𝓤 (onEntry 𝓤 H A take.signature (κ, tt) (q, tt) (d, (s, tt)) vals) (WpFn 𝓤 H C Λ code.function (m ∷ v ∷ []) Post)
+  module _ (C : Calls 𝓤 H) (Λ : Loops 𝓤 H) (fm : FmC 𝓤 H (W .laws) C) (known-step : Triple 𝓤 (C #day-step·step) (Stp 𝓤 H A mem run))
+      (known-rest : Triple 𝓤 (C #day-take·rest-after) (Rst 𝓤 H A mem run)) where
+    walk : Is D.the-row d (m ∷ []) → Is (ShrSlice (named 0) κ u8) s (v ∷ []) →
+        ent 𝓤 (onEntry 𝓤 H A take.signature (κ, tt) (q, tt) (d, (s, tt)) vals) (WpFn 𝓤 H C Λ code.function (m ∷ v ∷ []) Post)
     walk pd ps =
         qed W (raw (onEntry 𝓤 H A take.signature (κ, tt) (q, tt) (d, (s, tt)) vals) ∷ []) ∵ enter ! C Λ code.function (m ∷ v ∷ []) _ $
         alloc1 ! (λ l₀. alloc1 ! (λ l₁. alloc1 ! (λ l₂. alloc1 ! (λ l₃. alloc1 ! (λ l₄. alloc0 ! $ params1 ! $
@@ -181,8 +193,11 @@ module _ {M : Type 1} (𝓤 : URA M) (H : Heap 𝓤) (A : Atoms 𝓤) (W : Given
         pass1 ! (init ! 4 refl (shr-slice-lawful 𝓤 H A W (named 0) κ u8 .typed s (v ∷ []) ps .0)) $ pass0 ! $
         -- [room for _4; …; room for _3; …; _2; …; _1; …; room for _0; …; entry]
         move ! (10 ∷ []) $ use1 W (raw (Stp 𝓤 H A mem run .pre to-step) ⊛ (‵ OwnD ⊛ ‵ OwnS)) goes-step $ split ! $
-        calls-at ! fm (Stp 𝓤 H A mem run) known-step to-step (and-then ! (load ! (from ! (stop !)) (look ! 8 {τ = day-ty} refl)) (and-then ! (load ! (from ! (stop !)) (look ! 6 refl)) (no-more !))) (λ u.
-        use1 W (later (some (λ (r : Stepped). ((‵ (flft κ q) ⊛ ‵ ftrue) ⊛ ‵ (OwnR r u)) ⊛ raw (ensured 𝓤 H A step.ended (step.clauses 𝓤 H A mem run) (κ, tt) (d, (s, tt)) tt r)))) (id⊢ 𝓤 _) $ await ! tt $ pick ! (λ r.
+        calls-at ! fm (Stp 𝓤 H A mem run) known-step to-step
+        (and-then ! (load ! (from ! (stop !)) (look ! 8 {τ = day-ty} refl)) (and-then ! (load ! (from ! (stop !)) (look ! 6 refl)) (no-more !)))
+        (λ u.
+        use1 W (later (some (λ (r : Stepped). ((‵ (flft κ q) ⊛ ‵ ftrue) ⊛ ‵ (OwnR r u)) ⊛ raw
+        (ensured 𝓤 H A step.ended (step.clauses 𝓤 H A mem run) (κ, tt) (d, (s, tt)) tt r)))) (id⊢ 𝓤 _) $ await ! tt $ pick ! (λ r.
         split ! $ move ! (1 ∷ []) $ use1 W (raw (fact 𝓤 (r ≡ found))) (step-said r) $ heard ! (r ≡ found) (λ e. split ! $ move ! (1 ∷ []) $
         -- [step; token; day and slice; room for _4; …]
         peeks ! S.the-row (Is S.the-row) (shows 𝓤 H A S.the-row) r (u ∷ []) (λ is.
@@ -190,31 +205,44 @@ module _ {M : Type 1} (𝓤 : URA M) (H : Heap 𝓤) (A : Atoms 𝓤) (W : Given
         move ! (2 ∷ []) $ split ! $ move ! (2 ∷ 3 ∷ 1 ∷ []) $
         -- [step; token; slice; day; room for _4; …; _3; …; _2; …; _1; …; room for _0; …]
         use3 W (raw (Rst 𝓤 H A mem run .pre (to-rest r u)) ⊛ (‵ (OwnR r u) ⊛ ‵ OwnS)) (goes-rest r u) $ split ! $
-        calls-at ! fm (Rst 𝓤 H A mem run) known-rest (to-rest r u) (and-then ! (load ! (from ! (stop !)) (look ! 5 {τ = step-ty} refl)) (and-then ! (load ! (from ! (stop !)) (look ! 7 refl)) (no-more !))) (λ w.
-        use1 W (later (some (λ (x : RefT (List ℕ)). ((‵ (flft κ q) ⊛ ‵ ftrue) ⊛ ‵ (OwnX x w)) ⊛ raw (ensured 𝓤 H A rest.ended (rest.clauses 𝓤 H A mem run) (κ, tt) (r, (s, tt)) tt x)))) (id⊢ 𝓤 _) $ await ! tt $ pick ! (λ x.
-        split ! $ move ! (1 ∷ []) $ use1 W (raw (fact 𝓤 (now x ≡ restAfter r (now s)))) (rest-said r x) $ heard ! (now x ≡ restAfter r (now s)) (λ e′. split ! $ move ! (1 ∷ []) $
+        calls-at ! fm (Rst 𝓤 H A mem run) known-rest (to-rest r u)
+        (and-then ! (load ! (from ! (stop !)) (look ! 5 {τ = step-ty} refl)) (and-then ! (load ! (from ! (stop !)) (look ! 7 refl)) (no-more !)))
+        (λ w.
+        use1 W (later (some (λ (x : RefT (List ℕ)). ((‵ (flft κ q) ⊛ ‵ ftrue) ⊛ ‵ (OwnX x w)) ⊛ raw
+        (ensured 𝓤 H A rest.ended (rest.clauses 𝓤 H A mem run) (κ, tt) (r, (s, tt)) tt x)))) (id⊢ 𝓤 _) $ await ! tt $ pick ! (λ x.
+        split ! $ move ! (1 ∷ []) $ use1 W (raw (fact 𝓤 (now x ≡ restAfter r (now s)))) (rest-said r x) $ heard ! (now x ≡ restAfter r (now s))
+        (λ e′. split ! $ move ! (1 ∷ []) $
         -- [rest; token; step and slice; day; room for _4; …; _3; …; _2; …; _1; …; room for _0; …]
         peeks ! (ShrSlice (named 0) κ u8) (Is (ShrSlice (named 0) κ u8)) (shows 𝓤 H A (ShrSlice (named 0) κ u8)) x (w ∷ []) (λ is′.
         land ! (from ! (stop !)) (init ! 4 refl (shr-slice-lawful 𝓤 H A W erased κ u8 .typed x (w ∷ []) is′ .0)) $
-        assigns ! (agg ! (and-then ! (load ! (from ! (stop !)) (look ! 6 {τ = step-ty} refl)) (and-then ! (load ! (from ! (stop !)) (look ! 4 refl)) (no-more !)))) (from ! (stop !))
-        (init ! 12 {τ = taken-ty} refl (as-fields (mirs (rows (N .parts))) (u ∷ w ∷ []) (LL.lawful S.the-type S′.the-laws 𝓤 H A W .typed r _ is .0, (shr-slice-lawful 𝓤 H A W (named 0) κ u8 .typed x (w ∷ []) is′ .0, tt)))) $
+        assigns ! (agg ! (and-then ! (load ! (from ! (stop !)) (look ! 6 {τ = step-ty} refl))
+        (and-then ! (load ! (from ! (stop !)) (look ! 4 refl)) (no-more !)))) (from ! (stop !))
+        (init ! 12 {τ = taken-ty} refl (as-fields (mirs (rows (N .parts))) (u ∷ w ∷ [])
+        (LL.lawful S.the-type S′.the-laws 𝓤 H A W .typed r _ is .0, (shr-slice-lawful 𝓤 H A W (named 0) κ u8 .typed x (w ∷ []) is′ .0, tt)))) $
         returns ! (look ! 12 {τ = taken-ty} refl) $ forget ! 4 refl $ forget ! 6 refl $ forget ! 8 refl $ forget ! 10 refl $ forget ! 12 refl $
-        move ! (12 ∷ 13 ∷ []) $ free1 ! $ move ! (10 ∷ 11 ∷ []) $ free1 ! $ move ! (8 ∷ 9 ∷ []) $ free1 ! $ move ! (6 ∷ 7 ∷ []) $ free1 ! $ move ! (4 ∷ 5 ∷ []) $ free1 ! $ free0 ! $
+        move ! (12 ∷ 13 ∷ []) $ free1 ! $ move ! (10 ∷ 11 ∷ []) $ free1 ! $ move ! (8 ∷ 9 ∷ []) $ free1 ! $ move ! (6 ∷ 7 ∷ []) $ free1 ! $ move !
+        (4 ∷ 5 ∷ []) $ free1 ! $ free0 ! $
         move ! (2 ∷ []) $ split ! $ move ! (2 ∷ 3 ∷ []) $ by ! (exits r u x w e e′))))))))))))))
 
 module _ {M : Type 1} (𝓤 : URA M) (H : Heap 𝓤) (A : Atoms 𝓤) (W : Given 𝓤 H A) (mem : Memory → SProp 𝓤) (run : Routine → Fun 𝓤) where
-  take-walks : (C : Calls 𝓤 H) (Λ : Loops 𝓤 H) → FmC 𝓤 H (W .laws) C → Triple 𝓤 (C #day-step·step) (Stp 𝓤 H A mem run) → Triple 𝓤 (C #day-take·rest-after) (Rst 𝓤 H A mem run)
+  take-walks : (C : Calls 𝓤 H) (Λ : Loops 𝓤 H) → FmC 𝓤 H (W .laws) C → Triple 𝓤 (C #day-step·step) (Stp 𝓤 H A mem run) →
+      Triple 𝓤 (C #day-take·rest-after) (Rst 𝓤 H A mem run)
       → Walks 𝓤 H A take.ended stayed (WpFn 𝓤 H C Λ code.function) (take.clauses 𝓤 H A mem run)
   take-walks C Λ fm known-step known-rest = walked 𝓤 H A take.ended stayed (take.clauses 𝓤 H A mem run) (WpFn 𝓤 H C Λ code.function)
       (λ κs. (LL.vals D.the-type D′.the-laws, (slice-vals, tt))) (λ κs. (LL.tells D.the-type D′.the-laws, (shr-slice-tells (named 0) (κs .0) u8, tt)))
-      (λ κs qs bounds a g are. via 𝓤 _ (fst∗ 𝓤 _ (emp 𝓤)) (walk 𝓤 H A W mem run (κs .0) (qs .0) (a .0) (a .1 .0) C Λ fm known-step known-rest (are .0) (are .1 .0)))
+      (λ κs qs bounds a g are. via 𝓤 _ (fst∗ 𝓤 _ (emp 𝓤))
+      (walk 𝓤 H A W mem run (κs .0) (qs .0) (a .0) (a .1 .0) C Λ fm known-step known-rest (are .0) (are .1 .0)))
 
 take-meets : {M : Type 1} (𝓤 : URA M) (H : Heap 𝓤) (A : Atoms 𝓤) (W : Given 𝓤 H A) (mem : Memory → SProp 𝓤) (run : Routine → Fun 𝓤) (𝓣 : Tables 𝓤 H)
     → Triple 𝓤 (𝓣 .C #day-step·step) (Stp 𝓤 H A mem run) → Triple 𝓤 (𝓣 .C #day-take·rest-after) (Rst 𝓤 H A mem run)
     → Meets 𝓤 H A take.signature (WpFn 𝓤 H (𝓣 .C) (𝓣 .Λ) code.function) (take.spec 𝓤 H A mem run)
 take-meets 𝓤 H A W mem run 𝓣 known-step known-rest =
-    walk-meets 𝓤 H A take.ended stayed W (goes-none 𝓤 H A W 1 (λ _. D.the-row) yes (λ κs x f. refl), (goes-none-slice 𝓤 H A W 1 (0 ∷ []) tt (plain (λ _. u8)) yes, tt)) (take.clauses 𝓤 H A mem run)
-    (WpFn 𝓤 H (𝓣 .C) (𝓣 .Λ) code.function) (WpFn-mono 𝓤 H (W .laws) 𝓣 code.function) (take-walks 𝓤 H A W mem run (𝓣 .C) (𝓣 .Λ) (fmOf 𝓤 H (W .laws) 𝓣) known-step known-rest)
+    walk-meets 𝓤 H A take.ended stayed W (
+      goes-none 𝓤 H A W 1 (λ _. D.the-row) yes (λ κs x f. refl),
+      (goes-none-slice 𝓤 H A W 1 (0 ∷ []) tt (plain (λ _. u8)) yes, tt),
+    ) (take.clauses 𝓤 H A mem run)
+    (WpFn 𝓤 H (𝓣 .C) (𝓣 .Λ) code.function) (WpFn-mono 𝓤 H (W .laws) 𝓣 code.function)
+    (take-walks 𝓤 H A W mem run (𝓣 .C) (𝓣 .Λ) (fmOf 𝓤 H (W .laws) 𝓣) known-step known-rest)
 
 pub take-spec : {M : Type 1} → stated.statement M
 unfolding code.routine tablesOf
@@ -223,4 +251,5 @@ take-spec 𝓤 H 𝓜 𝓖 𝓡 =
     (tables 𝓤 H 𝓜 𝓡 code.env .C) (tables 𝓤 H 𝓜 𝓡 code.env .Λ) #day-take·take code.function (code.unfolded 𝓤 H 𝓜 𝓡)
     (take-meets 𝓤 H (𝓖 .A) (givenOf 𝓤 H 𝓜 𝓖) (𝓜 .mem) (𝓡 .run) (tablesOf 𝓤 H 𝓜 (tables 𝓤 H 𝓜 𝓡 code.env))
     (cited 𝓤 H (Stp 𝓤 H (𝓖 .A) (𝓜 .mem) (𝓡 .run)) 𝓜 𝓡 code.env #day-step·step step-def.routine code.calls-day-step·step (step-thm.met 𝓤 H 𝓜 𝓖 𝓡))
-    (cited 𝓤 H (Rst 𝓤 H (𝓖 .A) (𝓜 .mem) (𝓡 .run)) 𝓜 𝓡 code.env #day-take·rest-after rest-def.routine code.calls-day-take·rest-after (rest-thm.met 𝓤 H 𝓜 𝓖 𝓡)))
+    (cited 𝓤 H (Rst 𝓤 H (𝓖 .A) (𝓜 .mem) (𝓡 .run)) 𝓜 𝓡 code.env #day-take·rest-after rest-def.routine code.calls-day-take·rest-after
+    (rest-thm.met 𝓤 H 𝓜 𝓖 𝓡)))

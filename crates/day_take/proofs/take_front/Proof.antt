@@ -1,4 +1,5 @@
--- `day_take::take_front` meets its contract: a walk of its MIR, by hand. The `Taken` that `take` returns is held in a local and passed to `apart`. All that the proof knows of the two is that each meets its contract.
+-- `day_take::take_front` meets its contract: a walk of its MIR, by hand. The `Taken` that `take` returns is held in a local and passed to `apart`.
+-- All that the proof knows of the two is that each meets its contract.
 -- The day and the slice are Copy: what each owns is had again for each use.
 use mathlib.Core.Path.{_≡_, refl, ap, _∙_}
 use Prim.Native.Nat.{ℕ}
@@ -77,7 +78,8 @@ module _ {M : Type 1} (𝓤 : URA M) (H : Heap 𝓤) (A : Atoms 𝓤) (mem : Mem
   abbrev Apt : Contract 𝓤
   Apt = tripleOf 𝓤 H A apart.signature (apart.spec 𝓤 H A mem run)
 
-module _ {M : Type 1} (𝓤 : URA M) (H : Heap 𝓤) (A : Atoms 𝓤) (W : Given 𝓤 H A) (mem : Memory → SProp 𝓤) (run : Routine → Fun 𝓤) (κ : Lft) (q : Share) (d : Day) (s : RefT (List ℕ)) where
+module _ {M : Type 1} (𝓤 : URA M) (H : Heap 𝓤) (A : Atoms 𝓤) (W : Given 𝓤 H A) (mem : Memory → SProp 𝓤) (run : Routine → Fun 𝓤) (κ : Lft) (q : Share)
+    (d : Day) (s : RefT (List ℕ)) where
   -- the struct's lifetime as a local of a body has it
   abbrev αᵉ : NamedLft
   αᵉ = record { mir = erased; lft = κ }
@@ -124,7 +126,8 @@ module _ {M : Type 1} (𝓤 : URA M) (H : Heap 𝓤) (A : Atoms 𝓤) (W : Given
   abbrev to-take : Tak 𝓤 H A mem run .Ghost
   to-take = (((κ, tt), (q, tt), tt, (d, (s, tt)), vals), tt)
 
-  goes-take : ent 𝓤 (onEntry 𝓤 H A front.signature (κ, tt) (q, tt) (d, (s, tt)) vals) (sep 𝓤 (Tak 𝓤 H A mem run .pre to-take) (sep 𝓤 (sem 𝓤 H A OwnD) (sem 𝓤 H A OwnS)))
+  goes-take : ent 𝓤 (onEntry 𝓤 H A front.signature (κ, tt) (q, tt) (d, (s, tt)) vals)
+      (sep 𝓤 (Tak 𝓤 H A mem run .pre to-take) (sep 𝓤 (sem 𝓤 H A OwnD) (sem 𝓤 H A OwnS)))
   goes-take =
       qed W ((‵ (flft κ q) ⊛ ‵ ftrue) ∷ ‵ (owns (D.the-row ∷ ShrSlice (named 0) κ u8 ∷ []) (d, (s, tt)) vals) ∷ []) ∵
       move ! (1 ∷ []) $ fsplit ! $ use1 W (‵ OwnD ⊛ ‵ OwnD) (LL.copy D.the-type D′.the-copy 𝓤 H A W .twice d (m ∷ [])) $ split ! $
@@ -132,7 +135,8 @@ module _ {M : Type 1} (𝓤 : URA M) (H : Heap 𝓤) (A : Atoms 𝓤) (W : Given
       move ! (2 ∷ []) $ fsplit ! $ use1 W (‵ OwnS ⊛ ‵ OwnS) (shr-slice-copy 𝓤 H A W (named 0) κ u8 .twice s (v ∷ [])) $ split ! $
       -- [slice; slice; nothing; day; day; token]
       move ! (0 ∷ 2 ∷ []) $ fjoin ! $ move ! (2 ∷ 0 ∷ []) $ fjoin ! $ move ! (3 ∷ 0 ∷ []) $
-      use2 W (raw (Tak 𝓤 H A mem run .pre to-take)) (qed W ((‵ (flft κ q) ⊛ ‵ ftrue) ∷ ‵ (owns (D.the-row ∷ ShrSlice (named 0) κ u8 ∷ []) (d, (s, tt)) vals) ∷ []) ∵ join ! $ frame ! $ done !) $
+      use2 W (raw (Tak 𝓤 H A mem run .pre to-take)) (qed W
+      ((‵ (flft κ q) ⊛ ‵ ftrue) ∷ ‵ (owns (D.the-row ∷ ShrSlice (named 0) κ u8 ∷ []) (d, (s, tt)) vals) ∷ []) ∵ join ! $ frame ! $ done !) $
       frame ! $ move ! (1 ∷ 0 ∷ []) $ done !
 
   take-said : (t : Taken) → ent 𝓤 (ensured 𝓤 H A take.ended (take.clauses 𝓤 H A mem run) (κ, tt) (d, (s, tt)) tt t) (fact 𝓤 (Said t))
@@ -145,31 +149,41 @@ module _ {M : Type 1} (𝓤 : URA M) (H : Heap 𝓤) (A : Atoms 𝓤) (W : Given
   abbrev to-apart : Taken → Val → Apt 𝓤 H A mem run .Ghost
   to-apart t u = (((κ, tt), (q, tt), tt, (t, (s, tt)), (u ∷ [], (v ∷ [], tt))), tt)
 
-  goes-apart : (t : Taken) (u : Val) → ent 𝓤 (⋆ 𝓤 H A (‵ (OwnT t u) ∷ (‵ (flft κ q) ⊛ ‵ ftrue) ∷ ‵ OwnS ∷ [])) (sep 𝓤 (Apt 𝓤 H A mem run .pre (to-apart t u)) (sem 𝓤 H A OwnS))
+  goes-apart : (t : Taken) (u : Val) →
+      ent 𝓤 (⋆ 𝓤 H A (‵ (OwnT t u) ∷ (‵ (flft κ q) ⊛ ‵ ftrue) ∷ ‵ OwnS ∷ [])) (sep 𝓤 (Apt 𝓤 H A mem run .pre (to-apart t u)) (sem 𝓤 H A OwnS))
   goes-apart t u =
       qed W (‵ (OwnT t u) ∷ (‵ (flft κ q) ⊛ ‵ ftrue) ∷ ‵ OwnS ∷ []) ∵
       move ! (2 ∷ []) $ use1 W (‵ OwnS ⊛ ‵ OwnS) (shr-slice-copy 𝓤 H A W (named 0) κ u8 .twice s (v ∷ [])) $ split ! $
       -- [slice; slice; struct; token]
       nothing ! $ move ! (1 ∷ 0 ∷ []) $ fjoin ! $ move ! (2 ∷ 0 ∷ []) $ fjoin ! $ move ! (2 ∷ 0 ∷ []) $
-      use2 W (raw (Apt 𝓤 H A mem run .pre (to-apart t u))) (qed W ((‵ (flft κ q) ⊛ ‵ ftrue) ∷ ‵ (owns (B (κ, tt) ∷ ShrSlice (named 0) κ u8 ∷ []) (t, (s, tt)) (u ∷ [], (v ∷ [], tt))) ∷ []) ∵ join ! $ frame ! $ done !) $
+      use2 W (raw (Apt 𝓤 H A mem run .pre (to-apart t u)))
+      (qed W ((‵ (flft κ q) ⊛ ‵ ftrue) ∷ ‵ (owns (B (κ, tt) ∷ ShrSlice (named 0) κ u8 ∷ []) (t, (s, tt)) (u ∷ [], (v ∷ [], tt))) ∷ []) ∵ join ! $
+      frame ! $ done !) $
       frame ! $ done !
 
-  apart-said : (t : Taken) (r : Stepped) → ent 𝓤 (ensured 𝓤 H A apart.ended (apart.clauses 𝓤 H A mem run) (κ, tt) (t, (s, tt)) tt r) (fact 𝓤 (r ≡ counted t))
+  apart-said : (t : Taken) (r : Stepped) →
+      ent 𝓤 (ensured 𝓤 H A apart.ended (apart.clauses 𝓤 H A mem run) (κ, tt) (t, (s, tt)) tt r) (fact 𝓤 (r ≡ counted t))
   apart-said t r = exE 𝓤 _ (λ ws. snd∗ 𝓤 (sem 𝓤 H A (lasts apart.ended (κ, tt) (t, (s, tt)) ws)) (fact 𝓤 (r ≡ counted t)))
 
-  exits : (r : Stepped) (u : Val) → r ≡ found → ent 𝓤 (⋆ 𝓤 H A (‵ (S.the-row .own r (u ∷ [])) ∷ (‵ (flft κ q) ⊛ ‵ ftrue) ∷ ‵ OwnS ∷ ‵ OwnD ∷ [])) (Post u)
+  exits : (r : Stepped) (u : Val) → r ≡ found →
+      ent 𝓤 (⋆ 𝓤 H A (‵ (S.the-row .own r (u ∷ [])) ∷ (‵ (flft κ q) ⊛ ‵ ftrue) ∷ ‵ OwnS ∷ ‵ OwnD ∷ [])) (Post u)
   exits r u e =
       qed W (‵ (S.the-row .own r (u ∷ [])) ∷ (‵ (flft κ q) ⊛ ‵ ftrue) ∷ ‵ OwnS ∷ ‵ OwnD ∷ []) ∵
-      suffices ! _ (ends-at 𝓤 H A front.ended stayed (front.clauses 𝓤 H A mem run) W (((κ, tt), (q, tt), tt, (d, (s, tt)), vals), tt) u r (tt, (tt, tt)) (tt, (tt, tt))) $ says ! e $
+      suffices ! _ (ends-at 𝓤 H A front.ended stayed (front.clauses 𝓤 H A mem run) W (((κ, tt), (q, tt), tt, (d, (s, tt)), vals), tt) u r
+      (tt, (tt, tt)) (tt, (tt, tt))) $ says ! e $
       -- [result; slice; day]
       move ! (1 ∷ []) $ frame ! $ nothing ! $ move ! (2 ∷ 0 ∷ []) $ fjoin ! $ move ! (2 ∷ 0 ∷ []) $ fjoin ! $ frame ! $ done !
 
   -- the step by the rest is the step
   same : (t : Taken) → Said t → counted t ≡ found
-  same t e = ap (λ (l : List ℕ). countedBy (t .stepped) l (now s)) (e .1) ∙ (ap (λ (r : Stepped). countedBy r (dropped (found .used) (now s)) (now s)) (e .0) ∙ counted-is d (now s))
+  same t e =
+      ap (λ (l : List ℕ). countedBy (t .stepped) l (now s)) (e .1)
+      ∙ (ap (λ (r : Stepped). countedBy r (dropped (found .used) (now s)) (now s)) (e .0) ∙ counted-is d (now s))
 
-  module _ (C : Calls 𝓤 H) (Λ : Loops 𝓤 H) (fm : FmC 𝓤 H (W .laws) C) (known-take : Triple 𝓤 (C #day-take·take) (Tak 𝓤 H A mem run)) (known-apart : Triple 𝓤 (C #day-take·apart) (Apt 𝓤 H A mem run)) where
-    walk : Is D.the-row d (m ∷ []) → Is (ShrSlice (named 0) κ u8) s (v ∷ []) → ent 𝓤 (onEntry 𝓤 H A front.signature (κ, tt) (q, tt) (d, (s, tt)) vals) (WpFn 𝓤 H C Λ code.function (m ∷ v ∷ []) Post)
+  module _ (C : Calls 𝓤 H) (Λ : Loops 𝓤 H) (fm : FmC 𝓤 H (W .laws) C) (known-take : Triple 𝓤 (C #day-take·take) (Tak 𝓤 H A mem run))
+      (known-apart : Triple 𝓤 (C #day-take·apart) (Apt 𝓤 H A mem run)) where
+    walk : Is D.the-row d (m ∷ []) → Is (ShrSlice (named 0) κ u8) s (v ∷ []) →
+        ent 𝓤 (onEntry 𝓤 H A front.signature (κ, tt) (q, tt) (d, (s, tt)) vals) (WpFn 𝓤 H C Λ code.function (m ∷ v ∷ []) Post)
     walk pd ps =
         qed W (raw (onEntry 𝓤 H A front.signature (κ, tt) (q, tt) (d, (s, tt)) vals) ∷ []) ∵ enter ! C Λ code.function (m ∷ v ∷ []) _ $
         alloc1 ! (λ l₀. alloc1 ! (λ l₁. alloc1 ! (λ l₂. alloc1 ! (λ l₃. alloc0 ! $ params1 ! $
@@ -177,8 +191,11 @@ module _ {M : Type 1} (𝓤 : URA M) (H : Heap 𝓤) (A : Atoms 𝓤) (W : Given
         pass1 ! (init ! 2 refl (shr-slice-lawful 𝓤 H A W (named 0) κ u8 .typed s (v ∷ []) ps .0)) $ pass0 ! $
         -- [room for _3; …; _2; …; _1; …; room for _0; …; entry]
         move ! (8 ∷ []) $ use1 W (raw (Tak 𝓤 H A mem run .pre to-take) ⊛ (‵ OwnD ⊛ ‵ OwnS)) goes-take $ split ! $
-        calls-at ! fm (Tak 𝓤 H A mem run) known-take to-take (and-then ! (load ! (from ! (stop !)) (look ! 6 {τ = day-ty} refl)) (and-then ! (load ! (from ! (stop !)) (look ! 4 refl)) (no-more !))) (λ u.
-        use1 W (later (some (λ (t : Taken). ((‵ (flft κ q) ⊛ ‵ ftrue) ⊛ ‵ (OwnT t u)) ⊛ raw (ensured 𝓤 H A take.ended (take.clauses 𝓤 H A mem run) (κ, tt) (d, (s, tt)) tt t)))) (id⊢ 𝓤 _) $ await ! tt $ pick ! (λ t.
+        calls-at ! fm (Tak 𝓤 H A mem run) known-take to-take
+        (and-then ! (load ! (from ! (stop !)) (look ! 6 {τ = day-ty} refl)) (and-then ! (load ! (from ! (stop !)) (look ! 4 refl)) (no-more !)))
+        (λ u.
+        use1 W (later (some (λ (t : Taken). ((‵ (flft κ q) ⊛ ‵ ftrue) ⊛ ‵ (OwnT t u)) ⊛ raw
+        (ensured 𝓤 H A take.ended (take.clauses 𝓤 H A mem run) (κ, tt) (d, (s, tt)) tt t)))) (id⊢ 𝓤 _) $ await ! tt $ pick ! (λ t.
         split ! $ move ! (1 ∷ []) $ use1 W (raw (fact 𝓤 (Said t))) (take-said t) $ heard ! (Said t) (λ e. split ! $ move ! (1 ∷ []) $
         -- [struct; token; day and slice; room for _3; …]
         peeks ! (B (κ, tt)) (Is (B (κ, tt))) (shows 𝓤 H A (B (κ, tt))) t (u ∷ []) (λ is.
@@ -186,9 +203,13 @@ module _ {M : Type 1} (𝓤 : URA M) (H : Heap 𝓤) (A : Atoms 𝓤) (W : Given
         move ! (2 ∷ []) $ split ! $ move ! (2 ∷ 3 ∷ 1 ∷ []) $
         -- [struct; token; slice; day; _3; …; _2; …; _1; …; room for _0; …]
         use3 W (raw (Apt 𝓤 H A mem run .pre (to-apart t u)) ⊛ ‵ OwnS) (goes-apart t u) $ split ! $
-        calls-at ! fm (Apt 𝓤 H A mem run) known-apart (to-apart t u) (and-then ! (load ! (from ! (stop !)) (look ! 3 {τ = taken-ty} refl)) (and-then ! (load ! (from ! (stop !)) (look ! 5 refl)) (no-more !))) (λ u′.
-        use1 W (later (some (λ (r : Stepped). ((‵ (flft κ q) ⊛ ‵ ftrue) ⊛ ‵ (S.the-row .own r (u′ ∷ []))) ⊛ raw (ensured 𝓤 H A apart.ended (apart.clauses 𝓤 H A mem run) (κ, tt) (t, (s, tt)) tt r)))) (id⊢ 𝓤 _) $ await ! tt $ pick ! (λ r.
-        split ! $ move ! (1 ∷ []) $ use1 W (raw (fact 𝓤 (r ≡ counted t))) (apart-said t r) $ heard ! (r ≡ counted t) (λ e′. split ! $ move ! (1 ∷ []) $
+        calls-at ! fm (Apt 𝓤 H A mem run) known-apart (to-apart t u)
+        (and-then ! (load ! (from ! (stop !)) (look ! 3 {τ = taken-ty} refl)) (and-then ! (load ! (from ! (stop !)) (look ! 5 refl)) (no-more !)))
+        (λ u′.
+        use1 W (later (some (λ (r : Stepped). ((‵ (flft κ q) ⊛ ‵ ftrue) ⊛ ‵ (S.the-row .own r (u′ ∷ []))) ⊛ raw
+        (ensured 𝓤 H A apart.ended (apart.clauses 𝓤 H A mem run) (κ, tt) (t, (s, tt)) tt r)))) (id⊢ 𝓤 _) $ await ! tt $ pick ! (λ r.
+        split ! $ move ! (1 ∷ []) $ use1 W (raw (fact 𝓤 (r ≡ counted t))) (apart-said t r) $ heard ! (r ≡ counted t)
+        (λ e′. split ! $ move ! (1 ∷ []) $
         -- [result; token; slice; day; _3; …; _2; …; _1; …; room for _0; …]
         peeks ! S.the-row (Is S.the-row) (shows 𝓤 H A S.the-row) r (u′ ∷ []) (λ is′.
         land ! (from ! (stop !)) (init ! 10 {τ = step-ty} refl (LL.lawful S.the-type S′.the-laws 𝓤 H A W .typed r _ is′ .0)) $
@@ -197,18 +218,24 @@ module _ {M : Type 1} (𝓤 : URA M) (H : Heap 𝓤) (A : Atoms 𝓤) (W : Given
         by ! (exits r u′ (e′ ∙ same t e))))))))))))))
 
 module _ {M : Type 1} (𝓤 : URA M) (H : Heap 𝓤) (A : Atoms 𝓤) (W : Given 𝓤 H A) (mem : Memory → SProp 𝓤) (run : Routine → Fun 𝓤) where
-  front-walks : (C : Calls 𝓤 H) (Λ : Loops 𝓤 H) → FmC 𝓤 H (W .laws) C → Triple 𝓤 (C #day-take·take) (Tak 𝓤 H A mem run) → Triple 𝓤 (C #day-take·apart) (Apt 𝓤 H A mem run)
+  front-walks : (C : Calls 𝓤 H) (Λ : Loops 𝓤 H) → FmC 𝓤 H (W .laws) C → Triple 𝓤 (C #day-take·take) (Tak 𝓤 H A mem run) →
+      Triple 𝓤 (C #day-take·apart) (Apt 𝓤 H A mem run)
       → Walks 𝓤 H A front.ended stayed (WpFn 𝓤 H C Λ code.function) (front.clauses 𝓤 H A mem run)
   front-walks C Λ fm known-take known-apart = walked 𝓤 H A front.ended stayed (front.clauses 𝓤 H A mem run) (WpFn 𝓤 H C Λ code.function)
       (λ κs. (LL.vals D.the-type D′.the-laws, (slice-vals, tt))) (λ κs. (LL.tells D.the-type D′.the-laws, (shr-slice-tells (named 0) (κs .0) u8, tt)))
-      (λ κs qs bounds a g are. via 𝓤 _ (fst∗ 𝓤 _ (emp 𝓤)) (walk 𝓤 H A W mem run (κs .0) (qs .0) (a .0) (a .1 .0) C Λ fm known-take known-apart (are .0) (are .1 .0)))
+      (λ κs qs bounds a g are. via 𝓤 _ (fst∗ 𝓤 _ (emp 𝓤))
+      (walk 𝓤 H A W mem run (κs .0) (qs .0) (a .0) (a .1 .0) C Λ fm known-take known-apart (are .0) (are .1 .0)))
 
 front-meets : {M : Type 1} (𝓤 : URA M) (H : Heap 𝓤) (A : Atoms 𝓤) (W : Given 𝓤 H A) (mem : Memory → SProp 𝓤) (run : Routine → Fun 𝓤) (𝓣 : Tables 𝓤 H)
     → Triple 𝓤 (𝓣 .C #day-take·take) (Tak 𝓤 H A mem run) → Triple 𝓤 (𝓣 .C #day-take·apart) (Apt 𝓤 H A mem run)
     → Meets 𝓤 H A front.signature (WpFn 𝓤 H (𝓣 .C) (𝓣 .Λ) code.function) (front.spec 𝓤 H A mem run)
 front-meets 𝓤 H A W mem run 𝓣 known-take known-apart =
-    walk-meets 𝓤 H A front.ended stayed W (goes-none 𝓤 H A W 1 (λ _. D.the-row) yes (λ κs x f. refl), (goes-none-slice 𝓤 H A W 1 (0 ∷ []) tt (plain (λ _. u8)) yes, tt)) (front.clauses 𝓤 H A mem run)
-    (WpFn 𝓤 H (𝓣 .C) (𝓣 .Λ) code.function) (WpFn-mono 𝓤 H (W .laws) 𝓣 code.function) (front-walks 𝓤 H A W mem run (𝓣 .C) (𝓣 .Λ) (fmOf 𝓤 H (W .laws) 𝓣) known-take known-apart)
+    walk-meets 𝓤 H A front.ended stayed W (
+      goes-none 𝓤 H A W 1 (λ _. D.the-row) yes (λ κs x f. refl),
+      (goes-none-slice 𝓤 H A W 1 (0 ∷ []) tt (plain (λ _. u8)) yes, tt),
+    ) (front.clauses 𝓤 H A mem run)
+    (WpFn 𝓤 H (𝓣 .C) (𝓣 .Λ) code.function) (WpFn-mono 𝓤 H (W .laws) 𝓣 code.function)
+    (front-walks 𝓤 H A W mem run (𝓣 .C) (𝓣 .Λ) (fmOf 𝓤 H (W .laws) 𝓣) known-take known-apart)
 
 pub take-front-spec : {M : Type 1} → stated.statement M
 unfolding code.routine tablesOf

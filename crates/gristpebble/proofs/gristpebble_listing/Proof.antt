@@ -49,25 +49,37 @@ returns c =
     let more = c .before .before .before .before .before .before .before .loop-test .taken in
     let read = c .before .before .before .before .unit-front in
     let no = is-refused (read .result .answer) _ (c .before .before .is-accepted .ensures) (c .before .if1 .taken) in
-    let step = unit-step (foundIn paper) (openDay (l .t)) (l .rest .now) (read .result) (read .ensures) (omega (arith, c .before .before .before .before .before .match)) in
+    let step =
+    unit-step (foundIn paper) (openDay (l .t)) (l .rest .now) (read .result) (read .ensures)
+    (omega (arith, c .before .before .before .before .before .match)) in
     let s = c .before .before .before .before .before .before .before .before .before .before .before .before in
-    let e = ran-refused (s .args .input .now) (s .args .out .now) (record { answer = read .result .answer; day = openDay (l .t) }) (stops (openDay (l .t)) (l .rest .now) more (read .result .answer) (next 1 unitSize (l .t) (l .rest .now)) unitSize step no ∙ l .inv .1) no in
+    let e =
+    ran-refused (s .args .input .now) (s .args .out .now) (record { answer = read .result .answer; day = openDay (l .t) })
+    (stops (openDay (l .t)) (l .rest .now) more (read .result .answer) (next 1 unitSize (l .t) (l .rest .now)) unitSize step no ∙ l .inv .1) no in
     (c .answer-result .ensures ∙ e .0, l .inv .0 ∙ e .1)
 
 -- a unit is taken
 unit-in : (c : tie.Else1 Inv-loop μ-loop) →
     let l = c .before .before .before .before .before .before .before .loop in
     let r = c .before .before .before .unit-front .result in
-    (unitSize ≤ length (l .rest .now)) × (from (openDay (l .t)) (l .rest .now) ≡ from (next 1 unitSize (l .t) (l .rest .now)) (take (length (l .rest .now) - unitSize) (drop unitSize (l .rest .now)))) × (r .unit ≡ unitOf (numbers (body unitSize (l .rest .now)) 62))
+    (unitSize ≤ length (l .rest .now)) × (from (openDay (l .t)) (l .rest .now) ≡ from (next 1 unitSize (l .t) (l .rest .now))
+    (take (length (l .rest .now) - unitSize) (drop unitSize (l .rest .now)))) × (r .unit ≡ unitOf (numbers (body unitSize (l .rest .now)) 62))
 unfolding dayWith takenWith
 unit-in c =
     let l = c .before .before .before .before .before .before .before .loop in
     let more = c .before .before .before .before .before .before .loop-test .taken in
     let read = c .before .before .before .unit-front in
     let yes = is-taken (read .result .answer) _ (c .before .is-accepted .ensures) (c .if1 .left) in
-    let step = unit-step (foundIn paper) (openDay (l .t)) (l .rest .now) (read .result) (read .ensures) (omega (arith, c .before .before .before .before .match)) in
-    let e = next 1 unitSize (l .t) (l .rest .now) in
-    (fits (openDay (l .t)) (l .rest .now) more (read .result .answer) e unitSize step yes, goes-on (openDay (l .t)) (l .rest .now) more (read .result .answer) e unitSize step yes (omega arith) refl, unit-says (foundIn paper) (openDay (l .t)) (l .rest .now) (read .result) (read .ensures) yes)
+    let step =
+    unit-step (foundIn paper) (openDay (l .t)) (l .rest .now) (read .result) (read .ensures) (omega (arith, c .before .before .before .before .match))
+    in
+    let e = next 1 unitSize (l .t) (l .rest .now) in (
+      fits (openDay (l .t)) (l .rest .now) more (read .result .answer) e unitSize step yes,
+      goes-on (openDay (l .t)) (l .rest .now) more
+          (read .result .answer) e unitSize step yes (omega arith) refl,
+      unit-says (foundIn paper) (openDay (l .t)) (l .rest .now) (read .result)
+          (read .ensures) yes,
+    )
 
 sub-rest : tie.Need-sub-rest Inv-loop μ-loop
 sub-rest c = omega (arith, unit-in (c) .0)
@@ -96,25 +108,38 @@ returns-2 c =
     let more = c .before .before .before .before .before .before .before .loop-test .taken in
     let read = c .before .before .before .opening-front in
     let no = is-refused (read .result .answer) _ (c .before .before .is-accepted2 .ensures) (c .before .if2 .taken) in
-    let step = opening-step (foundIn paper) (openDay (l .t)) (l .rest .now) (read .result) (read .ensures) (omega (arith, c .before .before .before .before .before .match)) in
+    let step =
+    opening-step (foundIn paper) (openDay (l .t)) (l .rest .now) (read .result) (read .ensures)
+    (omega (arith, c .before .before .before .before .before .match)) in
     let s = c .before .before .before .before .before .before .before .before .before .before .before .before in
-    let e = ran-refused (s .args .input .now) (s .args .out .now) (record { answer = read .result .answer; day = openDay (l .t) }) (stops (openDay (l .t)) (l .rest .now) more (read .result .answer) (next 2 openingSize (l .t) (l .rest .now)) openingSize step no ∙ l .inv .1) no in
+    let e =
+    ran-refused (s .args .input .now) (s .args .out .now) (record { answer = read .result .answer; day = openDay (l .t) })
+    (stops (openDay (l .t)) (l .rest .now) more (read .result .answer) (next 2 openingSize (l .t) (l .rest .now)) openingSize step no ∙ l .inv .1)
+    no in
     (c .answer-result2 .ensures ∙ e .0, l .inv .0 ∙ e .1)
 
 -- an opening is taken
 opening-in : (c : tie.Else2 Inv-loop μ-loop) →
     let l = c .before .before .before .before .before .before .before .loop in
     let r = c .before .before .opening-front .result in
-    (openingSize ≤ length (l .rest .now)) × (from (openDay (l .t)) (l .rest .now) ≡ from (next 2 openingSize (l .t) (l .rest .now)) (take (length (l .rest .now) - openingSize) (drop openingSize (l .rest .now)))) × (r .opening ≡ openingOf (body openingSize (l .rest .now)))
+    (openingSize ≤ length (l .rest .now)) × (from (openDay (l .t)) (l .rest .now) ≡ from (next 2 openingSize (l .t) (l .rest .now))
+    (take (length (l .rest .now) - openingSize) (drop openingSize (l .rest .now)))) × (r .opening ≡ openingOf (body openingSize (l .rest .now)))
 unfolding dayWith takenWith
 opening-in c =
     let l = c .before .before .before .before .before .before .before .loop in
     let more = c .before .before .before .before .before .before .loop-test .taken in
     let read = c .before .before .opening-front in
     let yes = is-taken (read .result .answer) _ (c .before .is-accepted2 .ensures) (c .if2 .left) in
-    let step = opening-step (foundIn paper) (openDay (l .t)) (l .rest .now) (read .result) (read .ensures) (omega (arith, c .before .before .before .before .match)) in
-    let e = next 2 openingSize (l .t) (l .rest .now) in
-    (fits (openDay (l .t)) (l .rest .now) more (read .result .answer) e openingSize step yes, goes-on (openDay (l .t)) (l .rest .now) more (read .result .answer) e openingSize step yes (omega arith) refl, opening-says (foundIn paper) (openDay (l .t)) (l .rest .now) (read .result) (read .ensures) yes)
+    let step =
+    opening-step (foundIn paper) (openDay (l .t)) (l .rest .now) (read .result) (read .ensures)
+    (omega (arith, c .before .before .before .before .match)) in
+    let e = next 2 openingSize (l .t) (l .rest .now) in (
+      fits (openDay (l .t)) (l .rest .now) more (read .result .answer) e openingSize step yes,
+      goes-on (openDay (l .t)) (l .rest .now) more
+          (read .result .answer) e openingSize step yes (omega arith) refl,
+      opening-says (foundIn paper) (openDay (l .t)) (l .rest .now) (read .result)
+          (read .ensures) yes,
+    )
 
 sub-rest-2 : tie.Need-sub-rest-2 Inv-loop μ-loop
 sub-rest-2 c = omega (arith, opening-in (c .before) .0)
@@ -143,25 +168,41 @@ returns-3 c =
     let more = c .before .before .before .before .before .before .loop-test .taken in
     let read = c .before .before .before .instruction-front in
     let no = is-refused (read .result .answer) _ (c .before .before .is-accepted3 .ensures) (c .before .if3 .taken) in
-    let step = instruction-step (foundIn paper) (openDay (l .t)) (l .rest .now) (read .result) (read .ensures) (omega (arith, c .before .before .before .before .match)) in
+    let step =
+    instruction-step (foundIn paper) (openDay (l .t)) (l .rest .now) (read .result) (read .ensures)
+    (omega (arith, c .before .before .before .before .match)) in
     let s = c .before .before .before .before .before .before .before .before .before .before .before in
-    let e = ran-refused (s .args .input .now) (s .args .out .now) (record { answer = read .result .answer; day = openDay (l .t) }) (stops (openDay (l .t)) (l .rest .now) more (read .result .answer) (next 3 instructionSize (l .t) (l .rest .now)) instructionSize step no ∙ l .inv .1) no in
+    let e =
+    ran-refused (s .args .input .now) (s .args .out .now) (record { answer = read .result .answer; day = openDay (l .t) })
+    (stops (openDay (l .t)) (l .rest .now) more (read .result .answer) (next 3 instructionSize (l .t) (l .rest .now)) instructionSize step no
+    ∙ l .inv .1) no in
     (c .answer-result3 .ensures ∙ e .0, l .inv .0 ∙ e .1)
 
 -- an instruction is taken
 instruction-in : (c : tie.Else3 Inv-loop μ-loop) →
     let l = c .before .before .before .before .before .before .loop in
     let r = c .before .before .instruction-front .result in
-    (l .t .count < instructionPlaces) × (instructionSize ≤ length (l .rest .now)) × (from (openDay (l .t)) (l .rest .now) ≡ from (next 3 instructionSize (l .t) (l .rest .now)) (take (length (l .rest .now) - instructionSize) (drop instructionSize (l .rest .now)))) × (r .instruction ≡ instructionOf (body instructionSize (l .rest .now)))
+    (l .t .count < instructionPlaces) × (instructionSize ≤ length (l .rest .now)) ×
+    (from (openDay (l .t)) (l .rest .now) ≡ from (next 3 instructionSize (l .t) (l .rest .now))
+    (take (length (l .rest .now) - instructionSize) (drop instructionSize (l .rest .now)))) ×
+    (r .instruction ≡ instructionOf (body instructionSize (l .rest .now)))
 unfolding dayWith takenWith
 instruction-in c =
     let l = c .before .before .before .before .before .before .loop in
     let more = c .before .before .before .before .before .loop-test .taken in
     let read = c .before .before .instruction-front in
     let yes = is-taken (read .result .answer) _ (c .before .is-accepted3 .ensures) (c .if3 .left) in
-    let step = instruction-step (foundIn paper) (openDay (l .t)) (l .rest .now) (read .result) (read .ensures) (omega (arith, c .before .before .before .match)) in
-    let e = next 3 instructionSize (l .t) (l .rest .now) in
-    (instruction-room (foundIn paper) (openDay (l .t)) (l .rest .now) (read .result) (read .ensures) yes, fits (openDay (l .t)) (l .rest .now) more (read .result .answer) e instructionSize step yes, goes-on (openDay (l .t)) (l .rest .now) more (read .result .answer) e instructionSize step yes (omega arith) refl, instruction-says (foundIn paper) (openDay (l .t)) (l .rest .now) (read .result) (read .ensures) yes)
+    let step =
+    instruction-step (foundIn paper) (openDay (l .t)) (l .rest .now) (read .result) (read .ensures) (omega (arith, c .before .before .before .match))
+    in
+    let e = next 3 instructionSize (l .t) (l .rest .now) in (
+      instruction-room (foundIn paper) (openDay (l .t)) (l .rest .now) (read .result) (read .ensures) yes,
+      fits (openDay (l .t)) (l .rest .now) more
+          (read .result .answer) e instructionSize step yes,
+      goes-on (openDay (l .t)) (l .rest .now) more (read .result .answer) e instructionSize step
+          yes (omega arith) refl,
+      instruction-says (foundIn paper) (openDay (l .t)) (l .rest .now) (read .result) (read .ensures) yes,
+    )
 
 mul-instruction : tie.Need-mul-instruction Inv-loop μ-loop
 mul-instruction c = omega (arith, instruction-in (c .before) .0)
@@ -191,11 +232,15 @@ loop-again-3 c =
     (l .inv .0, rw (instruction-in (c .before .before) .3) (sym (instruction-in (c .before .before) .2) ∙ l .inv .1))
 
 -- the records end here
-ends-here : (c : tie.After-close-run-arg Inv-loop μ-loop) → let l = c .before .before .before .before .loop in endedBy (openDay (l .t)) (getD (l .rest .now) 0 0) ≡ ranBy (foundIn paper) (c .before .before .before .before .before .before .before .before .args .input .now)
+ends-here : (c : tie.After-close-run-arg Inv-loop μ-loop) →
+    let l =
+    c .before .before .before .before .loop in endedBy (openDay (l .t)) (getD (l .rest .now) 0 0) ≡ ranBy (foundIn paper)
+    (c .before .before .before .before .before .before .before .before .args .input .now)
 ends-here c =
     let l = c .before .before .before .before .loop in
     let k = c .before .match .rest in
-    by-other (openDay (l .t)) (l .rest .now) (c .before .before .before .loop-test .taken) (λ four. no-kinds _ (k .0 .0 .1) (k .0 .1) (k .1) four) ∙ l .inv .1
+    by-other (openDay (l .t)) (l .rest .now) (c .before .before .before .loop-test .taken) (λ four. no-kinds _ (k .0 .0 .1) (k .0 .1) (k .1) four)
+    ∙ l .inv .1
 
 close-run-requires : tie.Need-close-run-requires Inv-loop μ-loop
 close-run-requires c κs = λ a. run-fits (c .before .before .before .before .before .before .before .before .args .input .now) _ (ends-here c) a .1
@@ -206,7 +251,9 @@ returns-4 c =
     let s = c .before .before .before .before .before .before .before .before .before .before .before in
     let r = c .before .before .close-run in
     let e = ran-listed (s .args .input .now) (s .args .out .now) _ (ends-here (c .before .before .before)) in
-    subst (λ (o : List ℕ). (r .result ≡ ranResult (endedBy (openDay (l .t)) (getD (l .rest .now) 0 0)) o) × (r .last .1 .1 .0 ≡ ranLent (endedBy (openDay (l .t)) (getD (l .rest .now) 0 0)) o) → (r .result ≡ listedResult (s .args .input .now) (s .args .out .now)) × (r .last .1 .1 .0 ≡ listedLent (s .args .input .now) (s .args .out .now)))
+    subst (λ (o : List ℕ). (r .result ≡ ranResult (endedBy (openDay (l .t)) (getD (l .rest .now) 0 0)) o) ×
+    (r .last .1 .1 .0 ≡ ranLent (endedBy (openDay (l .t)) (getD (l .rest .now) 0 0)) o) → (r .result ≡ listedResult (s .args .input .now)
+    (s .args .out .now)) × (r .last .1 .1 .0 ≡ listedLent (s .args .input .now) (s .args .out .now)))
     (sym (l .inv .0)) (λ f. (f .0 ∙ e .0, f .1 ∙ e .1)) (r .ensures)
 
 same-length-5 : tie.Need-same-length-5 Inv-loop μ-loop
@@ -216,7 +263,9 @@ returns-5 : tie.Need-returns-5 Inv-loop μ-loop
 returns-5 c =
     let l = c .before .before .loop in
     let s = c .before .before .before .before .before .before in
-    let e = ran-refused (s .args .input .now) (s .args .out .now) (record { answer = Refused TooFewBytes; day = openDay (l .t) }) (run-none (openDay (l .t)) (l .rest .now) (omega arith) ∙ l .inv .1) refl in
+    let e =
+    ran-refused (s .args .input .now) (s .args .out .now) (record { answer = Refused TooFewBytes; day = openDay (l .t) })
+    (run-none (openDay (l .t)) (l .rest .now) (omega arith) ∙ l .inv .1) refl in
     (c .answer-result4 .ensures ∙ e .0, l .inv .0 ∙ e .1)
 
 pub gristpebble-listing-spec : {M : Type 1} → statement M

@@ -17,8 +17,12 @@ abbrev μ-loop : tie.MeasureT-loop
 
 loop-holds : tie.Need-loop-holds Inv-loop μ-loop
 loop-holds c =
-    let w = c .decimal-width .ensures .0 in
-    (c .decimal-width .ensures .1, omega arith, ap (λ (l : List ℕ). laid l (c .before .before .args .out .now)) (last-all (c .decimal-width .result) (c .before .before .args .v) w))
+    let w = c .decimal-width .ensures .0 in (
+      c .decimal-width .ensures .1,
+      omega arith,
+      ap (λ (l : List ℕ). laid l (c .before .before .args .out .now))
+          (last-all (c .decimal-width .result) (c .before .before .args .v) w),
+    )
 
 slice-write-out-2 : tie.Need-slice-write-out-2 Inv-loop μ-loop
 slice-write-out-2 c = simp length-set (omega arith)
@@ -26,15 +30,22 @@ slice-write-out-2 c = simp length-set (omega arith)
 loop-again : tie.Need-loop-again Inv-loop μ-loop
 loop-again c =
     let l = c .before .loop in
-    let e : l .i - 2 + 2 ≡ l .i = omega arith in
-    (omega arith, simp length-set (omega arith), sym (last-two (l .i - 2) (l .left) (l .out) (omega arith)) ∙ (ap (λ (k : ℕ). laid (lastDigits k (l .left)) (l .out)) e ∙ l .inv .2))
+    let e : l .i - 2 + 2 ≡ l .i = omega arith in (
+      omega arith,
+      simp length-set (omega arith),
+      sym (last-two (l .i - 2) (l .left) (l .out) (omega arith))
+          ∙ (ap (λ (k : ℕ). laid (lastDigits k (l .left)) (l .out)) e ∙ l .inv .2),
+    )
 
 returns : tie.Need-returns Inv-loop μ-loop
 unfolding lastDigits
 returns c =
     let l = c .before .before .loop in
-    let e : 1 ≡ l .i = omega arith in
-    (c .before .before .before .decimal-width .ensures .0, sym (last-put 0 (l .left) (l .out) (omega arith)) ∙ (ap (λ (k : ℕ). laid (lastDigits k (l .left)) (l .out)) e ∙ l .inv .2))
+    let e : 1 ≡ l .i = omega arith in (
+      c .before .before .before .decimal-width .ensures .0,
+      sym (last-put 0 (l .left) (l .out) (omega arith))
+          ∙ (ap (λ (k : ℕ). laid (lastDigits k (l .left)) (l .out)) e ∙ l .inv .2),
+    )
 
 same-length : tie.Need-same-length Inv-loop μ-loop
 same-length c =

@@ -33,8 +33,11 @@ unfolding field
 returns c =
     let s = c .before .before .before .before .before in
     let p = c .before .before .put-decimal in
-    let o = s .args .out .now in
-    (omega (arith, p .ensures .0), laid-part (32 ∷ []) (decimal (s .args .v)) o (set o 0 32) (p .last .0) 1 refl (s .pre) (set-front o 32 (omega (arith, s .pre))) (p .ensures .1))
+    let o = s .args .out .now in (
+      omega (arith, p .ensures .0),
+      laid-part (32 ∷ []) (decimal (s .args .v)) o (set o 0 32) (p .last .0) 1 refl (s .pre)
+          (set-front o 32 (omega (arith, s .pre))) (p .ensures .1),
+    )
 
 same-length : tie.Need-same-length
 same-length c =

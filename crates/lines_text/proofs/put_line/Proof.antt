@@ -16,7 +16,9 @@ abbrev μ-loop : tie.MeasureT-loop
 μ-loop out₀ letter vs at₀ i₀ out at i = length vs - i
 
 -- where the loop's test is reached: out is as long as it was, and has room for what is left of the line
-len : (c : tie.At-loop Inv-loop μ-loop) → (length (c .loop .out) ≡ length (c .before .before .before .args .out .now)) × (c .loop .at + 1 ≤ length (c .before .before .before .args .out .now))
+len : (c : tie.At-loop Inv-loop μ-loop) →
+    (length (c .loop .out) ≡ length (c .before .before .before .args .out .now)) ×
+    (c .loop .at + 1 ≤ length (c .before .before .before .args .out .now))
 len c =
     let a = c .before .before .before .args in
     let x = begun (a .letter) (a .vs .now) (c .loop .i) in
@@ -25,10 +27,17 @@ len c =
     (ap length (c .loop .inv .2) ∙ (laid-length x (set (a .out .now) 0 (a .letter)) (omega arith) ∙ s), omega arith)
 
 -- within the loop there is room for a number more
-more : (c : tie.In-loop Inv-loop μ-loop) → c .before .loop .at + length (field (getD (c .before .before .before .before .args .vs .now) (c .before .loop .i) 0)) + 1 ≤ length (c .before .before .before .before .args .out .now)
+more : (c : tie.In-loop Inv-loop μ-loop) →
+    c .before .loop .at + length (field (getD (c .before .before .before .before .args .vs .now) (c .before .loop .i) 0)) + 1 ≤ length
+    (c .before .before .before .before .args .out .now)
 more c =
     let a = c .before .before .before .before .args in
-    omega (arith, room-more (a .letter) (a .vs .now) (c .before .loop .i) (c .loop-test .taken), c .before .before .before .before .pre, c .before .loop .inv .1)
+    omega (
+      arith,
+      room-more (a .letter) (a .vs .now) (c .before .loop .i) (c .loop-test .taken),
+      c .before .before .before .before .pre,
+      c .before .loop .inv .1,
+    )
 
 slice-write-out : tie.Need-slice-write-out Inv-loop μ-loop
 slice-write-out c = omega (arith, line-length (c .before .before .args .letter) (c .before .before .args .vs .now))
@@ -44,7 +53,14 @@ part-put-field-start : tie.Need-part-put-field-start Inv-loop μ-loop
 part-put-field-start c = omega (arith, len (c .before .before))
 
 put-field-requires : tie.Need-put-field-requires Inv-loop μ-loop
-put-field-requires c κs = omega (arith, part-length (c .before .before .before .loop .at) (c .before .before .before .loop .out), len (c .before .before .before), more (c .before .before))
+put-field-requires c κs =
+    omega (
+      arith,
+      part-length (c .before .before .before .loop .at) (c .before .before .before .loop .out),
+      len (c .before .before .before),
+      more
+          (c .before .before),
+    )
 
 add-at : tie.Need-add-at Inv-loop μ-loop
 add-at c = omega (arith, more (c .before .before .before .before .before), c .before .before .put-field .ensures .0)
@@ -60,8 +76,19 @@ loop-again c =
     let f = field (getD vs (l .i) 0) in
     let s : length o ≡ length (a .out .now) = simp length-set in
     let lt : l .i < length vs = omega arith in
-    let h : length (x ++ f) ≤ length o = omega (arith, ap length (begun-more (a .letter) vs (l .i) lt), begun-length (a .letter) vs (l .i) lt, more (c .before .before .before .before .before)) in
-    (omega arith, omega (arith, begun-length (a .letter) vs (l .i) lt, p .ensures .0, l .inv .1), laid-part x f o (l .out) (p .last .0) (l .at) (l .inv .1) h (l .inv .2) (p .ensures .1) ∙ ap (λ (y : List ℕ). laid y o) (begun-more (a .letter) vs (l .i) lt))
+    let h : length (x ++ f) ≤ length o =
+    omega (
+      arith,
+      ap length (begun-more (a .letter) vs (l .i) lt),
+      begun-length (a .letter) vs (l .i) lt,
+      more
+          (c .before .before .before .before .before),
+    ) in (
+      omega arith,
+      omega (arith, begun-length (a .letter) vs (l .i) lt, p .ensures .0, l .inv .1),
+      laid-part x f o (l .out) (p .last .0) (l .at)
+          (l .inv .1) h (l .inv .2) (p .ensures .1) ∙ ap (λ (y : List ℕ). laid y o) (begun-more (a .letter) vs (l .i) lt),
+    )
 
 slice-write-out-2 : tie.Need-slice-write-out-2 Inv-loop μ-loop
 slice-write-out-2 c = omega (arith, len (c .before))
@@ -82,8 +109,12 @@ returns c =
     let s : length o ≡ length (a .out .now) = simp length-set in
     let e : begun (a .letter) vs (l .i) ≡ a .letter ∷ fields vs = begun-all (a .letter) vs (l .i) (omega arith) in
     let ea : l .at ≡ length (a .letter ∷ fields vs) = l .inv .1 ∙ ap length e in
-    let eo : l .out ≡ laid (a .letter ∷ fields vs) o = l .inv .2 ∙ ap (λ (y : List ℕ). laid y o) e in
-    (omega (arith, line-length (a .letter) vs), ap (λ (y : List ℕ). set y (l .at) 10) eo ∙ (laid-set (a .letter ∷ fields vs) o (l .at) 10 ea (omega (arith, len (c .before))) ∙ over (a .out .now) (fields vs ++ (10 ∷ [])) (a .letter)))
+    let eo : l .out ≡ laid (a .letter ∷ fields vs) o = l .inv .2 ∙ ap (λ (y : List ℕ). laid y o) e in (
+      omega (arith, line-length (a .letter) vs),
+      ap (λ (y : List ℕ). set y (l .at) 10) eo
+          ∙ (laid-set (a .letter ∷ fields vs) o (l .at) 10 ea (omega (arith, len (c .before)))
+          ∙ over (a .out .now) (fields vs ++ (10 ∷ [])) (a .letter)),
+    )
 
 pub put-line-spec : {M : Type 1} → statement M
 put-line-spec =

@@ -12,13 +12,17 @@ use Rattle.listing_parts.proofs.course_width.Tie as tie
 abbrev Inv-loop : tie.InvT-loop
 Inv-loop l c up n from₀ width₀ from width =
     Along l c up from × (c .begin ≤ from .place .second)
-    × (width + length (linesLeft l c up n (from .place)) ≡ length (linesLeft l c up n (beginning c (c .begin)))) × (width ≤ (from .place .second - c .begin) * 86)
+    × (width + length (linesLeft l c up n (from .place)) ≡ length (linesLeft l c up n (beginning c (c .begin)))) ×
+    (width ≤ (from .place .second - c .begin) * 86)
 
 abbrev μ-loop : tie.MeasureT-loop
 μ-loop l c up n from₀ width₀ from width = n - from .place .second
 
 -- the next piece
-next : (c : tie.After-walk-on Inv-loop μ-loop) → let a = c .before .before .before .before .before .args in PieceOn (a .l) (a .c) (a .up) (a .n) (c .before .before .before .loop .from) (c .walk-on .result)
+next : (c : tie.After-walk-on Inv-loop μ-loop) →
+    let a =
+    c .before .before .before .before .before .args in PieceOn (a .l) (a .c) (a .up) (a .n) (c .before .before .before .loop .from)
+    (c .walk-on .result)
 next c =
     let a = c .before .before .before .before .before .args in
     let l = c .before .before .before .loop in
@@ -48,7 +52,9 @@ loop-again c =
     let a = c .before .before .before .before .before .before .before .before .args in
     let l = c .before .before .before .before .before .before .loop in
     let to = c .before .before .before .walk-on .result in
-    let r = left-shorter (linesLeft (a .l) (a .c) (a .up) (a .n) (l .from .place)) (pieceLine (l .from .place) (to .place)) (linesLeft (a .l) (a .c) (a .up) (a .n) (to .place)) (g .line) in (
+    let r =
+    left-shorter (linesLeft (a .l) (a .c) (a .up) (a .n) (l .from .place)) (pieceLine (l .from .place) (to .place))
+    (linesLeft (a .l) (a .c) (a .up) (a .n) (to .place)) (g .line) in (
       g .along,
       omega (arith, g .later, l .inv .1),
       omega (arith, r, l .inv .2, c .piece-width .ensures .0),

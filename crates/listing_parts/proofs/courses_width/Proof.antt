@@ -36,7 +36,9 @@ lines-of c =
     let a = start c .args in
     let l = in-loop c .before .loop in
     let d : Course = getD (a .t2) (l .i) noCourse in
-    linesLeft (setAnew (a .t1) (l .l) (c .before .before .before .before .place-of .result) (c .ramp-of .result)) d (c .before .before .before .before .before .is-rising .result) (c .before .before .before .before .before .before .end-of .result) (beginning d (d .begin))
+    linesLeft (setAnew (a .t1) (l .l) (c .before .before .before .before .place-of .result) (c .ramp-of .result)) d
+    (c .before .before .before .before .before .is-rising .result) (c .before .before .before .before .before .before .end-of .result)
+    (beginning d (d .begin))
 
 next : (c : tie.After-ramp-of Inv-loop μ-loop) →
     let a = start c .args in
@@ -48,17 +50,31 @@ next c =
     let s = start c in
     let a = s .args in
     let l = in-loop c .before .loop in
-    course-next (a .t1) (a .end) (a .t2) (a .started) (in-loop c .before .before .before .before .smaller-count .result) (l .i) (s .good .1 .0 .1 .0 .1) (in-loop c .before .before .before .before .smaller-count .ensures) (omega arith) (l .l) _ _ _ _ _ (l .inv .1)
-    (c .before .before .before .before .before .is-rising .ensures) (c .before .before .before .before .place-of .ensures .0) (c .ramp-of .ensures) (c .before .before .before .before .before .before .before .smaller-count2 .ensures) (c .before .before .before .before .before .before .end-of .ensures)
+    course-next (a .t1) (a .end) (a .t2) (a .started) (in-loop c .before .before .before .before .smaller-count .result) (l .i)
+    (s .good .1 .0 .1 .0 .1) (in-loop c .before .before .before .before .smaller-count .ensures) (omega arith) (l .l) _ _ _ _ _ (l .inv .1)
+    (c .before .before .before .before .before .is-rising .ensures) (c .before .before .before .before .place-of .ensures .0) (c .ramp-of .ensures)
+    (c .before .before .before .before .before .before .before .smaller-count2 .ensures)
+    (c .before .before .before .before .before .before .end-of .ensures)
 
 loop-holds : tie.Need-loop-holds Inv-loop μ-loop
-loop-holds c = let u = c .before .before .before .args .t1 in (omega arith, shared-own u (c .own-lists .result) _ _ (c .own-lists .ensures), omega arith, omega arith)
+loop-holds c =
+    let u =
+    c .before .before .before .args .t1 in (omega arith, shared-own u (c .own-lists .result) _ _ (c .own-lists .ensures), omega arith, omega arith)
 
 course-width-requires : tie.Need-course-width-requires Inv-loop μ-loop
 course-width-requires c κs = next c .0
 
 add-width : tie.Need-add-width Inv-loop μ-loop
-add-width c = let l = in-loop (c .before) .before .loop in omega (arith, l .inv .0, l .inv .3, c .course-width .ensures .1, in-loop (c .before) .before .before .before .before .smaller-count .ensures)
+add-width c =
+    let l =
+    in-loop (c .before) .before .loop in omega (
+      arith,
+      l .inv .0,
+      l .inv .3,
+      c .course-width .ensures .1,
+      in-loop
+          (c .before) .before .before .before .before .smaller-count .ensures,
+    )
 
 loop-less : tie.Need-loop-less Inv-loop μ-loop
 loop-less c = omega (arith, in-loop (c .before) .loop-test)
@@ -81,7 +97,12 @@ returns c =
     let s = c .before .before .before .before .before in
     let a = s .args in
     let l = c .before .loop in (
-      omega (arith, l .inv .2, ap length (courses-none (a .t1) (a .end) (a .t2) (a .started) (l .i) (omega (arith, s .good .1 .0 .1 .0 .1, c .before .before .before .before .smaller-count .ensures, c .loop-test)))),
+      omega (
+        arith,
+        l .inv .2,
+        ap length (courses-none (a .t1) (a .end) (a .t2) (a .started) (l .i)
+            (omega (arith, s .good .1 .0 .1 .0 .1, c .before .before .before .before .smaller-count .ensures, c .loop-test))),
+      ),
       omega (arith, l .inv .0, l .inv .3, c .before .before .before .before .smaller-count .ensures),
     )
 

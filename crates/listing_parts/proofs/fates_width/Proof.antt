@@ -9,7 +9,8 @@ use Rattle.listing_parts.proofs.fates_width.Statement.{statement}
 use Rattle.listing_parts.proofs.fates_width.Tie as tie
 
 abbrev Inv-loop : tie.InvT-loop
-Inv-loop count fates n width₀ i₀ width i = (i ≤ n) × (width + length (fates-left fates count i) ≡ length (fates-left fates count 0)) × (width ≤ 44 * i)
+Inv-loop count fates n width₀ i₀ width i =
+    (i ≤ n) × (width + length (fates-left fates count i) ≡ length (fates-left fates count 0)) × (width ≤ 44 * i)
 
 abbrev μ-loop : tie.MeasureT-loop
 μ-loop count fates n width₀ i₀ width i = n - i

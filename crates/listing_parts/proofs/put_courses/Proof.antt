@@ -18,7 +18,8 @@ use Rattle.listing_parts.proofs.put_courses.Statement.{statement}
 use Rattle.listing_parts.proofs.put_courses.Tie as tie
 
 abbrev Inv-loop : tie.InvT-loop
-Inv-loop out₀ started end u cs n l₀ at₀ i₀ out l at i = (i ≤ n) × Shared u l × Laying (courses-left u end cs started 0) (courses-left u end cs started i) out₀ out at
+Inv-loop out₀ started end u cs n l₀ at₀ i₀ out l at i =
+    (i ≤ n) × Shared u l × Laying (courses-left u end cs started 0) (courses-left u end cs started i) out₀ out at
 
 abbrev μ-loop : tie.MeasureT-loop
 μ-loop out₀ started end u cs n l₀ at₀ i₀ out l at i = n - i
@@ -36,7 +37,9 @@ lines-of c =
     let a = start c .args in
     let l = in-loop c .before .loop in
     let d : Course = getD (a .t3) (l .i) noCourse in
-    linesLeft (setAnew (a .t2) (l .l) (c .before .before .before .before .place-of .result) (c .ramp-of .result)) d (c .before .before .before .before .before .is-rising .result) (c .before .before .before .before .before .before .end-of .result) (beginning d (d .begin))
+    linesLeft (setAnew (a .t2) (l .l) (c .before .before .before .before .place-of .result) (c .ramp-of .result)) d
+    (c .before .before .before .before .before .is-rising .result) (c .before .before .before .before .before .before .end-of .result)
+    (beginning d (d .begin))
 
 next : (c : tie.After-ramp-of Inv-loop μ-loop) →
     let a = start c .args in
@@ -48,8 +51,11 @@ next c =
     let s = start c in
     let a = s .args in
     let l = in-loop c .before .loop in
-    course-next (a .t2) (a .end) (a .t3) (a .started) (in-loop c .before .before .before .before .smaller-count .result) (l .i) (s .good .1 .1 .0 .1 .0 .1) (in-loop c .before .before .before .before .smaller-count .ensures) (omega arith) (l .l) _ _ _ _ _ (l .inv .1)
-    (c .before .before .before .before .before .is-rising .ensures) (c .before .before .before .before .place-of .ensures .0) (c .ramp-of .ensures) (c .before .before .before .before .before .before .before .smaller-count2 .ensures) (c .before .before .before .before .before .before .end-of .ensures)
+    course-next (a .t2) (a .end) (a .t3) (a .started) (in-loop c .before .before .before .before .smaller-count .result) (l .i)
+    (s .good .1 .1 .0 .1 .0 .1) (in-loop c .before .before .before .before .smaller-count .ensures) (omega arith) (l .l) _ _ _ _ _ (l .inv .1)
+    (c .before .before .before .before .before .is-rising .ensures) (c .before .before .before .before .place-of .ensures .0) (c .ramp-of .ensures)
+    (c .before .before .before .before .before .before .before .smaller-count2 .ensures)
+    (c .before .before .before .before .before .before .end-of .ensures)
 
 room : (c : tie.After-ramp-of Inv-loop μ-loop) →
     let l = in-loop c .before .loop in
@@ -63,8 +69,12 @@ room c =
 
 loop-holds : tie.Need-loop-holds Inv-loop μ-loop
 loop-holds c =
-    let a = c .before .before .before .before .args in
-    (omega arith, shared-own (a .t2) (c .own-lists .result) _ _ (c .own-lists .ensures), lay-none (courses-left (a .t2) (a .end) (a .t3) (a .started) 0) (a .out .now))
+    let a = c .before .before .before .before .args in (
+      omega arith,
+      shared-own (a .t2) (c .own-lists .result) _ _ (c .own-lists .ensures),
+      lay-none
+          (courses-left (a .t2) (a .end) (a .t3) (a .started) 0) (a .out .now),
+    )
 
 sub-put-course : tie.Need-sub-put-course Inv-loop μ-loop
 sub-put-course c = omega (arith, room c)
@@ -73,7 +83,8 @@ part-put-course-start : tie.Need-part-put-course-start Inv-loop μ-loop
 part-put-course-start c = omega (arith, room c)
 
 put-course-requires : tie.Need-put-course-requires Inv-loop μ-loop
-put-course-requires c κs = let l = in-loop (c .before) .before .loop in (next (c .before) .0, omega (arith, part-length (l .at) (l .out), room (c .before)))
+put-course-requires c κs =
+    let l = in-loop (c .before) .before .loop in (next (c .before) .0, omega (arith, part-length (l .at) (l .out), room (c .before)))
 
 add-at : tie.Need-add-at Inv-loop μ-loop
 add-at c = omega (arith, room (c .before .before .before .before), c .before .before .put-course .ensures .0)
@@ -91,7 +102,8 @@ loop-again c =
     let left = courses-left (a .t2) (a .end) (a .t3) (a .started) in (
       omega (arith, in-loop w .loop-test),
       shared-anew (a .t2) (l .l) _ _ (l .inv .1),
-      lay-more (left 0) (left (l .i)) (lines-of w) (left (l .i + 1)) (a .out .now) (l .out) (p .last .0) (l .at) (p .result) (s .pre) (next w .1) (l .inv .2) (p .ensures .0) (p .ensures .1),
+      lay-more (left 0) (left (l .i)) (lines-of w) (left (l .i + 1)) (a .out .now) (l .out) (p .last .0) (l .at) (p .result) (s .pre) (next w .1)
+          (l .inv .2) (p .ensures .0) (p .ensures .1),
     )
 
 same-length : tie.Need-same-length Inv-loop μ-loop
@@ -108,7 +120,9 @@ returns c =
     let a = s .args in
     let l = c .before .loop in
     let left = courses-left (a .t2) (a .end) (a .t3) (a .started) in
-    lay-all (left 0) (left (l .i)) (a .out .now) (l .out) (l .at) (courses-none (a .t2) (a .end) (a .t3) (a .started) (l .i) (omega (arith, s .good .1 .1 .0 .1 .0 .1, c .before .before .before .before .smaller-count .ensures, c .loop-test))) (l .inv .2)
+    lay-all (left 0) (left (l .i)) (a .out .now) (l .out) (l .at)
+    (courses-none (a .t2) (a .end) (a .t3) (a .started) (l .i)
+    (omega (arith, s .good .1 .1 .0 .1 .0 .1, c .before .before .before .before .smaller-count .ensures, c .loop-test))) (l .inv .2)
 
 pub put-courses-spec : {M : Type 1} → statement M
 put-courses-spec =

@@ -34,7 +34,8 @@ room c =
     let a = s .args in
     let l = c .before .loop in
     let left = fates-left (a .t2) (a .count) in
-    lay-next (left 0) (left (l .i)) (fLine (l .i + 1) (getD (a .t2) (l .i) 0)) (left (l .i + 1)) (a .out .now) (l .out) (l .at) (s .pre) (next c) (l .inv .1)
+    lay-next (left 0) (left (l .i)) (fLine (l .i + 1) (getD (a .t2) (l .i) 0)) (left (l .i + 1)) (a .out .now) (l .out) (l .at) (s .pre) (next c)
+    (l .inv .1)
 
 loop-holds : tie.Need-loop-holds Inv-loop μ-loop
 loop-holds c = let a = c .before .before .args in (omega arith, lay-none (fates-left (a .t2) (a .count) 0) (a .out .now))
@@ -60,7 +61,8 @@ loop-again c =
     let p = c .before .before .put-f in
     let left = fates-left (a .t2) (a .count) in (
       omega arith,
-      lay-more (left 0) (left (l .i)) (fLine (l .i + 1) (getD (a .t2) (l .i) 0)) (left (l .i + 1)) (a .out .now) (l .out) (p .last .0) (l .at) (p .result) (s .pre) (next w) (l .inv .1) (p .ensures .0) (p .ensures .1),
+      lay-more (left 0) (left (l .i)) (fLine (l .i + 1) (getD (a .t2) (l .i) 0)) (left (l .i + 1)) (a .out .now) (l .out) (p .last .0) (l .at)
+          (p .result) (s .pre) (next w) (l .inv .1) (p .ensures .0) (p .ensures .1),
     )
 
 same-length : tie.Need-same-length Inv-loop μ-loop
@@ -77,7 +79,8 @@ returns c =
     let a = s .args in
     let l = c .before .loop in
     let left = fates-left (a .t2) (a .count) in
-    lay-all (left 0) (left (l .i)) (a .out .now) (l .out) (l .at) (fates-none (a .t2) (a .count) (l .i) (omega (arith, s .good .1 .0 .1 .0 .1))) (l .inv .1)
+    lay-all (left 0) (left (l .i)) (a .out .now) (l .out) (l .at) (fates-none (a .t2) (a .count) (l .i) (omega (arith, s .good .1 .0 .1 .0 .1)))
+    (l .inv .1)
 
 pub put-fates-spec : {M : Type 1} → statement M
 put-fates-spec =

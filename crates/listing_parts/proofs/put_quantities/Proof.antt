@@ -13,13 +13,15 @@ use Rattle.listing_parts.proofs.put_quantities.Statement.{statement}
 use Rattle.listing_parts.proofs.put_quantities.Tie as tie
 
 abbrev Inv-loop : tie.InvT-loop
-Inv-loop out₀ sums halves end at₀ i₀ out at i = (i ≤ halves) × Laying (quantities-left (quantityAt sums) halves 0) (quantities-left (quantityAt sums) halves i) out₀ out at
+Inv-loop out₀ sums halves end at₀ i₀ out at i =
+    (i ≤ halves) × Laying (quantities-left (quantityAt sums) halves 0) (quantities-left (quantityAt sums) halves i) out₀ out at
 
 abbrev μ-loop : tie.MeasureT-loop
 μ-loop out₀ sums halves end at₀ i₀ out at i = halves - i
 
 -- all of it has room
-fits : (c : tie.At-loop Inv-loop μ-loop) → let a = c .before .before .args in length (quantities-left (quantityAt (a .sums .now)) (a .halves) 0) ≤ length (a .out .now)
+fits : (c : tie.At-loop Inv-loop μ-loop) →
+    let a = c .before .before .args in length (quantities-left (quantityAt (a .sums .now)) (a .halves) 0) ≤ length (a .out .now)
 fits c = let s = c .before .before in rw (quantities-all (quantityAt (s .args .sums .now)) (s .args .halves)) (s .pre .1)
 
 -- the next line, and its room
@@ -33,17 +35,20 @@ next c =
     let sums = a .sums .now in
     let i = c .before .before .before .before .loop .i in
     let kw = c .before .quantity-of in
-    quantities-more (quantityAt sums) (a .halves) i (kw .result) (c .run-end .result) (omega arith) (quantity-here sums i _ _ (c .before .before .twice-at .ensures) (kw .ensures)) (c .run-end .ensures .0)
+    quantities-more (quantityAt sums) (a .halves) i (kw .result) (c .run-end .result) (omega arith)
+    (quantity-here sums i _ _ (c .before .before .twice-at .ensures) (kw .ensures)) (c .run-end .ensures .0)
 
 room : (c : tie.After-run-end Inv-loop μ-loop) →
     let l = c .before .before .before .before .loop in
-    (l .at + length (qLine (l .i + 1) (c .run-end .result) (c .before .quantity-of .result)) ≤ length (l .out)) × (length (l .out) ≡ length (c .before .before .before .before .before .before .args .out .now))
+    (l .at + length (qLine (l .i + 1) (c .run-end .result) (c .before .quantity-of .result)) ≤ length (l .out)) ×
+    (length (l .out) ≡ length (c .before .before .before .before .before .before .args .out .now))
 room c =
     let a = c .before .before .before .before .before .before .args in
     let l = c .before .before .before .before .loop in
     let left = quantities-left (quantityAt (a .sums .now)) (a .halves) in
     let end = c .run-end .result in
-    lay-next (left 0) (left (l .i)) (qLine (l .i + 1) end (c .before .quantity-of .result)) (left end) (a .out .now) (l .out) (l .at) (fits (c .before .before .before .before)) (next c) (l .inv .1)
+    lay-next (left 0) (left (l .i)) (qLine (l .i + 1) end (c .before .quantity-of .result)) (left end) (a .out .now) (l .out) (l .at)
+    (fits (c .before .before .before .before)) (next c) (l .inv .1)
 
 loop-holds : tie.Need-loop-holds Inv-loop μ-loop
 loop-holds c = let a = c .before .args in (omega arith, lay-none (quantities-left (quantityAt (a .sums .now)) (a .halves) 0) (a .out .now))
@@ -75,7 +80,8 @@ loop-again c =
     let end = w .run-end .result in
     let left = quantities-left (quantityAt (a .sums .now)) (a .halves) in (
       w .run-end .ensures .2,
-      lay-more (left 0) (left (l .i)) (qLine (l .i + 1) end (c .before .before .before .before .before .quantity-of .result)) (left end) (a .out .now) (l .out) (p .last .0) (l .at) (p .result)
+      lay-more (left 0) (left (l .i)) (qLine (l .i + 1) end (c .before .before .before .before .before .quantity-of .result)) (left end) (a .out .now)
+          (l .out) (p .last .0) (l .at) (p .result)
           (fits (c .before .before .before .before .before .before .before .before)) (next w) (l .inv .1) (p .ensures .0) (p .ensures .1),
     )
 

@@ -11,7 +11,8 @@ use Rattle.listing_parts.proofs.run_end.Statement.{statement}
 use Rattle.listing_parts.proofs.run_end.Tie as tie
 
 abbrev Inv-loop : tie.InvT-loop
-Inv-loop sums twice kw from end i₀ i = (from ≤ i) × (i ≤ end) × (runEnd (quantityAt sums) kw i (end - i) ≡ runEnd (quantityAt sums) kw from (end - from))
+Inv-loop sums twice kw from end i₀ i =
+    (from ≤ i) × (i ≤ end) × (runEnd (quantityAt sums) kw i (end - i) ≡ runEnd (quantityAt sums) kw from (end - from))
 
 abbrev μ-loop : tie.MeasureT-loop
 μ-loop sums twice kw from end i₀ i = end - i
@@ -30,14 +31,18 @@ returns : tie.Need-returns Inv-loop μ-loop
 returns c =
     let s = c .before .before .before .before .before .before in
     let l = c .before .before .before .before .before .loop in
-    let q = quantity-here (s .args .sums .now) (l .i) (c .before .before .before .twice-at .result) (c .before .quantity-of .result) (c .before .before .before .twice-at .ensures) (c .before .quantity-of .ensures) in
+    let q =
+    quantity-here (s .args .sums .now) (l .i) (c .before .before .before .twice-at .result) (c .before .quantity-of .result)
+    (c .before .before .before .twice-at .ensures) (c .before .quantity-of .ensures) in
     (run-ends (s .args .sums .now) (l .i) (s .args .end) (s .args .kw) (omega arith) (λ e. omega (arith, q)) ∙ l .inv .2, l .inv .0, l .inv .1)
 
 loop-again-2 : tie.Need-loop-again-2 Inv-loop μ-loop
 loop-again-2 c =
     let s = c .before .before .before .before .before .before in
     let l = c .before .before .before .before .before .loop in
-    let q = quantity-here (s .args .sums .now) (l .i) (c .before .before .before .twice-at .result) (c .before .quantity-of .result) (c .before .before .before .twice-at .ensures) (c .before .quantity-of .ensures) in
+    let q =
+    quantity-here (s .args .sums .now) (l .i) (c .before .before .before .twice-at .result) (c .before .quantity-of .result)
+    (c .before .before .before .twice-at .ensures) (c .before .quantity-of .ensures) in
     (omega arith, omega arith, run-on (s .args .sums .now) (l .i) (s .args .end) (s .args .kw) (omega arith) (omega (arith, q)) ∙ l .inv .2)
 
 returns-2 : tie.Need-returns-2 Inv-loop μ-loop

@@ -12,7 +12,12 @@ use Rattle.listing_print.proofs.list_closed.Tie as tie
 
 -- measured or known, it fits
 fits : (c : tie.Joined1) → let a = c .before .before .args in length (printedDay (a .day)) ≤ length (a .out .now)
-fits c = elim (c .if1 .came) [ inl m ↦ omega (arith, m .1 .ensures, m .2 .left) | inr k ↦ let s = c .before .before in s .pre .1 (holds (s .args .fits) (k .left)) ]
+fits c =
+    elim (c .if1 .came) [
+      | inl m ↦ omega (arith, m .1 .ensures, m .2 .left)
+      | inr k ↦ let s = c .before .before in s .pre .1
+          (holds (s .args .fits) (k .left))
+    ]
 
 returns : tie.Need-returns
 returns c =

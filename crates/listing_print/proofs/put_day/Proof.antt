@@ -40,11 +40,13 @@ start c = c .before .before .before .before .before .before
 abbrev out-f : (c : tie.After-slice-known2) → List ℕ
 out-f c = c .before .before .put-fates .last .0
 
-after-f : (c : tie.After-slice-known2) → let a = start c .args in Laying (printedDay (a .t2)) (fromS (a .t2)) (a .out .now) (out-f c) (c .before .before .put-fates .result)
+after-f : (c : tie.After-slice-known2) →
+    let a = start c .args in Laying (printedDay (a .t2)) (fromS (a .t2)) (a .out .now) (out-f c) (c .before .before .put-fates .result)
 after-f c =
     let a = start c .args in
     let p = c .before .before .put-fates in
-    lay-first (printedDay (a .t2)) (linesF (a .t2)) (fromS (a .t2)) (a .out .now) (out-f c) (p .result) (in-parts (a .t2)) (p .ensures .0) (p .ensures .1)
+    lay-first (printedDay (a .t2)) (linesF (a .t2)) (fromS (a .t2)) (a .out .now) (out-f c) (p .result) (in-parts (a .t2)) (p .ensures .0)
+    (p .ensures .1)
 
 abbrev out-s : (c : tie.After-slice-known3) → List ℕ
 out-s c = let b = at-fates c in with-tail (out-f b) (b .before .before .put-fates .result) (c .before .before .put-courses .last .0)
@@ -52,13 +54,15 @@ out-s c = let b = at-fates c in with-tail (out-f b) (b .before .before .put-fate
 abbrev at-s : (c : tie.After-slice-known3) → ℕ
 at-s c = at-fates c .before .before .put-fates .result + c .before .before .put-courses .result
 
-after-s : (c : tie.After-slice-known3) → let a = start (at-fates c) .args in Laying (printedDay (a .t2)) (fromQ (a .t2)) (a .out .now) (out-s c) (at-s c)
+after-s : (c : tie.After-slice-known3) →
+    let a = start (at-fates c) .args in Laying (printedDay (a .t2)) (fromQ (a .t2)) (a .out .now) (out-s c) (at-s c)
 after-s c =
     let s = start (at-fates c) in
     let d = s .args .t2 in
     let b = at-fates c in
     let p = c .before .before .put-courses in
-    lay-more (printedDay d) (fromS d) (linesS d) (fromQ d) (s .args .out .now) (out-f b) (p .last .0) (b .before .before .put-fates .result) (p .result) (s .pre) refl (after-f b) (p .ensures .0) (p .ensures .1)
+    lay-more (printedDay d) (fromS d) (linesS d) (fromQ d) (s .args .out .now) (out-f b) (p .last .0) (b .before .before .put-fates .result)
+    (p .result) (s .pre) refl (after-f b) (p .ensures .0) (p .ensures .1)
 
 abbrev out-q : (c : tie.After-slice-known4) → List ℕ
 out-q c = let b = at-courses c in with-tail (out-s b) (at-s b) (c .before .before .put-quantities .last .0)
@@ -66,28 +70,35 @@ out-q c = let b = at-courses c in with-tail (out-s b) (at-s b) (c .before .befor
 abbrev at-q : (c : tie.After-slice-known4) → ℕ
 at-q c = at-s (at-courses c) + c .before .before .put-quantities .result
 
-after-q : (c : tie.After-slice-known4) → let a = start (at-fates (at-courses c)) .args in Laying (printedDay (a .t2)) (lineE (a .t2)) (a .out .now) (out-q c) (at-q c)
+after-q : (c : tie.After-slice-known4) →
+    let a = start (at-fates (at-courses c)) .args in Laying (printedDay (a .t2)) (lineE (a .t2)) (a .out .now) (out-q c) (at-q c)
 after-q c =
     let s = start (at-fates (at-courses c)) in
     let d = s .args .t2 in
     let b = at-courses c in
     let p = c .before .before .put-quantities in
-    lay-more (printedDay d) (fromQ d) (linesQ d) (lineE d) (s .args .out .now) (out-s b) (p .last .0) (at-s b) (p .result) (s .pre) refl (after-s b) (p .ensures .0) (p .ensures .1)
+    lay-more (printedDay d) (fromQ d) (linesQ d) (lineE d) (s .args .out .now) (out-s b) (p .last .0) (at-s b) (p .result) (s .pre) refl (after-s b)
+    (p .ensures .0) (p .ensures .1)
 
 -- the room of the part that comes next
-room-s : (c : tie.After-slice-known2) → let a = start c .args in (c .before .before .put-fates .result + length (linesS (a .t2)) ≤ length (out-f c)) × (length (out-f c) ≡ length (a .out .now))
+room-s : (c : tie.After-slice-known2) →
+    let a =
+    start c .args in (c .before .before .put-fates .result + length (linesS (a .t2)) ≤ length (out-f c)) × (length (out-f c) ≡ length (a .out .now))
 room-s c =
     let s = start c in
     let d = s .args .t2 in
-    lay-next (printedDay d) (fromS d) (linesS d) (fromQ d) (s .args .out .now) (out-f c) (c .before .before .put-fates .result) (s .pre) refl (after-f c)
+    lay-next (printedDay d) (fromS d) (linesS d) (fromQ d) (s .args .out .now) (out-f c) (c .before .before .put-fates .result) (s .pre) refl
+    (after-f c)
 
-room-q : (c : tie.After-slice-known3) → let a = start (at-fates c) .args in (at-s c + length (linesQ (a .t2)) ≤ length (out-s c)) × (length (out-s c) ≡ length (a .out .now))
+room-q : (c : tie.After-slice-known3) →
+    let a = start (at-fates c) .args in (at-s c + length (linesQ (a .t2)) ≤ length (out-s c)) × (length (out-s c) ≡ length (a .out .now))
 room-q c =
     let s = start (at-fates c) in
     let d = s .args .t2 in
     lay-next (printedDay d) (fromQ d) (linesQ d) (lineE d) (s .args .out .now) (out-s c) (at-s c) (s .pre) refl (after-s c)
 
-room-e : (c : tie.After-slice-known4) → let a = start (at-fates (at-courses c)) .args in (at-q c + length (lineE (a .t2)) ≤ length (out-q c)) × (length (out-q c) ≡ length (a .out .now))
+room-e : (c : tie.After-slice-known4) →
+    let a = start (at-fates (at-courses c)) .args in (at-q c + length (lineE (a .t2)) ≤ length (out-q c)) × (length (out-q c) ≡ length (a .out .now))
 room-e c =
     let s = start (at-fates (at-courses c)) in
     let d = s .args .t2 in
@@ -126,7 +137,8 @@ add-at-2 : tie.Need-add-at-2
 add-at-2 c = omega (arith, room-q (c .before .before .before .before .before .before), c .before .before .put-quantities .ensures .0)
 
 -- the line that is written is the day's
-line-e : (c : tie.After-closing-of) → closingLine (c .closing-of .result) ≡ lineE (start (at-fates (at-courses (c .before .before .before))) .args .t2)
+line-e : (c : tie.After-closing-of) →
+    closingLine (c .closing-of .result) ≡ lineE (start (at-fates (at-courses (c .before .before .before))) .args .t2)
 line-e c = ap closingLine (c .closing-of .ensures)
 
 sub-put-closing : tie.Need-sub-put-closing
@@ -136,10 +148,18 @@ part-put-closing-start : tie.Need-part-put-closing-start
 part-put-closing-start c = omega (arith, room-e (c .before .before .before))
 
 put-closing-requires : tie.Need-put-closing-requires
-put-closing-requires c κs = let b = c .before .before .before .before in omega (arith, part-length (at-q b) (out-q b), room-e b, ap length (line-e (c .before)))
+put-closing-requires c κs =
+    let b = c .before .before .before .before in omega (arith, part-length (at-q b) (out-q b), room-e b, ap length (line-e (c .before)))
 
 add-at-3 : tie.Need-add-at-3
-add-at-3 c = omega (arith, room-e (c .before .before .before .before .before .before .before), c .before .before .put-closing .ensures .0, ap length (line-e (c .before .before .before .before)))
+add-at-3 c =
+    omega (
+      arith,
+      room-e (c .before .before .before .before .before .before .before),
+      c .before .before .put-closing .ensures .0,
+      ap length
+          (line-e (c .before .before .before .before)),
+    )
 
 returns : tie.Need-returns
 returns c =
@@ -152,7 +172,8 @@ returns c =
     let here = line-e (c .before .before .before .before) in
     let free : List ℕ = take (length (out-q b) - at-q b) (drop (at-q b) (out-q b)) in
     lay-all (printedDay d) [] o (with-tail (out-q b) (at-q b) (p .last .0)) (at-q b + p .result) refl
-    (lay-more (printedDay d) e e [] o (out-q b) (p .last .0) (at-q b) (p .result) (s .pre) (sym (append-nil e)) (after-q b) (p .ensures .0 ∙ ap length here) (p .ensures .1 ∙ ap (λ (x : List ℕ). laid x free) here))
+    (lay-more (printedDay d) e e [] o (out-q b) (p .last .0) (at-q b) (p .result) (s .pre) (sym (append-nil e)) (after-q b)
+    (p .ensures .0 ∙ ap length here) (p .ensures .1 ∙ ap (λ (x : List ℕ). laid x free) here))
 
 pub put-day-spec : {M : Type 1} → statement M
 put-day-spec =

@@ -24,19 +24,25 @@ use Rattle.listing_run.proofs.close_run.Statement.{statement}
 use Rattle.listing_run.proofs.close_run.Tie as tie
 
 -- a refusal ends the records
-refuses : (a : Answer) (d : Day) (k : ℕ) (o : List ℕ) (n : ℕ) → (record { answer = a; day = d }) ≡ endedBy d k → accepted a ≡ false → n ≡ numberOf a * 4294967296 →
+refuses : (a : Answer) (d : Day) (k : ℕ) (o : List ℕ) (n : ℕ) → (record { answer = a; day = d }) ≡ endedBy d k → accepted a ≡ false →
+    n ≡ numberOf a * 4294967296 →
     (n ≡ ranResult (endedBy d k) o) × (o ≡ ranLent (endedBy d k) o)
 refuses a d k o n e out q = let f = refused-run a d o out in (q ∙ f .0 ∙ ap (λ (r : Ran). ranResult r o) e, f .1 ∙ ap (λ (r : Ran). ranLent r o) e)
 
 returns : tie.Need-returns
-returns c = let s = c .before .before .before in refuses (Refused UnknownKind) (openDay (s .args .taken)) (s .args .kind) (s .args .out .now) _ (end-none _ _ (c .before .if1 .taken)) refl (c .answer-result .ensures)
+returns c =
+    let s =
+    c .before .before .before in refuses (Refused UnknownKind) (openDay (s .args .taken)) (s .args .kind) (s .args .out .now) _
+    (end-none _ _ (c .before .if1 .taken)) refl (c .answer-result .ensures)
 
 returns-2 : tie.Need-returns-2
 returns-2 c =
     let s = c .before .before .before .before .before .before in
     let early = c .before .before .before .close-front in
     let no = is-refused (early .result) _ (c .before .before .is-accepted .ensures) (c .before .if2 .taken) in
-    refuses (early .result) (openDay (s .args .taken)) (s .args .kind) (s .args .out .now) _ (end-close _ _ (c .before .before .before .before .if1 .left) _ (close-early _ (early .result) (early .ensures) no)) no (c .answer-result2 .ensures)
+    refuses (early .result) (openDay (s .args .taken)) (s .args .kind) (s .args .out .now) _
+    (end-close _ _ (c .before .before .before .before .if1 .left) _ (close-early _ (early .result) (early .ensures) no)) no
+    (c .answer-result2 .ensures)
 
 returns-3 : tie.Need-returns-3
 returns-3 c =
@@ -47,24 +53,36 @@ returns-3 c =
     let read = p .find-close in
     let no = is-refused (read .result .answer) _ (c .before .before .is-accepted2 .ensures) (c .before .if3 .taken) in
     refuses (read .result .answer) (openDay (s .args .taken)) (s .args .kind) (s .args .out .now) _
-    (end-close _ _ (p .before .before .before .before .if1 .left) _ (close-refused _ (early .result) (early .ensures) first (read .result) (read .ensures) no)) no (c .answer-result3 .ensures)
+    (end-close _ _ (p .before .before .before .before .if1 .left) _
+    (close-refused _ (early .result) (early .ensures) first (read .result) (read .ensures) no)) no (c .answer-result3 .ensures)
 
 -- the closed day
-closes : (c : tie.After-closed-day) → let s = c .before .before .before .before .before .before .before .before .before .before in (record { answer = Accepted; day = c .closed-day .result }) ≡ endedBy (openDay (s .args .taken)) (s .args .kind)
+closes : (c : tie.After-closed-day) →
+    let s =
+    c .before .before .before .before .before .before .before .before .before .before in (record { answer = Accepted; day = c .closed-day .result }) ≡
+    endedBy (openDay (s .args .taken)) (s .args .kind)
 closes c =
     let p = c .before .before .before .before in
     let early = p .before .before .before .close-front in
     let first = is-taken (early .result) _ (p .before .before .is-accepted .ensures) (p .before .if2 .left) in
     let read = p .find-close in
     ap (λ (d : Day). record { answer = Accepted; day = d }) (c .closed-day .ensures)
-    ∙ end-close _ _ (p .before .before .before .before .if1 .left) _ (close-taken _ (early .result) (early .ensures) first (read .result) (read .ensures) (is-taken (read .result .answer) _ (c .before .before .is-accepted2 .ensures) (c .before .if3 .left)))
+    ∙ end-close _ _ (p .before .before .before .before .if1 .left) _
+    (close-taken _ (early .result) (early .ensures) first (read .result) (read .ensures)
+    (is-taken (read .result .answer) _ (c .before .before .is-accepted2 .ensures) (c .before .if3 .left)))
 
 list-closed-requires : tie.Need-list-closed-requires
 list-closed-requires c κs =
     let s = c .before .before .before .before .before .before .before .before .before .before .before in
     let e = closes (c .before) in (
       ap (λ (d : Day). d .closed) (c .before .closed-day .ensures),
-      λ f. omega (arith, leb→le suffices (length (s .args .out .now)) (rw f tt), ap (λ (r : Ran). length (printedDay (r .day))) e, s .pre (sym (ap (λ (r : Ran). r .answer) e))),
+      λ f. omega (
+        arith,
+        leb→le suffices (length (s .args .out .now)) (rw f tt),
+        ap (λ (r : Ran). length (printedDay (r .day))) e,
+        s .pre
+            (sym (ap (λ (r : Ran). r .answer) e)),
+      ),
     )
 
 returns-4 : tie.Need-returns-4
@@ -72,7 +90,8 @@ returns-4 c =
     let s = c .before .before .before .before .before .before .before .before .before .before .before .before .before .before .before in
     let l = c .before .before .before .list-closed in
     let e = closes (c .before .before .before .before .before) in (
-      c .listed-result .ensures ∙ ap (λ (x : Listed). inOne (x .answer) (x .count)) (l .ensures .0) ∙ ap (λ (r : Ran). ranResult r (s .args .out .now)) e,
+      c .listed-result .ensures ∙ ap (λ (x : Listed). inOne (x .answer) (x .count)) (l .ensures .0)
+          ∙ ap (λ (r : Ran). ranResult r (s .args .out .now)) e,
       l .ensures .1 ∙ ap (λ (r : Ran). ranLent r (s .args .out .now)) e,
     )
 

@@ -16,7 +16,8 @@ returns c =
     let p = s .args .p in
     let q = s .args .q in
     let e : p .second ≡ q .second = omega (arith, s .pre .later, c .if1 .taken) in
-    subst (λ (i : ℕ). Adds (pieceFrom (headed (s .args .up)) p q) (summed (p .second) (s .args .sums .now) (s .args .total)) (summed i (s .args .sums .now) (s .args .total)) × Fits (summed i (s .args .sums .now) (s .args .total))) e (
+    subst (λ (i : ℕ). Adds (pieceFrom (headed (s .args .up)) p q) (summed (p .second) (s .args .sums .now) (s .args .total))
+    (summed i (s .args .sums .now) (s .args .total)) × Fits (summed i (s .args .sums .now) (s .args .total))) e (
       adds-none (pieceFrom (headed (s .args .up)) p q) (summed (p .second) (s .args .sums .now) (s .args .total))
           (λ i le. line-none (headed (s .args .up)) (p .level) (gap (p .level) (q .level) / (q .second - p .second)) (i - p .second) (omega arith)),
       s .pre .fits,
@@ -33,7 +34,9 @@ note-line-requires c κs =
     record {
       later = omega (arith, lt);
       within = s .pre .within;
-      low = subst (λ (w : ℕ). StaysLow h (p .level) (d * (w / d))) (sym (c .before .gap-between .ensures)) (straight-low h p q lt (s .pre .straight lt) (s .pre .low) (s .pre .low-too));
+      low =
+          subst (λ (w : ℕ). StaysLow h (p .level) (d * (w / d))) (sym (c .before .gap-between .ensures))
+          (straight-low h p q lt (s .pre .straight lt) (s .pre .low) (s .pre .low-too));
       fits = s .pre .fits;
     }
 
@@ -44,14 +47,20 @@ returns-2 c =
     let q = s .args .q in
     let d : ℕ = q .second - p .second in
     let r = c .note-line in
-    subst (λ (w : ℕ). Adds (lineFrom (headed (s .args .up)) (p .level) (w / d) (p .second)) (summed (p .second) (s .args .sums .now) (s .args .total)) (summed (q .second) (r .last .0) (r .result)) × Fits (summed (q .second) (r .last .0) (r .result)))
+    subst (λ (w : ℕ). Adds (lineFrom (headed (s .args .up)) (p .level) (w / d) (p .second)) (summed (p .second) (s .args .sums .now) (s .args .total))
+    (summed (q .second) (r .last .0) (r .result)) × Fits (summed (q .second) (r .last .0) (r .result)))
     (c .before .before .gap-between .ensures) (r .ensures)
 
 -- there is room for its area
-fits : (c : tie.After-struct-known8) → let s = c .before .before .before .before .before .before .before .before .before .before in s .args .total + (s .args .q .second - s .args .p .second) * (s .args .p .level + s .args .q .level) < 18446744073709551616
+fits : (c : tie.After-struct-known8) →
+    let s =
+    c .before .before .before .before .before .before .before .before .before .before in s .args .total + (s .args .q .second - s .args .p .second) *
+    (s .args .p .level + s .args .q .level) < 18446744073709551616
 fits c =
     let s = c .before .before .before .before .before .before .before .before .before .before in
-    piece-fits (headed (s .args .up)) (s .args .p) (s .args .q) (omega (arith, c .before .before .before .before .before .before .before .if1 .left)) (s .pre .straight (omega (arith, c .before .before .before .before .before .before .before .if1 .left))) (s .args .sums .now) (s .args .total) (s .pre .within) (s .pre .low) (s .pre .low-too)
+    piece-fits (headed (s .args .up)) (s .args .p) (s .args .q) (omega (arith, c .before .before .before .before .before .before .before .if1 .left))
+    (s .pre .straight (omega (arith, c .before .before .before .before .before .before .before .if1 .left))) (s .args .sums .now) (s .args .total)
+    (s .pre .within) (s .pre .low) (s .pre .low-too)
     (omega (arith, c .before .before .if2 .left)) (s .pre .fits)
 
 mul-sum : tie.Need-mul-sum
@@ -63,7 +72,9 @@ add-sum-2 c = let f = fits c in omega (arith, f)
 returns-3 : tie.Need-returns-3
 returns-3 c =
     let s = c .before .before .before .before .before .before .before .before .before .before in
-    piece-adds (headed (s .args .up)) (s .args .p) (s .args .q) (omega (arith, c .before .before .before .before .before .before .before .if1 .left)) (s .pre .straight (omega (arith, c .before .before .before .before .before .before .before .if1 .left))) (s .args .sums .now) (s .args .total) (s .pre .within) (s .pre .low) (s .pre .low-too)
+    piece-adds (headed (s .args .up)) (s .args .p) (s .args .q) (omega (arith, c .before .before .before .before .before .before .before .if1 .left))
+    (s .pre .straight (omega (arith, c .before .before .before .before .before .before .before .if1 .left))) (s .args .sums .now) (s .args .total)
+    (s .pre .within) (s .pre .low) (s .pre .low-too)
     (omega (arith, c .before .before .if2 .left)) (s .pre .fits)
 
 pub note-piece-spec : {M : Type 1} → statement M

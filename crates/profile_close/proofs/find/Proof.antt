@@ -36,8 +36,11 @@ follow-day-requires c κs =
 
 lay-fates-requires : tie.Need-lay-fates-requires
 lay-fates-requires c κs =
-    let s = c .before .before .before .before .before .before .before .before .before in
-    (omega (arith, c .before .smaller-count .ensures), rw (c .before .before .before .before .before .before .validate .ensures) (acting-few (s .args .t) (s .args .halves) (places s)))
+    let s = c .before .before .before .before .before .before .before .before .before in (
+      omega (arith, c .before .smaller-count .ensures),
+      rw (c .before .before .before .before .before .before .validate .ensures)
+          (acting-few (s .args .t) (s .args .halves) (places s)),
+    )
 
 returns : tie.Need-returns
 returns c =
@@ -50,11 +53,25 @@ returns c =
     let v : Validation = validationOf (t .instructions) (t .count) (halfHour * n) in
     let by : FollowedBy u (startCourse u (t .start)) (take (v .acting) (v .acts)) n r =
     subst (λ (x : Validation). FollowedBy u (startCourse u (t .start)) (take (x .acting) (x .acts)) n r) (valid .ensures)
-    (subst (λ (x : UnderWay). FollowedBy u x (take (valid .result .acting) (valid .result .acts)) n r) (c .before .before .before .before .before .before .before .before .before .before .start-course .ensures) (c .before .before .before .before .before .before .before .before .before .follow-day .ensures)) in
-    let over : c .before .before .before .before .before .lay-fates .result ≡ overlaidAll (record { count = min (t .count) instructionPlaces; fates = v .fates }) (marksFrom (v .acts) (r .walk .fates) 0 (v .acting)) =
+    (subst (λ (x : UnderWay). FollowedBy u x (take (valid .result .acting) (valid .result .acts)) n r)
+    (c .before .before .before .before .before .before .before .before .before .before .start-course .ensures)
+    (c .before .before .before .before .before .before .before .before .before .follow-day .ensures)) in
+    let over : c .before .before .before .before .before .lay-fates .result ≡ overlaidAll
+    (record { count = min (t .count) instructionPlaces; fates = v .fates }) (marksFrom (v .acts) (r .walk .fates) 0 (v .acting)) =
     c .before .before .before .before .before .lay-fates .ensures
-    ∙ (λ i. overlaidAll (record { count = c .before .before .before .before .before .before .before .smaller-count .ensures i; fates = valid .ensures i .fates }) (marksFrom (valid .ensures i .acts) (r .walk .fates) 0 (valid .ensures i .acting))) in
-    ap (λ (x : Fates). record { fates = x .fates; started = r .walk .started; courses = r .walk .courses; sums = r .sums; last = r .walk .now; end = r .end }) over
+    ∙ (λ i. overlaidAll (record {
+      count = c .before .before .before .before .before .before .before .smaller-count .ensures i;
+      fates = valid .ensures
+          i .fates;
+    }) (marksFrom (valid .ensures i .acts) (r .walk .fates) 0 (valid .ensures i .acting))) in
+    ap (λ (x : Fates). record {
+      fates = x .fates;
+      started = r .walk .started;
+      courses = r .walk .courses;
+      sums = r .sums;
+      last = r .walk .now;
+      end = r .end;
+    }) over
     ∙ find-is t n (places s) r by
 
 pub find-spec : {M : Type 1} → statement M

@@ -18,14 +18,18 @@ loop-holds : tie.Need-loop-holds Inv-loop μ-loop
 loop-holds c = clearing-start (c .args .halves) (c .args .sums) (c .good .1 .0 .1 .0 .1) (omega arith)
 
 loop-again : tie.Need-loop-again Inv-loop μ-loop
-loop-again c = let s = c .before .before in clearing-next (s .args .halves) (s .args .sums) (s .good .1 .0 .1 .0 .1) (c .before .loop .kept) (c .before .loop .b) (c .before .loop .inv) (omega arith)
+loop-again c =
+    let s =
+    c .before .before in clearing-next (s .args .halves) (s .args .sums) (s .good .1 .0 .1 .0 .1) (c .before .loop .kept) (c .before .loop .b)
+    (c .before .loop .inv) (omega arith)
 
 returns : tie.Need-returns Inv-loop μ-loop
 unfolding ended
 returns c =
     let s = c .before .before in
     ap (λ (xs : List ℕ). record { walk = s .args .w; sums = xs; end = s .args .end })
-    (clearing-end (s .args .halves) (s .args .sums) (s .good .1 .0 .1 .0 .1) (c .before .loop .kept) (c .before .loop .b) (c .before .loop .inv) (omega arith))
+    (clearing-end (s .args .halves) (s .args .sums) (s .good .1 .0 .1 .0 .1) (c .before .loop .kept) (c .before .loop .b) (c .before .loop .inv)
+    (omega arith))
 
 pub end-day-spec : {M : Type 1} → statement M
 end-day-spec =

@@ -65,11 +65,14 @@ loop-holds c =
     let e = first-is b in
     let none : w .acted ≡ 0 = ap (λ (x : Walk). x .acted) (b .begin-walk .ensures) in (
       omega (arith, none),
-      subst (λ (i : ℕ). Sofar (s .args .t1) (halfHour * s .args .halves) (w .now) (take (s .args .n) (s .args .t3)) (drop i (take (s .args .n) (s .args .t3))) w (c .set-out .result) l _) (sym none)
+      subst (λ (i : ℕ). Sofar (s .args .t1) (halfHour * s .args .halves) (w .now) (take (s .args .n) (s .args .t3))
+          (drop i (take (s .args .n) (s .args .t3))) w (c .set-out .result) l _) (sym none)
           (sofar-start (s .args .t1) (halfHour * s .args .halves) (w .now) (take (s .args .n) (s .args .t3)) w (c .set-out .result) l up
-          (b .begin-walk .ensures ∙ ap (λ (x : UnderWay). walkOf x (record { marks = []; courses = x ∷ [] })) e) (c .set-out .ensures ∙ ap (λ (x : UnderWay). setOut x l up 0) e)
+          (b .begin-walk .ensures ∙ ap (λ (x : UnderWay). walkOf x (record { marks = []; courses = x ∷ [] })) e)
+          (c .set-out .ensures ∙ ap (λ (x : UnderWay). setOut x l up 0) e)
           (c .before .before .is-rising .ensures ∙ ap (λ (x : UnderWay). ltb (x .course .start .grains) (grains (x .course .target))) e)
-          (c .before .own-lists .ensures ∙ ap (λ (x : UnderWay). ownLists (s .args .t1) (x .course) up) e) (rw e at (s .pre .ordered)) (rw e at (s .pre .starts))),
+          (c .before .own-lists .ensures ∙ ap (λ (x : UnderWay). ownLists (s .args .t1) (x .course) up) e) (rw e at (s .pre .ordered))
+          (rw e at (s .pre .starts))),
     )
 
 -- ---- at the loop's head
@@ -108,7 +111,8 @@ forty k = start k .good .1 .1 .0 .1 .0 .1
 left-is : (k : tie.At-loop Inv-loop μ-loop) → k .loop .w .acted < start k .args .n → left k ≡ act k ∷ later k
 left-is k lt =
     left-cons (start k .args .t3) (start k .args .n) (k .loop .w .acted) noNumbered lt (omega (arith, forty k, start k .pre .few))
-    ∙ ap (λ (i : ℕ). getD (start k .args .t3) i noNumbered ∷ later k) {x = k .loop .w .acted} {y = placeIn (k .loop .w .acted)} (omega (arith, lt, start k .pre .few))
+    ∙ ap (λ (i : ℕ). getD (start k .args .t3) i noNumbered ∷ later k) {x = k .loop .w .acted} {y = placeIn (k .loop .w .acted)}
+    (omega (arith, lt, start k .pre .few))
 
 -- those left act in order, within the day
 order : (k : tie.At-loop Inv-loop μ-loop) → Next (end k) (k .loop .g .reached .place .second) (left k)
@@ -127,13 +131,20 @@ array-copy-out-o : tie.Need-array-copy-out-o Inv-loop μ-loop
 array-copy-out-o c = omega (arith, c .place-in .ensures, forty (c .before))
 
 next-second-requires : tie.Need-next-second-requires Inv-loop μ-loop
-next-second-requires c κs = λ e. omega (arith, acts-soon (c .before .before .before) (ltb→lt _ _ (rw e tt)), ap (λ (i : ℕ). acting (getD (start (c .before .before .before) .args .t3) i noNumbered)) (c .before .before .place-in .ensures))
+next-second-requires c κs =
+    λ e. omega (
+      arith,
+      acts-soon (c .before .before .before) (ltb→lt _ _ (rw e tt)),
+      ap
+          (λ (i : ℕ). acting (getD (start (c .before .before .before) .args .t3) i noNumbered)) (c .before .before .place-in .ensures),
+    )
 
 second-there : (c : tie.After-next-second Inv-loop μ-loop) → c .next-second .result ≡ goal (c .before .before .before .before)
 second-there c =
     let k = c .before .before .before .before in
     c .next-second .ensures
-    ∙ ap (λ (i : ℕ). pick (ltb (k .loop .w .acted) (start k .args .n)) (acting (getD (start k .args .t3) i noNumbered)) (end k)) (c .before .before .before .place-in .ensures)
+    ∙ ap (λ (i : ℕ). pick (ltb (k .loop .w .acted) (start k .args .n)) (acting (getD (start k .args .t3) i noNumbered)) (end k))
+    (c .before .before .before .place-in .ensures)
     ∙ second-is (end k) (start k .args .t3) (start k .args .n) (k .loop .w .acted) (start k .pre .few) (forty k)
 
 pass-to-requires : tie.Need-pass-to-requires Inv-loop μ-loop
@@ -141,7 +152,14 @@ pass-to-requires c κs =
     let k = c .before .before .before .before .before in
     let f = k .loop .inv .1 in
     let t = second-there (c .before) in
-    record { later = omega (arith, t, order k .later); within = omega (arith, t, within k); low = f .on .low; short = f .on .watching .short; known = f .on .known; fits = f .fits }
+    record {
+      later = omega (arith, t, order k .later);
+      within = omega (arith, t, within k);
+      low = f .on .low;
+      short = f .on .watching .short;
+      known = f .on .known;
+      fits = f .fits;
+    }
 
 -- ---- followed to that second
 abbrev head : tie.After-pass-to Inv-loop μ-loop → tie.At-loop Inv-loop μ-loop
@@ -150,10 +168,12 @@ head a = a .before .before .before .before .before .before
 past : (a : tie.After-pass-to Inv-loop μ-loop) →
     let k = head a in
     let l = k .loop in
-    Passing (l .l) (l .w .now .course) (l .g .up) (l .g .reached .place) (l .g .off) (goal k) (summed (l .g .reached .place .second) (l .sums) (l .g .total)) (a .pass-to .last .0) (a .pass-to .result)
+    Passing (l .l) (l .w .now .course) (l .g .up) (l .g .reached .place) (l .g .off) (goal k)
+    (summed (l .g .reached .place .second) (l .sums) (l .g .total)) (a .pass-to .last .0) (a .pass-to .result)
 past a =
     let l = head a .loop in
-    subst (λ (t : ℕ). Passing (l .l) (l .w .now .course) (l .g .up) (l .g .reached .place) (l .g .off) t (summed (l .g .reached .place .second) (l .sums) (l .g .total)) (a .pass-to .last .0) (a .pass-to .result))
+    subst (λ (t : ℕ). Passing (l .l) (l .w .now .course) (l .g .up) (l .g .reached .place) (l .g .off) t
+    (summed (l .g .reached .place .second) (l .sums) (l .g .total)) (a .pass-to .last .0) (a .pass-to .result))
     (second-there (a .before .before)) (a .pass-to .ensures)
 
 further : (a : tie.After-pass-to Inv-loop μ-loop) →
@@ -163,16 +183,19 @@ further : (a : tie.After-pass-to Inv-loop μ-loop) →
 further a =
     let k = head a in
     let l = k .loop in
-    sofar-pass (unit k) (end k) (first k) (all k) (left k) (l .w) (l .g) (l .l) (l .sums) (l .inv .1) (a .pass-to .result) (a .pass-to .last .0) (past a)
+    sofar-pass (unit k) (end k) (first k) (all k) (left k) (l .w) (l .g) (l .l) (l .sums) (l .inv .1) (a .pass-to .result) (a .pass-to .last .0)
+    (past a)
 
 -- the course goes on from where it was reached to the second t
 runs-to : (a : tie.After-pass-to Inv-loop μ-loop) (t : ℕ) → goal (head a) ≡ t →
     let l = head a .loop in
     let r = a .pass-to .result in
-    r .reached .place .second < t → r .ahead ≡ onward (headed (l .g .up)) (listsBy (l .l) (l .w .now .course)) (grains (l .w .now .course .target)) t (r .reached .place)
+    r .reached .place .second < t → r .ahead ≡ onward (headed (l .g .up)) (listsBy (l .l) (l .w .now .course)) (grains (l .w .now .course .target)) t
+    (r .reached .place)
 runs-to a t e = λ lt.
     let l = head a .loop in
-    past a .runs (omega (arith, lt, e)) ∙ ap (λ (t : ℕ). onward (headed (l .g .up)) (listsBy (l .l) (l .w .now .course)) (grains (l .w .now .course .target)) t (a .pass-to .result .reached .place)) e
+    past a .runs (omega (arith, lt, e)) ∙ ap (λ (t : ℕ). onward (headed (l .g .up)) (listsBy (l .l) (l .w .now .course))
+    (grains (l .w .now .course .target)) t (a .pass-to .result .reached .place)) e
 
 -- the piece that the second cuts, where it is added
 cut : (a : tie.After-pass-to Inv-loop μ-loop) →
@@ -186,7 +209,8 @@ cut a =
     let p = past a in
     record {
       straight = λ lt.
-          goes-straight (headed (l .g .up)) (listsBy (l .l) (l .w .now .course)) (grains (l .w .now .course .target)) (r .ahead .second) (r .reached .place) (r .ahead)
+          goes-straight (headed (l .g .up)) (listsBy (l .l) (l .w .now .course)) (grains (l .w .now .course .target)) (r .ahead .second)
+          (r .reached .place) (r .ahead)
           (last-goes (l .g .up) (l .l) (l .w .now .course) (goal k) (r .reached .place) (r .ahead) (p .short) (p .there) (p .runs) lt);
       later = omega (arith, p .within, p .there);
       within = omega (arith, p .there, within k);
@@ -196,7 +220,8 @@ cut a =
     }
 
 -- the state there
-state-is : (b : tie.After-state-at Inv-loop μ-loop) → let k = head (b .before .before .before) in b .state-at .result ≡ stateAt byRule (unit k) (k .loop .w .now) (goal k)
+state-is : (b : tie.After-state-at Inv-loop μ-loop) →
+    let k = head (b .before .before .before) in b .state-at .result ≡ stateAt byRule (unit k) (k .loop .w .now) (goal k)
 state-is b =
     let a = b .before .before .before in
     let k = head a in
@@ -211,7 +236,8 @@ note-piece-requires : tie.Need-note-piece-requires Inv-loop μ-loop
 note-piece-requires c κs = cut (c .before .before .before .before .before)
 
 end-day-requires : tie.Need-end-day-requires Inv-loop μ-loop
-end-day-requires c κs = c .before .before .before .before .before .before .before .before .before .before .before .before .before .before .before .before .before .pre .long
+end-day-requires c κs =
+    c .before .before .before .before .before .before .before .before .before .before .before .before .before .before .before .before .before .pre .long
 
 returns : tie.Need-returns Inv-loop μ-loop
 returns c =
@@ -223,9 +249,12 @@ returns c =
     let n = c .before .note-piece in
     let none : left k ≡ [] = left-none (s .args .t3) (s .args .n) (l .w .acted) (c .before .before .before .if1 .taken) in
     let last : goal k ≡ end k = ap (secondOf (end k)) none in
-    subst (λ (f : UnderWay). FollowedBy (unit k) f (all k) (s .args .halves) (c .end-day .result)) (sym (first-is (k .before .before .before .before)))
-    (sofar-ends (unit k) (s .args .halves) (s .pre .long) (first k) (all k) (left k) none (l .w) (wentTo (l .g .up) r) (l .l) (a .pass-to .last .0) (further a) (r .ahead) (past a .there ∙ last) (runs-to a (end k) last)
-    (n .last .0) (n .result) (n .ensures .0) (n .ensures .1) (c .before .before .before .before .state-at .result) (state-is (c .before .before .before .before) ∙ ap (stateAt byRule (unit k) (l .w .now)) last) (c .end-day .result) (c .end-day .ensures))
+    subst (λ (f : UnderWay). FollowedBy (unit k) f (all k) (s .args .halves) (c .end-day .result))
+    (sym (first-is (k .before .before .before .before)))
+    (sofar-ends (unit k) (s .args .halves) (s .pre .long) (first k) (all k) (left k) none (l .w) (wentTo (l .g .up) r) (l .l) (a .pass-to .last .0)
+    (further a) (r .ahead) (past a .there ∙ last) (runs-to a (end k) last)
+    (n .last .0) (n .result) (n .ensures .0) (n .ensures .1) (c .before .before .before .before .state-at .result)
+    (state-is (c .before .before .before .before) ∙ ap (stateAt byRule (unit k) (l .w .now)) last) (c .end-day .result) (c .end-day .ensures))
 
 -- ---- an instruction acts
 abbrev passed : tie.Else1 Inv-loop μ-loop → tie.After-pass-to Inv-loop μ-loop
@@ -238,17 +267,22 @@ going-on : (e : tie.Else1 Inv-loop μ-loop) → here e .loop .w .acted < start (
 going-on e = omega (arith, e .if1 .left)
 
 -- the state just before it
-before-it : (e : tie.Else1 Inv-loop μ-loop) → e .before .state-at .result ≡ stateAt byRule (unit (here e)) (here e .loop .w .now) (acting (act (here e)))
-before-it e = state-is (e .before) ∙ ap (λ (os : List Numbered). stateAt byRule (unit (here e)) (here e .loop .w .now) (secondOf (end (here e)) os)) (left-is (here e) (going-on e))
+before-it : (e : tie.Else1 Inv-loop μ-loop) →
+    e .before .state-at .result ≡ stateAt byRule (unit (here e)) (here e .loop .w .now) (acting (act (here e)))
+before-it e =
+    state-is (e .before) ∙ ap (λ (os : List Numbered). stateAt byRule (unit (here e)) (here e .loop .w .now) (secondOf (end (here e)) os))
+    (left-is (here e) (going-on e))
 
 now-acting : (e : tie.Else1 Inv-loop μ-loop) →
     let k = here e in
     let l = k .loop in
-    Sofar (unit k) (end k) (first k) (all k) (act k ∷ later k) (l .w) (wentTo (l .g .up) (passed e .pass-to .result)) (l .l) (passed e .pass-to .last .0)
+    Sofar (unit k) (end k) (first k) (all k) (act k ∷ later k) (l .w) (wentTo (l .g .up) (passed e .pass-to .result)) (l .l)
+    (passed e .pass-to .last .0)
 now-acting e =
     let k = here e in
     let l = k .loop in
-    subst (λ (os : List Numbered). Sofar (unit k) (end k) (first k) (all k) os (l .w) (wentTo (l .g .up) (passed e .pass-to .result)) (l .l) (passed e .pass-to .last .0)) (left-is k (going-on e)) (further (passed e))
+    subst (λ (os : List Numbered). Sofar (unit k) (end k) (first k) (all k) os (l .w) (wentTo (l .g .up) (passed e .pass-to .result)) (l .l)
+    (passed e .pass-to .last .0)) (left-is k (going-on e)) (further (passed e))
 
 room : (e : tie.Else1 Inv-loop μ-loop) → (here e .loop .w .acted < instructionPlaces) × (here e .loop .w .started < coursePlaces)
 room e = omega (arith, going-on e, start (here e) .pre .few, here e .loop .inv .1 .few)
@@ -257,12 +291,14 @@ add-w : tie.Need-add-w Inv-loop μ-loop
 add-w c = omega (arith, room c .0)
 
 -- what it comes to
-outcome-is : (c : tie.After-outcome-of Inv-loop μ-loop) → c .outcome-of .result ≡ comesTo byRule (unit (here (c .before))) (here (c .before) .loop .w .now) (act (here (c .before)))
+outcome-is : (c : tie.After-outcome-of Inv-loop μ-loop) →
+    c .outcome-of .result ≡ comesTo byRule (unit (here (c .before))) (here (c .before) .loop .w .now) (act (here (c .before)))
 outcome-is c =
     let k = here (c .before) in
     let now = k .loop .w .now in
     c .outcome-of .ensures
-    ∙ ap (λ (i : ℕ). outcome (unit k) now (getD (start k .args .t3) i noNumbered .instruction) (c .before .before .state-at .result)) (passed (c .before) .before .before .before .before .before .place-in .ensures)
+    ∙ ap (λ (i : ℕ). outcome (unit k) now (getD (start k .args .t3) i noNumbered .instruction) (c .before .before .state-at .result))
+    (passed (c .before) .before .before .before .before .before .place-in .ensures)
     ∙ ap (outcome (unit k) now (act k .instruction)) (before-it (c .before))
 
 enum-told : tie.Need-enum-told Inv-loop μ-loop
@@ -281,8 +317,10 @@ loop-again c =
     let k = here e in
     let l = k .loop in (
       omega (arith, going-on e),
-      subst (λ (g : OnCourse). Sofar (unit k) (end k) (first k) (all k) (later k) (wentOn (l .w)) g (l .l) (passed e .pass-to .last .0)) (sym (c .went-to .ensures))
-          (sofar-on (unit k) (end k) (first k) (all k) (act k) (later k) (l .w) (wentTo (l .g .up) (passed e .pass-to .result)) (l .l) (passed e .pass-to .last .0) (now-acting e) (room e .0)
+      subst (λ (g : OnCourse). Sofar (unit k) (end k) (first k) (all k) (later k) (wentOn (l .w)) g (l .l) (passed e .pass-to .last .0))
+          (sym (c .went-to .ensures))
+          (sofar-on (unit k) (end k) (first k) (all k) (act k) (later k) (l .w) (wentTo (l .g .up) (passed e .pass-to .result)) (l .l)
+          (passed e .pass-to .last .0) (now-acting e) (room e .0)
           (sym (outcome-is (c .before .before .before)) ∙ c .before .enum-told .given .1)),
     )
 
@@ -292,7 +330,12 @@ note-piece-requires-2 c κs = cut (c .before .before .before .before .before .be
 begin-course-requires : tie.Need-begin-course-requires Inv-loop μ-loop
 begin-course-requires c κs =
     let e = c .before .before .before .before .before .before in
-    omega (arith, acts-soon (here e) (going-on e), ap (λ (i : ℕ). acting (getD (start (here e) .args .t3) i noNumbered)) (passed e .before .before .before .before .before .place-in .ensures))
+    omega (
+      arith,
+      acts-soon (here e) (going-on e),
+      ap (λ (i : ℕ). acting (getD (start (here e) .args .t3) i noNumbered))
+          (passed e .before .before .before .before .before .place-in .ensures),
+    )
 
 mul-d : tie.Need-mul-d Inv-loop μ-loop
 mul-d c = omega (arith, room (c .before .before .before .before .before .before .before .before) .1)
@@ -307,7 +350,8 @@ element-write-w-2 : tie.Need-element-write-w-2 Inv-loop μ-loop
 element-write-w-2 c = omega (arith, room (c .before .before .before .before .before .before .before .before) .0)
 
 loop-less-2 : tie.Need-loop-less-2 Inv-loop μ-loop
-loop-less-2 c = omega (arith, going-on (c .before .before .before .before .before .before .before .before .before .before .before .before .before .before .before))
+loop-less-2 c =
+    omega (arith, going-on (c .before .before .before .before .before .before .before .before .before .before .before .before .before .before .before))
 
 loop-again-2 : tie.Need-loop-again-2 Inv-loop μ-loop
 unfolding replacedBy
@@ -322,16 +366,22 @@ loop-again-2 c =
     let d = c .before .before .before .before .before .before .before .before .begin-course .result in
     let up = c .before .before .before .before .before .before .is-rising2 in
     let set : Setting = c .before .before .before .before .before .before .before .before .before .before .before .before .out .given .0 .0 in
-    let comes : comesTo byRule u (l .w .now) (act k) ≡ Sets set = sym (outcome-is (c .before .before .before .before .before .before .before .before .before .before .before .before .before .before)) ∙ c .before .before .before .before .before .before .before .before .before .before .before .before .out .given .1 in
+    let comes : comesTo byRule u (l .w .now) (act k) ≡ Sets set =
+    sym (outcome-is (c .before .before .before .before .before .before .before .before .before .before .before .before .before .before))
+    ∙ c .before .before .before .before .before .before .before .before .before .before .before .before .out .given .1 in
     let is : d ≡ newCourse byRule u (l .w .now) (act k) set =
     c .before .before .before .before .before .before .before .before .begin-course .ensures
-    ∙ ap (λ (i : ℕ). begun u (getD (start k .args .t3) i noNumbered) set (e .before .state-at .result)) (a .before .before .before .before .before .place-in .ensures) ∙ ap (begun u (act k) set) (before-it e) in
+    ∙ ap (λ (i : ℕ). begun u (getD (start k .args .t3) i noNumbered) set (e .before .state-at .result))
+    (a .before .before .before .before .before .place-in .ensures) ∙ ap (begun u (act k) set) (before-it e) in
     let soon : goal k ≡ acting (act k) = ap (secondOf (end k)) (left-is k (going-on e)) in
     let own : OwnLists = setAnew u (l .l) (c .before .before .before .before .before .place-of .result) (c .before .ramp-of .result) in
-    let lists = own-anew u (l .l) (d .course) (up .result) (c .before .before .before .before .before .place-of .result) (c .before .ramp-of .result) (shared-own u (l .l) (l .w .now .course) (l .g .up) (l .inv .1 .on .lists))
+    let lists =
+    own-anew u (l .l) (d .course) (up .result) (c .before .before .before .before .before .place-of .result) (c .before .ramp-of .result)
+    (shared-own u (l .l) (l .w .now .course) (l .g .up) (l .inv .1 .on .lists))
     (c .before .before .before .before .before .place-of .ensures .0) (c .before .ramp-of .ensures) in (
       omega (arith, going-on e),
-      sofar-new u (end k) (first k) (all k) (act k) (later k) (l .w) (wentTo (l .g .up) r) (l .l) (a .pass-to .last .0) (now-acting e) (room e .0) set comes
+      sofar-new u (end k) (first k) (all k) (act k) (later k) (l .w) (wentTo (l .g .up) r) (l .l) (a .pass-to .last .0) (now-acting e) (room e .0) set
+          comes
           (r .ahead) (past a .there ∙ soon) (runs-to a (acting (act k)) soon) (n .last .0) (n .result) d (c .set-out2 .result) own (up .result) is
           (c .set-out2 .ensures ∙ ap (λ (x : UnderWay). setOut x own (up .result) (n .result)) is)
           (up .ensures ∙ ap (λ (x : UnderWay). ltb (x .course .start .grains) (grains (x .course .target))) is)

@@ -8,13 +8,15 @@ use Rattle.profile_quantity.proofs.quantity_too_high.Statement.{stateme
 use Rattle.profile_quantity.proofs.quantity_too_high.Tie as tie
 
 abbrev Inv-loop : tie.InvT-loop
-Inv-loop halves sums limit end i₀ i = (i ≤ halves) × ((most : ℕ) → limit ≡ most * 216000 + 108000 → someAbove most sums i (halves - i) ≡ someAbove most sums 0 halves)
+Inv-loop halves sums limit end i₀ i =
+    (i ≤ halves) × ((most : ℕ) → limit ≡ most * 216000 + 108000 → someAbove most sums i (halves - i) ≡ someAbove most sums 0 halves)
 
 abbrev μ-loop : tie.MeasureT-loop
 μ-loop halves sums limit end i₀ i = halves - i
 
 loop-holds : tie.Need-loop-holds Inv-loop μ-loop
-loop-holds c = (omega arith, λ m e. ap (someAbove m (c .before .args .t2) 0) {x = c .before .args .halves - 0} {y = c .before .args .halves} (omega arith))
+loop-holds c =
+    (omega arith, λ m e. ap (someAbove m (c .before .args .t2) 0) {x = c .before .args .halves - 0} {y = c .before .args .halves} (omega arith))
 
 loop-again : tie.Need-loop-again Inv-loop μ-loop
 loop-again c =

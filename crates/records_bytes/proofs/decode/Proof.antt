@@ -36,7 +36,16 @@ returns-8 : tie.Need-returns-8
 unfolding meaningOf
 returns-8 c =
     let r = c .match .rest in
-    simp (ne-eqb _ _ (r .0 .0 .0 .0 .0 .0 .1), ne-eqb _ _ (r .0 .0 .0 .0 .0 .1), ne-eqb _ _ (r .0 .0 .0 .0 .1), ne-eqb _ _ (r .0 .0 .0 .1), ne-eqb _ _ (r .0 .0 .1), ne-eqb _ _ (r .0 .1), ne-eqb _ _ (r .1))
+    simp (
+      ne-eqb _ _ (r .0 .0 .0 .0 .0 .0 .1),
+      ne-eqb _ _ (r .0 .0 .0 .0 .0 .1),
+      ne-eqb _ _ (r .0 .0 .0 .0 .1),
+      ne-eqb _ _ (r .0 .0 .0 .1),
+      ne-eqb _ _
+          (r .0 .0 .1),
+      ne-eqb _ _ (r .0 .1),
+      ne-eqb _ _ (r .1),
+    )
 
 pub decode-spec : {M : Type 1} → statement M
 decode-spec =

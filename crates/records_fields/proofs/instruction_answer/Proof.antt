@@ -16,10 +16,14 @@ returns-3 : tie.Need-returns-3
 returns-3 c = issue-out _ _ _ (c .before .before .before .before .if1 .left) (omega arith) (omega arith)
 
 returns-4 : tie.Need-returns-4
-returns-4 c = instruction-taken _ _ _ (c .before .before .before .before .before .before .if1 .left) (omega arith) (omega arith) _ (c .before .figures-fit .ensures) (c .if4 .taken)
+returns-4 c =
+    instruction-taken _ _ _ (c .before .before .before .before .before .before .if1 .left) (omega arith) (omega arith) _
+    (c .before .figures-fit .ensures) (c .if4 .taken)
 
 returns-5 : tie.Need-returns-5
-returns-5 c = figures-out _ _ _ (c .before .before .before .before .before .before .if1 .left) (omega arith) (omega arith) _ (c .before .figures-fit .ensures) (c .if4 .left)
+returns-5 c =
+    figures-out _ _ _ (c .before .before .before .before .before .before .if1 .left) (omega arith) (omega arith) _ (c .before .figures-fit .ensures)
+    (c .if4 .left)
 
 pub instruction-answer-spec : {M : Type 1} → statement M
 instruction-answer-spec = tie.close (tie.spec returns returns-2 (λ c. search needs) returns-3 (λ c κs. search needs) returns-4 returns-5)

@@ -18,7 +18,12 @@ returns c =
     let target : c .before .before .before .number2 .result ≡ numberAt body 4 = c .before .before .before .number2 .ensures in
     let heat : c .before .before .number3 .result ≡ numberAt body 8 = c .before .before .number3 .ensures in
     let off : c .before .number4 .result ≡ numberAt body 12 = c .before .number4 .ensures in
-    let opening : record { level = o .number .result; target = c .before .before .before .number2 .result; heat = c .before .before .number3 .result; off = c .before .number4 .result } ≡ openingOf body =
+    let opening : record {
+      level = o .number .result;
+      target = c .before .before .before .number2 .result;
+      heat = c .before .before .number3 .result;
+      off = c .before .number4 .result;
+    } ≡ openingOf body =
     λ i. record { level = level i; target = target i; heat = heat i; off = off i } in
     let answer = c .opening-answer .ensures ∙ ap (λ (x : Opening). refusing (not (openingFits x)) OpeningField) opening in
     λ i. record { answer = answer i; opening = opening i }

@@ -9,7 +9,13 @@ returns c =
     let deload = c .before .before .before .before in
     let down = deload .before .before .before .before in
     let up = down .before .before .before .before in
-    rw (c .before .some-block-above .ensures, deload .breaks-fall3 .ensures, down .breaks-fall2 .ensures, up .breaks-fall .ensures, up .before .before .before .before .columns-fall .ensures)
+    rw (
+      c .before .some-block-above .ensures,
+      deload .breaks-fall3 .ensures,
+      down .breaks-fall2 .ensures,
+      up .breaks-fall .ensures,
+      up .before .before .before .before .columns-fall .ensures,
+    )
 
 pub unit-disagrees-spec : {M : Type 1} → statement M
 unit-disagrees-spec =

@@ -22,7 +22,8 @@ unfolding numbers
 loop-holds c = (search needs, refl, refl)
 
 -- one more element stored is one more number
-more : (s out : List ℕ) (i v : ℕ) → i < length out → take i out ≡ numbers s i → v ≡ numberAt s (i * 4) → take (i + 1) (set out i v) ≡ numbers s (i + 1)
+more : (s out : List ℕ) (i v : ℕ) → i < length out → take i out ≡ numbers s i → v ≡ numberAt s (i * 4) →
+    take (i + 1) (set out i v) ≡ numbers s (i + 1)
 unfolding numbers
 more s out i v h e q = rw (add-one, take-suc-set, e, q)
 

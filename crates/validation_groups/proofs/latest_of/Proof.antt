@@ -13,7 +13,8 @@ returns c =
     let s = c .before .before .before in
     let a = s .args in
     let e = ap (λ (b : Bool). b && aloneAt (a .times .now) (a .n) (a .at)) (s .pre .0 .4) in
-    alone-latest (a .times .now) (a .issues .now) (a .n) (a .at) (omega arith) (omega arith) (omega arith) (sym e ∙ (sym (c .before .before .stands-alone .ensures) ∙ c .before .if1 .taken))
+    alone-latest (a .times .now) (a .issues .now) (a .n) (a .at) (omega arith) (omega arith) (omega arith)
+    (sym e ∙ (sym (c .before .before .stands-alone .ensures) ∙ c .before .if1 .taken))
 
 returns-2 : tie.Need-returns-2
 returns-2 c =

@@ -22,8 +22,11 @@ loop-again : tie.Need-loop-again Inv-loop μ-loop
 loop-again c =
     let s = c .before .before .before .before in
     let l = c .before .before .before .loop in
-    let e : l .i - 1 + 1 ≡ l .i = omega arith in
-    (omega arith, c .earlier .ensures ∙ (rw (l .inv .1) (rw e at (next-more (s .args .times .now) (s .args .n) (omega arith) (s .args .end) (s .args .t) (l .i - 1) (omega arith)))))
+    let e : l .i - 1 + 1 ≡ l .i = omega arith in (
+      omega arith,
+      c .earlier .ensures ∙ (rw (l .inv .1)
+          (rw e at (next-more (s .args .times .now) (s .args .n) (omega arith) (s .args .end) (s .args .t) (l .i - 1) (omega arith)))),
+    )
 
 returns : tie.Need-returns Inv-loop μ-loop
 returns c =

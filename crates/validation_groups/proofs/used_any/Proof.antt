@@ -12,7 +12,8 @@ use Rattle.validation_groups.proofs.used_any.Statement.{statement}
 use Rattle.validation_groups.proofs.used_any.Tie as tie
 
 abbrev Inv-loop : tie.InvT-loop
-Inv-loop instructions times issues n end out₀ t₀ i₀ out t i = (i ≤ n) × (out .count ≤ i) × Begun out (usedFrom end (numbered 1 (take n instructions)) (n - i) t) (used end (numbered 1 (take n instructions)))
+Inv-loop instructions times issues n end out₀ t₀ i₀ out t i =
+    (i ≤ n) × (out .count ≤ i) × Begun out (usedFrom end (numbered 1 (take n instructions)) (n - i) t) (used end (numbered 1 (take n instructions)))
 
 abbrev μ-loop : tie.MeasureT-loop
 μ-loop instructions times issues n end out₀ t₀ i₀ out t i = n - i
@@ -26,13 +27,22 @@ room s = omega (arith, s .good .0 .1 .0 .1)
 
 loop-holds : tie.Need-loop-holds Inv-loop μ-loop
 loop-holds c =
-    let s = c .before in
-    (omega arith, rw (c .empty .ensures) (omega arith), rw (c .empty .ensures, used-begins (s .args .end) (numbers s) (s .args .n) (as-many (s .args .instructions) (s .args .n) (room s))) (begun-none (used (s .args .end) (numbers s))))
+    let s = c .before in (
+      omega arith,
+      rw (c .empty .ensures) (omega arith),
+      rw
+          (c .empty .ensures, used-begins (s .args .end) (numbers s) (s .args .n) (as-many (s .args .instructions) (s .args .n) (room s)))
+          (begun-none (used (s .args .end) (numbers s))),
+    )
 
 next-time-requires : tie.Need-next-time-requires Inv-loop μ-loop
 next-time-requires c κs =
-    let s = c .before .before .before in
-    (omega arith, time-fits effectiveOf (numbers s) (s .args .times .now) (s .args .n) (timed-all (s .args .instructions) (s .args .n) (room s) (s .pre .1) .effective) (omega (arith, as-many (s .args .instructions) (s .args .n) (room s))))
+    let s = c .before .before .before in (
+      omega arith,
+      time-fits effectiveOf (numbers s) (s .args .times .now) (s .args .n)
+          (timed-all (s .args .instructions) (s .args .n) (room s) (s .pre .1) .effective)
+          (omega (arith, as-many (s .args .instructions) (s .args .n) (room s))),
+    )
 
 returns : tie.Need-returns Inv-loop μ-loop
 returns c =
@@ -66,7 +76,9 @@ returns-2 c =
     let s = c .before .before .before .args in
     let l = c .before .loop in
     let z : s .n - l .i ≡ 0 = omega arith in
-    let e : usedFrom (s .end) (numbered 1 (take (s .n) (s .instructions))) (s .n - l .i) (l .t) ≡ [] = ap (λ (k : ℕ). usedFrom (s .end) (numbered 1 (take (s .n) (s .instructions))) k (l .t)) z ∙ used-zero (s .end) (numbered 1 (take (s .n) (s .instructions))) (l .t) in
+    let e : usedFrom (s .end) (numbered 1 (take (s .n) (s .instructions))) (s .n - l .i) (l .t) ≡ [] =
+    ap (λ (k : ℕ). usedFrom (s .end) (numbered 1 (take (s .n) (s .instructions))) k (l .t)) z
+    ∙ used-zero (s .end) (numbered 1 (take (s .n) (s .instructions))) (l .t) in
     (begun-all (rw e at (l .inv .2)), omega arith)
 
 pub used-any-spec : {M : Type 1} → statement M

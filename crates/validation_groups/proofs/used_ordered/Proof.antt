@@ -31,18 +31,26 @@ long : (s : tie.Start Inv-loop μ-loop) → length (numbers s) ≡ s .args .n
 long s = as-many (s .args .t1) (s .args .n) (room s)
 
 at : (s : tie.Start Inv-loop μ-loop) (j : ℕ) → j < s .args .n → getD (s .args .times .now) j 0 ≡ effectiveOf (getD (numbers s) j noNumbered)
-at s j h = time-at effectiveOf (numbers s) (s .args .times .now) (s .args .n) j (timed-all (s .args .t1) (s .args .n) (room s) (s .pre .1) .effective) h
+at s j h =
+    time-at effectiveOf (numbers s) (s .args .times .now) (s .args .n) j (timed-all (s .args .t1) (s .args .n) (room s) (s .pre .1) .effective) h
 
 loop-holds : tie.Need-loop-holds Inv-loop μ-loop
 loop-holds c =
-    let s = c .before in
-    (omega arith, rw (c .empty .ensures) (omega arith), rw (c .empty .ensures) (reached-none (s .args .end) (numbers s) (s .args .times .now) (s .args .n) (long s) (at s) (s .pre .2)))
+    let s = c .before in (
+      omega arith,
+      rw (c .empty .ensures) (omega arith),
+      rw (c .empty .ensures)
+          (reached-none (s .args .end) (numbers s) (s .args .times .now) (s .args .n) (long s) (at s) (s .pre .2)),
+    )
 
 returns : tie.Need-returns Inv-loop μ-loop
 returns c =
     let s = c .before .before .before .before .before in
-    let l = c .before .before .before .loop in
-    (begun-all (reached-late (s .args .end) (numbers s) (s .args .times .now) (s .args .n) (long s) (at s) (s .pre .2) (l .i) (l .out) (l .inv .2) (omega arith) (c .if1 .taken)), omega arith)
+    let l = c .before .before .before .loop in (
+      begun-all (reached-late (s .args .end) (numbers s) (s .args .times .now) (s .args .n) (long s) (at s) (s .pre .2) (l .i) (l .out) (l .inv .2)
+          (omega arith) (c .if1 .taken)),
+      omega arith,
+    )
 
 loop-again : tie.Need-loop-again Inv-loop μ-loop
 unfolding pushed joined
@@ -52,8 +60,16 @@ loop-again c =
     let os = numbers s in
     let run = c .before .before .before .run-end .ensures in
     let one = rw (c .before .before .if2 .taken) at run in
-    let e = ap (λ (x : Numbered). x ∷ []) (c .number-at .ensures ∙ sym (number-here (s .args .t1) (s .args .n) (room s) (l .i) (omega arith))) ∙ reached-alone (s .args .end) os (s .args .times .now) (s .args .n) (long s) (at s) (s .pre .2) (l .i) (l .out) (l .inv .2) (omega arith) one in
-    (run .ends, omega (arith, run .starts), reached-more (s .args .end) os (s .args .times .now) (s .args .n) (long s) (at s) (s .pre .2) (l .i) (l .out) (l .inv .2) (c .before .before .before .run-end .result) (One (c .number-at .result)) (omega arith) (omega arith) (omega arith) run e)
+    let e =
+    ap (λ (x : Numbered). x ∷ []) (c .number-at .ensures ∙ sym (number-here (s .args .t1) (s .args .n) (room s) (l .i) (omega arith)))
+    ∙ reached-alone (s .args .end) os (s .args .times .now) (s .args .n) (long s) (at s) (s .pre .2) (l .i) (l .out) (l .inv .2) (omega arith) one
+    in (
+      run .ends,
+      omega (arith, run .starts),
+      reached-more (s .args .end) os (s .args .times .now) (s .args .n) (long s) (at s) (s .pre .2) (l .i)
+          (l .out) (l .inv .2) (c .before .before .before .run-end .result) (One (c .number-at .result)) (omega arith) (omega arith) (omega arith) run
+          e,
+    )
 
 loop-less-2 : tie.Need-loop-less-2 Inv-loop μ-loop
 loop-less-2 c = omega (arith, c .before .before .before .before .before .run-end .ensures .starts)
@@ -67,7 +83,9 @@ loop-again-2 c =
     let run = c .before .before .before .before .before .run-end .ensures in
     let u = c .before .before .before .used-at .result in
     let e : foundList u ≡ usedOf (group os (getD (s .args .times .now) (l .i) 0)) = c .before .before .before .used-at .ensures in
-    let r = reached-more (s .args .end) os (s .args .times .now) (s .args .n) (long s) (at s) (s .pre .2) (l .i) (l .out) (l .inv .2) (c .before .before .before .before .before .run-end .result) u (omega arith) (omega arith) (omega arith) run e in
+    let r =
+    reached-more (s .args .end) os (s .args .times .now) (s .args .n) (long s) (at s) (s .pre .2) (l .i) (l .out) (l .inv .2)
+    (c .before .before .before .before .before .run-end .result) u (omega arith) (omega arith) (omega arith) run e in
     (run .ends, omega (arith, run .starts), rw (c .before .u .given .1) at r)
 
 enum-told : tie.Need-enum-told Inv-loop μ-loop
@@ -82,14 +100,19 @@ loop-again-3 c =
     let run = c .before .before .before .before .run-end .ensures in
     let u = c .before .before .used-at .result in
     let e : foundList u ≡ usedOf (group os (getD (s .args .times .now) (l .i) 0)) = c .before .before .used-at .ensures in
-    let r = reached-more (s .args .end) os (s .args .times .now) (s .args .n) (long s) (at s) (s .pre .2) (l .i) (l .out) (l .inv .2) (c .before .before .before .before .run-end .result) u (omega arith) (omega arith) (omega arith) run e in
+    let r =
+    reached-more (s .args .end) os (s .args .times .now) (s .args .n) (long s) (at s) (s .pre .2) (l .i) (l .out) (l .inv .2)
+    (c .before .before .before .before .run-end .result) u (omega arith) (omega arith) (omega arith) run e in
     (run .ends, omega (arith, run .starts), rw (c .enum-told .given .1) at r)
 
 returns-2 : tie.Need-returns-2 Inv-loop μ-loop
 returns-2 c =
     let s = c .before .before .before in
-    let l = c .before .loop in
-    (begun-all (reached-all (s .args .end) (numbers s) (s .args .times .now) (s .args .n) (long s) (at s) (s .pre .2) (l .i) (l .out) (l .inv .2) (omega arith)), omega arith)
+    let l = c .before .loop in (
+      begun-all (reached-all (s .args .end) (numbers s) (s .args .times .now) (s .args .n) (long s) (at s) (s .pre .2) (l .i) (l .out) (l .inv .2)
+          (omega arith)),
+      omega arith,
+    )
 
 pub used-ordered-spec : {M : Type 1} → statement M
 used-ordered-spec =

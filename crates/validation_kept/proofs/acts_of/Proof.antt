@@ -16,7 +16,10 @@ use Rattle.validation_kept.proofs.acts_of.Statement.{statement}
 use Rattle.validation_kept.proofs.acts_of.Tie as tie
 
 abbrev Inv-loop : tie.InvT-loop
-Inv-loop kept late n out₀ i₀ out i = (i ≤ n) × (out .acting ≤ i) × (out .fates ≡ out₀ .fates) × ((end : ℕ) → LateFates end (kept .items) n late → Begun (record { items = out .acts; count = out .acting }) (actors end (drop i (take n (kept .items)))) (actors end (take n (kept .items))))
+Inv-loop kept late n out₀ i₀ out i =
+    (i ≤ n) × (out .acting ≤ i) × (out .fates ≡ out₀ .fates) ×
+    ((end : ℕ) → LateFates end (kept .items) n late → Begun (record { items = out .acts; count = out .acting })
+    (actors end (drop i (take n (kept .items)))) (actors end (take n (kept .items))))
 
 abbrev μ-loop : tie.MeasureT-loop
 μ-loop kept late n out₀ i₀ out i = n - i
@@ -36,8 +39,14 @@ loop-again c =
     let s = c .before .before .before .before in
     let l = c .before .before .loop in
     let ks = s .args .t1 .items in
-    let n = s .args .t1 .count in
-    (omega arith, omega arith, l .inv .2, λ end f. rw (actors-skip ks n (omega (arith, kept-long s)) end (l .i) (omega arith) (λ q. c .if1 .taken (f (l .i) (omega arith) ∙ q))) at (l .inv .3 end f))
+    let n = s .args .t1 .count in (
+      omega arith,
+      omega arith,
+      l .inv .2,
+      λ end f. rw
+          (actors-skip ks n (omega (arith, kept-long s)) end (l .i) (omega arith) (λ q. c .if1 .taken (f (l .i) (omega arith) ∙ q))) at
+          (l .inv .3 end f),
+    )
 
 loop-again-2 : tie.Need-loop-again-2 Inv-loop μ-loop
 loop-again-2 c =
@@ -54,7 +63,8 @@ returns : tie.Need-returns Inv-loop μ-loop
 returns c =
     let s = c .before .before .before in
     let l = c .before .loop in
-    λ end f. let e = begun-all (rw (actors-none end (left-none (s .args .t1 .items) (s .args .t1 .count) (l .i) (omega arith))) at (l .inv .3 end f)) in
+    λ end f. let e =
+    begun-all (rw (actors-none end (left-none (s .args .t1 .items) (s .args .t1 .count) (l .i) (omega arith))) at (l .inv .3 end f)) in
     λ j. record { fates = l .inv .2 j; acts = e j .items; acting = e j .count }
 
 pub acts-of-spec : {M : Type 1} → statement M

@@ -15,7 +15,8 @@ use Rattle.validation_kept.proofs.fates_of.Tie as tie
 
 abbrev Inv-loop : tie.InvT-loop
 Inv-loop times issues n ordered later out₀ latest₀ i₀ out latest i =
-    (i ≤ n) × (out ≡ filled instructionPlaces 0 (fatesTo (take n times) (take n issues) later i)) × (0 < i → latest ≡ latestAt (take n times) (take n issues) (getD times (i - 1) 0))
+    (i ≤ n) × (out ≡ filled instructionPlaces 0 (fatesTo (take n times) (take n issues) later i)) ×
+    (0 < i → latest ≡ latestAt (take n times) (take n issues) (getD times (i - 1) 0))
 
 abbrev μ-loop : tie.MeasureT-loop
 μ-loop times issues n ordered later out₀ latest₀ i₀ out latest i = n - i
@@ -30,8 +31,12 @@ loop-again c =
     let l = c .before .before .before .before .loop in
     let new = c .before .before .latest-of .ensures in
     let e = c .final-fate .ensures ∙ ap (λ (k : ℕ). pick (ltb (getD (a .issues .now) (l .i) 0) k) 1 (getD (a .t5) (l .i) 0)) new in
-    let p : l .i + 1 - 1 ≡ l .i = omega arith in
-    (omega arith, (λ q. set (l .inv .1 q) (l .i) (e q)) ∙ fates-more (a .times .now) (a .issues .now) (a .n) (l .i) (a .t5) (omega arith) (omega arith), λ h. rw p new)
+    let p : l .i + 1 - 1 ≡ l .i = omega arith in (
+      omega arith,
+      (λ q. set (l .inv .1 q) (l .i) (e q))
+          ∙ fates-more (a .times .now) (a .issues .now) (a .n) (l .i) (a .t5) (omega arith) (omega arith),
+      λ h. rw p new,
+    )
 
 returns : tie.Need-returns Inv-loop μ-loop
 returns c =

@@ -15,7 +15,9 @@ use Rattle.validation_kept.proofs.settle_late.Statement.{statement}
 use Rattle.validation_kept.proofs.settle_late.Tie as tie
 
 abbrev Inv-loop : tie.InvT-loop
-Inv-loop numbers n late out₀ i₀ out i = (i ≤ n) × (length out ≡ instructionPlaces) × ((end : ℕ) (ks : List Numbered) → n ≤ length ks → Noted entryNumber numbers ks n → LateFates end ks n late → settled out (lateMarks end (drop i (take n ks))) ≡ settled out₀ (lateMarks end (take n ks)))
+Inv-loop numbers n late out₀ i₀ out i =
+    (i ≤ n) × (length out ≡ instructionPlaces) × ((end : ℕ) (ks : List Numbered) → n ≤ length ks → Noted entryNumber numbers ks n → LateFates end ks n
+    late → settled out (lateMarks end (drop i (take n ks))) ≡ settled out₀ (lateMarks end (take n ks)))
 
 abbrev μ-loop : tie.MeasureT-loop
 μ-loop numbers n late out₀ i₀ out i = n - i
@@ -24,14 +26,19 @@ loop-holds : tie.Need-loop-holds Inv-loop μ-loop
 loop-holds c = (omega arith, omega (arith, c .good .1 .1 .1 .0 .1 .0 .1), λ end ks g k f. refl)
 
 -- the one at the place i has its fate
-more : (x : tie.In-loop Inv-loop μ-loop) (next : List ℕ) → next ≡ settleFate (x .before .loop .out) (getD (x .before .before .args .numbers .now) (x .before .loop .i) 0) (getD (x .before .before .args .t3) (x .before .loop .i) 0) →
-    (end : ℕ) (ks : List Numbered) → x .before .before .args .n ≤ length ks → Noted entryNumber (x .before .before .args .numbers .now) ks (x .before .before .args .n) → LateFates end ks (x .before .before .args .n) (x .before .before .args .t3) →
-    settled next (lateMarks end (drop (x .before .loop .i + 1) (take (x .before .before .args .n) ks))) ≡ settled (x .before .before .args .before) (lateMarks end (take (x .before .before .args .n) ks))
+more : (x : tie.In-loop Inv-loop μ-loop) (next : List ℕ) →
+    next ≡ settleFate (x .before .loop .out) (getD (x .before .before .args .numbers .now) (x .before .loop .i) 0)
+    (getD (x .before .before .args .t3) (x .before .loop .i) 0) →
+    (end : ℕ) (ks : List Numbered) → x .before .before .args .n ≤ length ks → Noted entryNumber (x .before .before .args .numbers .now) ks
+    (x .before .before .args .n) → LateFates end ks (x .before .before .args .n) (x .before .before .args .t3) →
+    settled next (lateMarks end (drop (x .before .loop .i + 1) (take (x .before .before .args .n) ks))) ≡ settled (x .before .before .args .before)
+    (lateMarks end (take (x .before .before .args .n) ks))
 more x next q end ks g k f =
     let s = x .before .before in
     let l = x .before .loop in
     let fate = getD (s .args .t3) (l .i) 0 in
-    settled-more ks (s .args .n) g end (l .i) (l .out) next fate (omega arith) (f (l .i) (omega arith)) (q ∙ ap (λ (j : ℕ). settleFate (l .out) j fate) (k (l .i) (omega arith))) ∙ l .inv .2 end ks g k f
+    settled-more ks (s .args .n) g end (l .i) (l .out) next fate (omega arith) (f (l .i) (omega arith))
+    (q ∙ ap (λ (j : ℕ). settleFate (l .out) j fate) (k (l .i) (omega arith))) ∙ l .inv .2 end ks g k f
 
 loop-again : tie.Need-loop-again Inv-loop μ-loop
 loop-again c =

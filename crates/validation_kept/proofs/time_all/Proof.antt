@@ -9,7 +9,8 @@ use Rattle.validation_kept.proofs.time_all.Statement.{statement}
 use Rattle.validation_kept.proofs.time_all.Tie as tie
 
 abbrev Inv-loop : tie.InvT-loop
-Inv-loop n times₀ issues₀ instructions i₀ times issues i = (i ≤ n) × (n ≤ length times) × (n ≤ length issues) × Timed (numbered 1 (take i instructions)) (take i times) (take i issues)
+Inv-loop n times₀ issues₀ instructions i₀ times issues i =
+    (i ≤ n) × (n ≤ length times) × (n ≤ length issues) × Timed (numbered 1 (take i instructions)) (take i times) (take i issues)
 
 abbrev μ-loop : tie.MeasureT-loop
 μ-loop n times₀ issues₀ instructions i₀ times issues i = n - i
@@ -23,8 +24,13 @@ loop-again : tie.Need-loop-again Inv-loop μ-loop
 loop-again c =
     let s = c .before .before .before in
     let l = c .before .before .loop in
-    let x = getD (s .args .t1) (l .i) (noNumbered .instruction) in
-    (omega arith, omega (arith, length-set (l .times) (l .i) (x .effective)), omega (arith, length-set (l .issues) (l .i) (x .issue)), timed-more (s .args .t1) (l .i) (omega (arith, s .good .0 .1 .0 .1)) (l .times) (l .issues) (omega arith) (omega arith) (l .inv .3))
+    let x = getD (s .args .t1) (l .i) (noNumbered .instruction) in (
+      omega arith,
+      omega (arith, length-set (l .times) (l .i) (x .effective)),
+      omega (arith, length-set (l .issues) (l .i) (x .issue)),
+      timed-more
+          (s .args .t1) (l .i) (omega (arith, s .good .0 .1 .0 .1)) (l .times) (l .issues) (omega arith) (omega arith) (l .inv .3),
+    )
 
 returns : tie.Need-returns Inv-loop μ-loop
 returns c =

@@ -22,15 +22,19 @@ returns c =
 
 fates-of-requires : tie.Need-fates-of-requires
 fates-of-requires c κs =
-    let q = c .before .before .before .before .before .before .before .before .before .before .before .before .before .before .before .time-all .ensures in
+    let q =
+    c .before .before .before .before .before .before .before .before .before .before .before .before .before .before .before .time-all .ensures in
     (omega (arith, c .before .before .before .before .before .before .before .before .before .before .before .before .before .before .before .before .before .before .smaller-count .ensures), q .0, q .1, c .before .before .before .before .before .before .before .before .before .before .before .before .before .in-order .ensures)
 
 returns-2 : tie.Need-returns-2
 returns-2 c =
-    let a = c .before .before .before .before .before .before .before .before .before .before .before .before .before .before .before .before .before .before .before .before .before .before in
+    let a =
+    c .before .before .before .before .before .before .before .before .before .before .before .before .before .before .before .before .before .before .before .before .before .before in
     let end = a .args .end in
-    let n = c .before .before .before .before .before .before .before .before .before .before .before .before .before .before .before .before .before .before .before .before .smaller-count in
-    let q = c .before .before .before .before .before .before .before .before .before .before .before .before .before .before .before .before .before .time-all in
+    let n =
+    c .before .before .before .before .before .before .before .before .before .before .before .before .before .before .before .before .before .before .before .before .smaller-count in
+    let q =
+    c .before .before .before .before .before .before .before .before .before .before .before .before .before .before .before .before .before .time-all in
     let times = q .last .1 .1 .0 in
     let issues = q .last .1 .1 .1 .0 in
     let u = c .before .before .before .before .before .before .before .before .before .before .before .before .used-in in
@@ -41,10 +45,14 @@ returns-2 c =
     let fits : kept .count ≤ length (kept .items) = omega (arith, step .few) in
     let late = c .before .before .before .before .before .before .late-fates .ensures (kept .items) fits (step .timed) in
     let later = c .before .before .before .before .settle-late .ensures end (kept .items) fits (step .named) late in
-    let f = c .before .fates-of .ensures ∙ ap (λ (l : List ℕ). filled instructionPlaces 0 (fatesTo (take (n .result) times) (take (n .result) issues) l (n .result))) later in
+    let f =
+    c .before .fates-of .ensures ∙ ap (λ (l : List ℕ). filled instructionPlaces 0
+    (fatesTo (take (n .result) times) (take (n .result) issues) l (n .result))) later in
     c .acts-of .ensures end late
     ∙ (ap (λ (l : List ℕ). actingWith l (actors end (take (kept .count) (kept .items)))) f
-    ∙ validation-is (a .args .instructions) (a .args .count) end (n .result) (a .good .0 .1 .0 .1) (n .ensures) (take (n .result) times) (take (n .result) issues) (q .ensures .2) (u .result) (u .ensures .0) (u .ensures .1) (checking (kept .items) (kept .count) (k .last .1 .0)) (step .tracks) fits)
+    ∙ validation-is (a .args .instructions) (a .args .count) end (n .result) (a .good .0 .1 .0 .1) (n .ensures) (take (n .result) times)
+    (take (n .result) issues) (q .ensures .2) (u .result) (u .ensures .0) (u .ensures .1) (checking (kept .items) (kept .count) (k .last .1 .0))
+    (step .tracks) fits)
 
 pub validate-spec : {M : Type 1} → statement M
 validate-spec =

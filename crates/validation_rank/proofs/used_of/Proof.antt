@@ -11,7 +11,8 @@ enum-told c = search needs
 
 returns : tie.Need-returns
 returns c =
-    λ g p q r. c .merge .ensures g (c .before .or-else .ensures ∙ (λ j. orElse (q j) (r j))) ∙ used-best g _ (sym (ap foundList (c .before .before .before .best .given .1)) ∙ p)
+    λ g p q r. c .merge .ensures g (c .before .or-else .ensures ∙ (λ j. orElse (q j) (r j)))
+    ∙ used-best g _ (sym (ap foundList (c .before .before .before .best .given .1)) ∙ p)
 
 returns-2 : tie.Need-returns-2
 returns-2 c =

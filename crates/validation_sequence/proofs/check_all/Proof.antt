@@ -13,7 +13,8 @@ use Rattle.validation_sequence.proofs.check_all.Statement.{statement}
 use Rattle.validation_sequence.proofs.check_all.Tie as tie
 
 abbrev Inv-loop : tie.InvT-loop
-Inv-loop fates₀ numbers₀ times₀ n items₀ places₀ count₀ i₀ fates numbers times items places count i = Checks n i count items₀ items places fates numbers times
+Inv-loop fates₀ numbers₀ times₀ n items₀ places₀ count₀ i₀ fates numbers times items places count i =
+    Checks n i count items₀ items places fates numbers times
 
 abbrev μ-loop : tie.MeasureT-loop
 μ-loop fates₀ numbers₀ times₀ n items₀ places₀ count₀ i₀ fates numbers times items places count i = n - i
@@ -25,11 +26,13 @@ used-long s = simp map-length at (s .good .0 .1 .1 .0 .1 .0 .1)
 loop-holds : tie.Need-loop-holds Inv-loop μ-loop
 loop-holds c =
     let s = c .before in
-    checks-none (s .args .used .count) (s .args .used .items) _ (s .args .fates .now) (s .args .numbers .now) (s .args .times .now) (s .pre .0) (used-long s) refl (s .pre .1) (s .pre .2) (s .pre .3)
+    checks-none (s .args .used .count) (s .args .used .items) _ (s .args .fates .now) (s .args .numbers .now) (s .args .times .now) (s .pre .0)
+    (used-long s) refl (s .pre .1) (s .pre .2) (s .pre .3)
 
 -- the latest kept SYNC is as noted
 module _ (x : tie.After-has-code Inv-loop μ-loop) where
-  place-is : x .before .latest-sync .result ≡ syncPlace (x .before .before .before .before .before .loop .items) (x .before .before .before .before .before .loop .count)
+  place-is : x .before .latest-sync .result ≡ syncPlace (x .before .before .before .before .before .loop .items)
+      (x .before .before .before .before .before .loop .count)
   place-is = let l = x .before .before .before .before .before .loop in x .before .latest-sync .ensures (l .items) (l .inv .synced)
 
   place-low : x .before .latest-sync .result ≤ x .before .before .before .before .before .loop .count
@@ -82,7 +85,8 @@ loop-again-3 c =
     let place = c .before .sync-with in
     let time = c .acting-time in
     let f = check-keep (checking (l .items) (l .count) (l .fates)) o (omega arith) other told in
-    checks-keep (l .inv) (omega arith) (time .result) (place .result) (x .before .latest-sync .result) (time .ensures .0) (time .ensures .1) (place .ensures) (place-is x) f
+    checks-keep (l .inv) (omega arith) (time .result) (place .result) (x .before .latest-sync .result) (time .ensures .0) (time .ensures .1)
+    (place .ensures) (place-is x) f
 
 returns : tie.Need-returns Inv-loop μ-loop
 returns c =

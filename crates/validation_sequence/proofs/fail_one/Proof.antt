@@ -29,7 +29,8 @@ returns c =
     )
 
 -- the one before the place is a SYNC
-sync-told : (s : tie.Start) (ks : List Numbered) → s .args .place ≡ syncPlace ks (s .args .height) → s .args .sync ≡ getD ks (s .args .place - 1) noNumbered → 0 < s .args .place → same (effectOf (s .args .sync)) Sync ≡ true
+sync-told : (s : tie.Start) (ks : List Numbered) → s .args .place ≡ syncPlace ks (s .args .height) →
+    s .args .sync ≡ getD ks (s .args .place - 1) noNumbered → 0 < s .args .place → same (effectOf (s .args .sync)) Sync ≡ true
 sync-told s ks p q h = rw (q, p) (sync-is ks (s .args .height) (omega arith))
 
 returns-2 : tie.Need-returns-2

@@ -29,7 +29,8 @@ returns-4 c =
 
 returns-5 : tie.Need-returns-5
 returns-5 c =
-    let last = sym (c .before .before .before .before .before .before .has-code .ensures) ∙ not-false _ (c .before .before .before .before .before .if2 .left) in
+    let last =
+    sym (c .before .before .before .before .before .before .has-code .ensures) ∙ not-false _ (c .before .before .before .before .before .if2 .left) in
     let sync = sym (c .before .before .before .before .has-code2 .ensures) ∙ c .before .before .before .if3 .left in
     let desy = sym (c .before .before .has-code3 .ensures) ∙ c .before .if4 .left in
     λ ks e. c .has-code4 .ensures ∙ repeats-trip _ _ ks _ e (omega arith) last sync desy

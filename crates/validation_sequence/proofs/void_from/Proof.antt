@@ -13,7 +13,9 @@ use Rattle.validation_sequence.proofs.void_from.Statement.{statement}
 use Rattle.validation_sequence.proofs.void_from.Tie as tie
 
 abbrev Inv-loop : tie.InvT-loop
-Inv-loop numbers from height fates₀ i₀ fates i = (from ≤ i) × (i ≤ height) × (length fates ≡ instructionPlaces) × ((ks : List Numbered) → Noted entryNumber numbers ks height → fates ≡ marked fates₀ (map (mark 4) (stackFrom ks from (i - from))))
+Inv-loop numbers from height fates₀ i₀ fates i =
+    (from ≤ i) × (i ≤ height) × (length fates ≡ instructionPlaces) ×
+    ((ks : List Numbered) → Noted entryNumber numbers ks height → fates ≡ marked fates₀ (map (mark 4) (stackFrom ks from (i - from))))
 
 abbrev μ-loop : tie.MeasureT-loop
 μ-loop numbers from height fates₀ i₀ fates i = height - i
@@ -21,8 +23,13 @@ abbrev μ-loop : tie.MeasureT-loop
 loop-holds : tie.Need-loop-holds Inv-loop μ-loop
 loop-holds c =
     let a = c .args in
-    let z : a .from - a .from ≡ 0 = omega arith in
-    (omega arith, omega arith, omega arith, λ ks e. sym (ap (λ (k : ℕ). marked (a .fates .now) (map (mark 4) (stackFrom ks (a .from) k))) z ∙ voided-none (a .fates .now) ks (a .from)))
+    let z : a .from - a .from ≡ 0 = omega arith in (
+      omega arith,
+      omega arith,
+      omega arith,
+      λ ks e. sym
+          (ap (λ (k : ℕ). marked (a .fates .now) (map (mark 4) (stackFrom ks (a .from) k))) z ∙ voided-none (a .fates .now) ks (a .from)),
+    )
 
 loop-again : tie.Need-loop-again Inv-loop μ-loop
 loop-again c =
@@ -37,7 +44,8 @@ loop-again c =
       omega arith,
       ap length p ∙ (set-length (l .fates) number 4 ∙ l .inv .2),
       λ ks e. p ∙ ((λ j. setFate (l .inv .3 ks e j) (e (l .i) (omega arith) j) 4)
-          ∙ (rw f at (voided-more (a .fates .now) ks (a .from) d) ∙ ap (λ (k : ℕ). marked (a .fates .now) (map (mark 4) (stackFrom ks (a .from) k))) (sym q))),
+          ∙ (rw f at (voided-more (a .fates .now) ks (a .from) d)
+          ∙ ap (λ (k : ℕ). marked (a .fates .now) (map (mark 4) (stackFrom ks (a .from) k))) (sym q))),
     )
 
 returns : tie.Need-returns Inv-loop μ-loop
