@@ -25,7 +25,7 @@ use Rattle.day.specs.declared.Day.{Day}
 use Rattle.day.specs.Day.{foundIn, empty, dayWith}
 use Rattle.day.specs.Step.{kindOf, bodyOf}
 use Rattle.day.proofs.Answers.{never}
-use Rattle.day.proofs.ByKind.{Passed, some-size}
+use Rattle.day.proofs.ByKind.{RecordPasses, some-size}
 use Rattle.claims.specs.LetIn.{ofKind, hasKind, bodyOfKind, unitIn, openingIn, instructionsIn, takenIn, foundFrom}
 use Rattle.claims.proofs.Low.{start-low}
 use Rattle.level.proofs.Arrays.{filled-push}
@@ -203,7 +203,7 @@ low-with t k b first new old = elim (ℕ-discrete k 1) [
   ]
 ]
 
-pub record Fits (rs : List (List ℕ)) : Type 0 where
+pub record LetInBounds (rs : List (List ℕ)) : Type 0 where
   pub unit : Once UnitFits 1 rs
   pub low : LowStart (takenIn rs)
   pub few : length (instructionsIn rs) ≤ instructionPlaces
@@ -211,7 +211,7 @@ pub record Fits (rs : List (List ℕ)) : Type 0 where
 -- ---- the day d is what the records rs, let in, make of an empty one
 pub record Made (d : Day) (rs : List (List ℕ)) : Type 0 where
   pub taken : d .taken ≡ takenIn rs
-  pub fits : Fits rs
+  pub fits : LetInBounds rs
   pub started : d .closed ≡ true → hasKind 2 rs ≡ true
   pub stored : d .closed ≡ true → d .found ≡ arraysOf (foundFrom rs)
 
@@ -226,7 +226,7 @@ made-empty = record {
 }
 
 -- ---- a record let in
-module _ (d : Day) (rs : List (List ℕ)) (s : List ℕ) (m : Made d rs) (p : Passed (foundIn paper) d s) where
+module _ (d : Day) (rs : List (List ℕ)) (s : List ℕ) (m : Made d rs) (p : RecordPasses (foundIn paper) d s) where
   has-unit : d .taken .hasUnit ≡ hasKind 1 rs
   unfolding takenIn
   has-unit = ap (λ (t : Taken). t .hasUnit) (m .taken)
@@ -249,7 +249,7 @@ module _ (d : Day) (rs : List (List ℕ)) (s : List ℕ) (m : Made d rs) (p : Pa
   abbrev kind : ℕ
   kind = kindOf s
 
-  fits-with : Fits (with-one rs s)
+  fits-with : LetInBounds (with-one rs s)
   unfolding takenIn
   fits-with = record {
     unit = once-with UnitFits 1 rs s (may .unit) (λ e. p .unit e .fields) (m .fits .unit);

@@ -8,7 +8,8 @@ use lib.ListN.{length, take}
 use borrow.Author.Tests.{le-ltb}
 use Rattle.level.specs.Level.{grains}
 use Rattle.level.specs.Lists.{All, filled, listFrom}
-use Rattle.level.specs.Numbers.{mostSeconds, instructionPlaces, coursePlaces}
+use Rattle.level.specs.Bounds.{mostSeconds}
+use Rattle.level.specs.Numbers.{instructionPlaces, coursePlaces}
 use Rattle.records.specs.declared.UnitData.{UnitData}
 use Rattle.records.specs.declared.Answer.the-variants.{Accepted}
 use Rattle.records.specs.Records.{numbers, noInstruction}

@@ -23,15 +23,15 @@ use Rattle.profile.specs.State.{held, watchNext, watch, byRule}
 use Rattle.profile.specs.Taken.{startOf, noTaken, takenWith, entered}
 use Rattle.profile.specs.Finding.{noFinding, arraysOf, quantityAt}
 use Rattle.day.specs.Day.{foundIn, empty, dayWith, fatesIn, coursesIn, quantitiesIn}
-use Rattle.day.specs.Step.{kindOf, bodyOf, aKind, noBytes, unknownKind, tooFew, secondOne, beforeUnit, tooMany, notReady, fieldAnswer, tooHigh, quantityTooHigh, answerBy, stepBy, restOf}
+use Rattle.day.specs.Step.{kindOf, bodyOf, aKind, noBytes, unknownKind, tooFew, secondOne, beforeUnit, tooMany, notReady, fieldAnswer, tooHigh, quantityTooHigh, answerBy, stepBy}
 use Rattle.lines.specs.Lines.{fLine, sLine, qLine, eLine, xLine}
 use Rattle.lines.specs.Text.{digits, decimal, field, fields, line}
 use Rattle.listing.specs.Listing.{fLines, sLines, runLines, qLines, listing, printedDay, listAnswer, listOf, lentAfter}
 use Rattle.listing.specs.Reader.{parted, linesOf, wordsOf, isByte, allDigits, isDecimal, valueFrom, value, enclosing, inLines, printedAt, printedKw}
-use Rattle.claims.specs.Calls.{letIn, wrote}
+use Rattle.claims.specs.Calls.{afterCalls, letIn, wrote}
 use Rattle.claims.specs.Cases.{word, words, plainColumn, unitRecord, openingRecord, instructionRecord, usual, tripAt, failAt, figures, sent, closedBy, fatesBy, firstQuantity, piecesBy, answerAfter, starred}
 use Rattle.claims.specs.LetIn.{ofKind, hasKind, bodyOfKind, unitIn, openingIn, instructionsIn, takenIn, foundFrom, spansFrom}
-use Rattle.listing.specs.Program.{runBy, ranBy, printedRun, programBy}
+use Rattle.listing.specs.Program.{runBy, ranBy, printedRun, program}
 
 -- document 01's listing, byte by byte; quantities; fates; pieces (from, to, level, level); answers; fates
 abbrev pub expected : List (List ℕ)
@@ -68,14 +68,14 @@ unfolding grains fromKw those some listFrom sum filled seconds recorded ticks ex
     dayPieces lastOf foundBy found held watchNext watch byRule arrival stateOn bySegments startOf noTaken
     takenWith entered noFinding arraysOf quantityAt foundIn empty dayWith fatesIn coursesIn quantitiesIn
     kindOf bodyOf aKind noBytes unknownKind tooFew secondOne beforeUnit tooMany notReady fieldAnswer
-    tooHigh quantityTooHigh answerBy stepBy restOf digits decimal field fields line fLine sLine qLine
+    tooHigh quantityTooHigh answerBy stepBy digits decimal field fields line fLine sLine qLine
     eLine xLine fLines sLines runLines qLines listing printedDay listAnswer listOf lentAfter
     parted linesOf wordsOf isByte allDigits isDecimal valueFrom value enclosing inLines
-    printedAt printedKw Rattle.claims.specs.Calls.after letIn wrote word words
+    printedAt printedKw afterCalls letIn wrote word words
     plainColumn unitRecord openingRecord instructionRecord usual tripAt failAt figures
     sent closedBy fatesBy firstQuantity piecesBy answerAfter starred ofKind
     hasKind bodyOfKind unitIn openingIn instructionsIn takenIn foundFrom
-    spansFrom runBy ranBy printedRun programBy
+    spansFrom runBy ranBy printedRun program
 starred-by-segments = refl
 
 -- by the paper's own definitions

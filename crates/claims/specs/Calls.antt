@@ -9,17 +9,16 @@ use Rattle.day.specs.Day.{empty}
 use Rattle.day.specs.Step.{stepOf}
 use Rattle.listing.specs.Listing.{listOf, lentAfter}
 
--- "The calls are taking a record, close among them, and asking for a listing": a call is sent a record's slice, or lent a slice; both of any length
--- and content
+-- "The calls are taking a record, close among them, and asking for a listing": a call is sent a slice or lent one, of any length and content
 pub data Call : Type 0 where
   sends : List ℕ → Call
   asks : List ℕ → Call
 
 -- "Each later one gets the day that the call before returned or left": the day after the calls
-unfoldable pub after : Day → List Call → Day
-after d [] = d
-after d (sends s ∷ cs) = after (stepOf d s .day) cs
-after d (asks o ∷ cs) = after d cs
+unfoldable pub afterCalls : Day → List Call → Day
+afterCalls d [] = d
+afterCalls d (sends s ∷ cs) = afterCalls (stepOf d s .day) cs
+afterCalls d (asks o ∷ cs) = afterCalls d cs
 
 -- the records let in, as bytes, in order
 unfoldable pub letIn : Day → List Call → List (List ℕ)
@@ -36,7 +35,7 @@ wrote d (asks o ∷ cs) = pick (accepted (listOf d o .answer)) (take (listOf d o
 
 -- "The first gets an empty day"
 abbrev pub dayAfter : List Call → Day
-dayAfter calls = after empty calls
+dayAfter calls = afterCalls empty calls
 
 abbrev pub recordsOf : List Call → List (List ℕ)
 recordsOf calls = letIn empty calls

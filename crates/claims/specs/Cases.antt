@@ -14,8 +14,6 @@ use Rattle.day.specs.Day.{daySeconds, empty, fatesIn, coursesIn, quantitiesIn}
 use Rattle.day.specs.Step.{answerBy, stepBy}
 use Rattle.listing.specs.Listing.{printedDay}
 
--- ---- records as bytes
-
 -- a number in four bytes, big-endian; several
 unfoldable pub word : ℕ → List ℕ
 word n = n / 16777216 % 256 ∷ n / 65536 % 256 ∷ n / 256 % 256 ∷ n % 256 ∷ []

@@ -1,5 +1,4 @@
--- Believed: document 01, The printed day (demand 3). Demand 3, whole: over every list of calls from the empty day, from the bytes taken to the bytes
--- printed.
+-- Believed: document 01, The printed day (demand 3). Whole: over every list of calls from the empty day, from the bytes taken to the bytes printed.
 use Prim.Native.Nat.{ℕ, suc, _+_, _*_, _-_, _≤_, _<_}
 use mathlib.Core.Path.{_≡_}
 use mathlib.Core.List.{List, [], _∷_}

@@ -26,8 +26,6 @@ trajectoryOf u c = record { start = c .start .grains; target = grains (c .target
 abbrev pub noCourse : Course
 noCourse = record { begin = 0; start = record { grains = 0 }; target = 0; heat = 0; up = 0; down = 0 }
 
--- ---- direction
-
 pub data Heading : Type 0 where
   rising : Heading
   falling : Heading
@@ -48,8 +46,6 @@ gap v w = (v - w) + (w - v)
 unfoldable pub distance : Trajectory → ℕ
 distance c = gap (c .start) (c .target)
 
--- ---- the rate at a level
-
 -- "Rising below MSG uses the column, otherwise ramp-up; falling above MSG uses ramp-down, otherwise deload"
 unfoldable pub inUse : Heading → Lists → ℕ → Rates
 inUse rising l v = pick (ltb v (l .msg)) (l .column) (l .up)
@@ -63,8 +59,6 @@ passed falling v breaks = length (those (λ b. ltb b v) breaks)
 -- "The rate is the one numbered 1 plus the count"; number 1 stands at place 0
 unfoldable pub rateAt : Heading → Lists → ℕ → ℕ
 rateAt h l v = getD (inUse h l v .rates) (passed h v (inUse h l v .breaks)) 0
-
--- ---- stops
 
 -- "breaks of the list in use there": those at which their own list is in use
 unfoldable pub breaksInUse : Heading → Lists → List ℕ
@@ -111,8 +105,6 @@ module _ (h : Heading) (l : Lists) (t : ℕ) where
   unfoldable pub holdAt : ℕ → ℕ
   holdAt v = pick (eqb v t) 0 (holding v (triggers h l))
 
-  -- ---- one second
-
   -- the level w, come to on the way to a stop: at the stop its hold begins
   unfoldable pub arrived : ℕ → ℕ → Moment
   arrived stop w = record { level = w; left = pick (eqb w stop) (holdAt w) 0 }
@@ -131,8 +123,6 @@ module _ (h : Heading) (l : Lists) (t : ℕ) where
   -- "The rate in force where a second began is the one given above for the level there .., and 0 in a hold or at rest"
   unfoldable pub rateInForce : Moment → ℕ
   rateInForce m = pick (ltb 0 (m .left)) 0 (pick (eqb (m .level) t) 0 (rateAt h l (m .level)))
-
-  -- ---- stops and segments
 
   -- the stops past v, in order, each once, n at most
   unfoldable pub stopsFrom : ℕ → ℕ → List ℕ

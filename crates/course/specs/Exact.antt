@@ -39,13 +39,11 @@ ticksOf c = rateProduct (segments c)
 unfoldable pub exactAt : ℕ → Trajectory → ℕ → ℕ
 exactAt p c j = toward (heading c) (c .start * p) (exact p (segments c) j)
 
--- a straight piece from the tick u to the tick v, cut to the ticks lo to hi, of the levels f: "a piece's time by the sum of the levels at its two
--- ends"
+-- a straight piece from the tick u to the tick v, cut to the ticks lo to hi: "a piece's time by the sum of the levels at its two ends"
 unfoldable pub cut : (ℕ → ℕ) → ℕ → ℕ → ℕ → ℕ → ℕ
 cut f u v lo hi = (min v hi - max u lo) * (f (max u lo) + f (min v hi))
 
--- "the sum over its straight pieces" from the tick u on, cut to the ticks lo to hi: the way of each segment, its hold, and after the last stop the
--- rest
+-- "the sum over its straight pieces" from the tick u on, cut to the ticks lo to hi: way and hold of each segment, and the rest after the last stop
 unfoldable pub cuts : ℕ → (ℕ → ℕ) → ℕ → List Segment → ℕ → ℕ → ℕ
 cuts p f u [] lo hi = (hi - max u lo) * (f (max u lo) + f hi)
 cuts p f u (l ∷ ls) lo hi =

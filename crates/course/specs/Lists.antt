@@ -1,5 +1,4 @@
--- Believed: document 01, A course, second by second. The unit data that a course goes by, in grains: the column of its heat, and any rates that its
--- instruction replaced.
+-- Believed: document 01, A course, second by second. The unit data that a course goes by, in grains, with the rates that its instruction replaced.
 use Prim.Native.Nat.{ℕ}
 use mathlib.Core.List.{List, [], _∷_, map}
 use lib.Dec.{eqb}

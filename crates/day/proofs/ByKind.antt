@@ -135,7 +135,7 @@ some-size k =
     (λ t. by-bool (eqb k 3) (λ v. simp (e, t, v) (omega arith)) (λ v. simp (e, t, v) (omega arith))))
 
 module _ (find : Taken → Found) (d : Day) (s : List ℕ) where
-  pub record Passed : Type 0 where
+  pub record RecordPasses : Type 0 where
     pub some : 1 ≤ length s
     pub long : sizeOf (kindOf s) ≤ length s
     pub not-closed : d .closed ≡ false
@@ -144,7 +144,7 @@ module _ (find : Taken → Found) (d : Day) (s : List ℕ) where
     pub instruction : kindOf s ≡ 3 → InstructionPasses (d .taken) (bodyOf s)
     pub close : kindOf s ≡ 4 → ClosePasses (d .taken) (find (d .taken))
 
-  pub passed : answerBy find d s ≡ Accepted → Passed
+  pub passed : answerBy find d s ≡ Accepted → RecordPasses
   unfolding noBytes tooFew kindRefusals
   passed e =
       let k : ℕ = kindOf s in

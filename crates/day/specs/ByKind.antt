@@ -1,6 +1,5 @@
--- Working. The refusals kind by kind, after 2, 1, 2 and 24: in the paper's order, those that can meet the kind. (`by-kind` in proofs/ByKind: they are
--- the
--- paper's one order, `answerBy`.)
+-- Working. The refusals kind by kind, after 2, 1, 2 and 24: in the paper's order, those that can meet the kind.
+-- `by-kind`, proofs/ByKind: they are the paper's one order, `answerBy`.
 use Prim.Native.Nat.{ℕ}
 use mathlib.Core.List.{List, [], _∷_}
 use mathlib.Core.Bool.{not}
@@ -13,9 +12,14 @@ use Rattle.records.specs.Answers.{refusing}
 use Rattle.records.specs.Records.{numbers, openingOf}
 use Rattle.records.specs.Fields.{unitAnswer, openingAnswer, instructionAnswer}
 use Rattle.profile.specs.declared.Taken.{Taken}
-use Rattle.profile.specs.Profile.{Found}
-use Rattle.day.specs.Day.{daySeconds}
-use Rattle.day.specs.Step.{tooHigh, quantityTooHigh}
+use Rattle.profile.specs.Profile.{Found, paper}
+use Rattle.day.specs.declared.Day.{Day}
+use Rattle.day.specs.Day.{daySeconds, foundIn}
+use Rattle.day.specs.Step.{tooHigh, quantityTooHigh, answerBy}
+
+-- the answer to a record, as the paper says it
+abbrev pub answerOf : Day → List ℕ → Answer
+answerOf d s = answerBy (foundIn paper) d s
 
 -- kind 1, unit: 20; 3 and 4
 abbrev pub unitRefusals : Taken → List ℕ → List Answer

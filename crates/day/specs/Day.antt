@@ -38,8 +38,7 @@ dayWith find d k b = record {
   found = pick (eqb k 4) (arraysOf (find (d .taken))) (d .found);
 }
 
--- ---- what a closed day holds
-
+-- what a closed day holds
 unfoldable pub fatesIn : Day → List ℕ
 fatesIn d = take (d .taken .count) (d .found .fates)
 

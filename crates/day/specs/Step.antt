@@ -113,12 +113,5 @@ module _ (find : Taken → Found) where
   stepBy d s = settle (answerBy d s) d (accept (dayWith find d (kindOf s) (bodyOf s)) (sizeOf (kindOf s)))
 
 -- as the paper says it
-abbrev pub answerOf : Day → List ℕ → Answer
-answerOf d s = answerBy (foundIn paper) d s
-
 abbrev pub stepOf : Day → List ℕ → Stepped
 stepOf d s = stepBy (foundIn paper) d s
-
--- "hands back the remaining part of the caller's slice"
-unfoldable pub restOf : Day → List ℕ → List ℕ
-restOf d s = drop (stepOf d s .used) s

@@ -1,16 +1,13 @@
 -- Believed: document 01, Units and records. Numbers that more than one place needs, each said once; `level/src` has the same as constants.
-use Prim.Native.Nat.{ℕ, suc, _*_}
+use Prim.Native.Nat.{ℕ, suc}
 
 -- "a half-hour 1,800" seconds
 abbrev pub halfHour : ℕ
 halfHour = 1800
 
--- the half-hours, and the seconds, of the longest day that there is; its boundaries are one more than its half-hours
+-- the half-hours of the longest day that there is; its boundaries are one more
 abbrev pub mostHalfHours : ℕ
 mostHalfHours = 48
-
-abbrev pub mostSeconds : ℕ
-mostSeconds = halfHour * mostHalfHours
 
 abbrev pub boundaryPlaces : ℕ
 boundaryPlaces = suc mostHalfHours

@@ -6,7 +6,8 @@ use lib.Dec.{eqb}
 use lib.ListN.{length, length-append}
 use Rattle.level.specs.Level.{grains}
 use Rattle.level.specs.Lists.{All}
-use Rattle.level.specs.Numbers.{mostSeconds, mostHalfHours, instructionPlaces}
+use Rattle.level.specs.Bounds.{mostSeconds}
+use Rattle.level.specs.Numbers.{mostHalfHours, instructionPlaces}
 use Rattle.course.specs.declared.Piece.{Piece}
 use Rattle.profile.specs.declared.Closing.{Closing}
 use Rattle.profile.proofs.Room.{PieceBelow, ClosingBelow}

@@ -27,8 +27,7 @@ unfoldable pub sLines : List Piece → List ℕ
 sLines [] = []
 sLines (p ∷ ps) = sLine (p .from) (p .to) (p .enter) (p .leave) ++ sLines ps
 
--- "Q first last kW, longest runs of equal quantities": of the run of the quantity k from the half-hour first to the half-hour last so far, and then
--- those of qs
+-- "Q first last kW, longest runs of equal quantities": of the run of k from the half-hour first to the half-hour last so far, then those of qs
 unfoldable pub runLines : ℕ → ℕ → ℕ → List ℕ → List ℕ
 runLines first last k [] = qLine first last k
 runLines first last k (q ∷ qs) = pick (eqb q k) (runLines first (suc last) k qs) (qLine first last k ++ runLines (suc last) (suc last) q qs)
@@ -50,9 +49,7 @@ printedDay d = listing (fatesIn d) (dayPieces (spansOf (d .taken .unit) daySecon
 abbrev pub suffices : ℕ
 suffices = 46080
 
--- ---- asking for it, with a lent slice o
-
--- "25 .. a listing before close. 26 listing longer than the lent slice"; "for a listing 25, 26"
+-- asking for it, with a lent slice o: "25 .. a listing before close. 26 listing longer than the lent slice"; "for a listing 25, 26"
 unfoldable pub listAnswer : Day → List ℕ → Answer
 listAnswer d o = firstRefusal (refusing (not (d .closed)) NotReady ∷ refusing (ltb (length o) (length (printedDay d))) SliceTooShort ∷ [])
 

@@ -1,5 +1,4 @@
--- Believed: document 01, The printed day. The listing program: "reads records from standard input up to close and prints this, or at the first
--- refusal only the line X n".
+-- Believed: document 01, The printed day. "The listing program reads records .. up to close and prints this, or .. only the line X n".
 use Prim.Native.Nat.{ℕ, zero, suc}
 use mathlib.Core.List.{List}
 use mathlib.Core.Bool.{true, false}
@@ -34,9 +33,6 @@ ranBy find s = runBy find (length s) empty s
 unfoldable pub printedRun : Ran → List ℕ
 printedRun r = elim (r .answer) [ Refused x ↦ xLine (refusalNumber x) | Accepted ↦ printedDay (r .day) ]
 
-unfoldable pub programBy : (Taken → Found) → List ℕ → List ℕ
-programBy find s = printedRun (ranBy find s)
-
 -- what the program prints for the input s
-abbrev pub program : List ℕ → List ℕ
-program s = programBy (foundIn paper) s
+unfoldable pub program : List ℕ → List ℕ
+program s = printedRun (ranBy (foundIn paper) s)

@@ -1,6 +1,4 @@
--- Believed: document 01, The printed day (demand 3). What a listing prints for a half-hour: "the kW of the Q line whose first and last enclose the
--- half-hour".
--- A reader of bytes: it names nothing of how they were written.
+-- Believed: document 01, The printed day (demand 3). What a listing prints for a half-hour, read off its bytes: nothing here says how they were written.
 use Prim.Native.Nat.{ℕ, _+_, _*_, _-_}
 use mathlib.Core.List.{List, [], _∷_, _++_}
 use mathlib.Core.Bool.{Bool, true, false, _&&_}
@@ -30,7 +28,6 @@ isByte c [] = false
 isByte c (b ∷ []) = eqb b c
 isByte c (b ∷ (d ∷ ds)) = false
 
--- are all of them digits
 unfoldable pub allDigits : List ℕ → Bool
 allDigits [] = true
 allDigits (b ∷ bs) = (leb 48 b && leb b 57) && allDigits bs

@@ -16,13 +16,9 @@ abbrev pub inOne : Answer → ℕ → ℕ
 inOne Accepted n = n
 inOne (Refused r) n = refusalNumber r * 4294967296
 
--- of a listing of the day d
-abbrev pub listResult : Day → List ℕ → ℕ
-listResult d o = inOne (listOf d o .answer) (listOf d o .count)
-
 -- of a run: at a refusal its number, and the lent slice as it was
 abbrev pub runResult : Answer → Day → List ℕ → ℕ
-runResult Accepted d o = listResult d o
+runResult Accepted d o = inOne (listOf d o .answer) (listOf d o .count)
 runResult (Refused r) d o = refusalNumber r * 4294967296
 
 abbrev pub lentRun : Answer → Day → List ℕ → List ℕ
@@ -35,10 +31,9 @@ ranResult r o = runResult (r .answer) (r .day) o
 abbrev pub ranLent : Ran → List ℕ → List ℕ
 ranLent r o = lentRun (r .answer) (r .day) o
 
--- ---- records up to close, then the listing into the lent slice o: what the C function gives
-
+-- records up to close, then the listing into the lent slice o
 unfoldable pub listedResult : List ℕ → List ℕ → ℕ
-listedResult s o = let r : Ran = ranBy (foundIn paper) s in runResult (r .answer) (r .day) o
+listedResult s o = ranResult (ranBy (foundIn paper) s) o
 
 unfoldable pub listedLent : List ℕ → List ℕ → List ℕ
-listedLent s o = let r : Ran = ranBy (foundIn paper) s in lentRun (r .answer) (r .day) o
+listedLent s o = ranLent (ranBy (foundIn paper) s) o

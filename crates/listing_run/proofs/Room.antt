@@ -16,7 +16,7 @@ use Rattle.day.specs.Day.{empty, foundIn}
 use Rattle.day.specs.Step.{stepOf}
 use Rattle.day.proofs.Answers.{never}
 use Rattle.listing.specs.Listing.{suffices, printedDay}
-use Rattle.claims.specs.Calls.{Call, sends, after, dayAfter}
+use Rattle.claims.specs.Calls.{Call, sends, afterCalls, dayAfter}
 use Rattle.listing.specs.Program.{runBy, ranBy}
 use Rattle.claims.proofs.Room.{listing-suffices}
 
@@ -31,17 +31,17 @@ callsIn (suc n) d s =
     ]
 
 -- they leave the day of the run
-calls-leave : (n : ℕ) (d : Day) (s : List ℕ) → after d (callsIn n d s) ≡ runBy (foundIn paper) n d s .day
-unfolding after runBy callsIn
+calls-leave : (n : ℕ) (d : Day) (s : List ℕ) → afterCalls d (callsIn n d s) ≡ runBy (foundIn paper) n d s .day
+unfolding afterCalls runBy callsIn
 calls-leave zero d s = refl
 calls-leave (suc n) d s =
     let t : Stepped = stepOf d s in go (t .answer) (t .day) (t .day .closed) (drop (t .used) s) (calls-leave n (t .day) (drop (t .used) s))
   where
-    go : (a : Answer) (e : Day) (b : Bool) (r : List ℕ) → after e (callsIn n e r) ≡ runBy (foundIn paper) n e r .day →
+    go : (a : Answer) (e : Day) (b : Bool) (r : List ℕ) → afterCalls e (callsIn n e r) ≡ runBy (foundIn paper) n e r .day →
         (let x : Ran = elim a [
           | Refused y ↦ record { answer = Refused y; day = e }
           | Accepted ↦ elim b [ true ↦ record { answer = Accepted; day = e } | false ↦ runBy (foundIn paper) n e r ]
-        ] in after e (elim a [ Refused y ↦ [] | Accepted ↦ elim b [ true ↦ [] | false ↦ callsIn n e r ] ]) ≡ x .day)
+        ] in afterCalls e (elim a [ Refused y ↦ [] | Accepted ↦ elim b [ true ↦ [] | false ↦ callsIn n e r ] ]) ≡ x .day)
     go (Refused x) e b r h = refl
     go Accepted e true r h = refl
     go Accepted e false r h = h

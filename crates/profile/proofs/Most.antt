@@ -10,7 +10,8 @@ use lib.Dec.{ltb, eqb}
 use Rattle.level.specs.Choice.{pick}
 use Rattle.level.specs.Level.{grains}
 use Rattle.level.specs.Lists.{All, sum}
-use Rattle.level.specs.Numbers.{halfHour, mostSeconds, mostHalfHours}
+use Rattle.level.specs.Numbers.{halfHour, mostHalfHours}
+use Rattle.level.specs.Bounds.{mostSeconds}
 use Rattle.records.specs.declared.Effect.{Effect}
 use Rattle.records.specs.declared.Effect.the-variants.{Trip, Mwof, Mxon, Sync, Mxof, Desy, Fail}
 use Rattle.records.specs.declared.UnitData.{UnitData}

@@ -5,6 +5,7 @@ use mathlib.Core.Bool.{Bool, true, false, _&&_, _||_, not}
 use lib.Dec.{leb, ltb, eqb}
 use lib.ListN.{getD}
 use Rattle.level.specs.Choice.{pick}
+use Rattle.level.specs.declared.Level.{Level}
 use Rattle.level.specs.Level.{grains}
 use Rattle.records.specs.declared.Effect.{Effect}
 use Rattle.records.specs.declared.Effect.the-variants.{Trip, Mwof, Mxon, Sync, Mxof, Desy, Fail}
@@ -37,9 +38,19 @@ module _ (u : UnitData) (now : UnderWay) (i : Instruction) (s : State) where
   unfoldable pub mwofTarget : ℕ
   mwofTarget = min (i .level) (u .capacity)
 
+  abbrev pub mwofHeat : ℕ
+  mwofHeat = pick (eqb (s .level) 0) 3 (now .course .heat)
+
   -- "SYNC: target the larger of its x (0 if none) and MSG, at most capacity"
   unfoldable pub syncTarget : ℕ
   syncTarget = min (max (i .level) (u .msg)) (u .capacity)
+
+  -- "MXON: .. ramp-up rate 5 for all five", "MXOF: .. ramp-down rate 1 for all five"
+  abbrev pub mxonRate : ℕ
+  mxonRate = getD (u .up .rates) 4 0
+
+  abbrev pub mxofRate : ℕ
+  mxofRate = getD (u .down .rates) 0 0
 
   -- "Fate 7, and the course under way goes on: at level 0, MWOF(0), DESY, TRIP, MXON; above 0, SYNC; MXON while maximised; MXOF when not.
   -- Otherwise fate 0 and a new course: DESY: target 0. TRIP: level 0 at that second, target 0. MXON: target the short-term maximum; ramp-up
@@ -49,37 +60,13 @@ module _ (u : UnitData) (now : UnderWay) (i : Instruction) (s : State) where
   outcomeBy Trip = unless (eqb (s .level) 0)
       (record { from = 0; target = 0; heat = now .course .heat; up = i .up; down = i .down; maximised = false; ordered = now .ordered })
   outcomeBy Mwof = unless (eqb (s .level) 0 && eqb (i .level) 0)
-      (record {
-        from = s .level;
-        target = mwofTarget;
-        heat = pick (eqb (s .level) 0) 3 (now .course .heat);
-        up = i .up;
-        down = i .down;
-        maximised = false;
-        ordered = mwofTarget;
-      })
+      (record { from = s .level; target = mwofTarget; heat = mwofHeat; up = i .up; down = i .down; maximised = false; ordered = mwofTarget })
   outcomeBy Mxon = unless (eqb (s .level) 0 || now .maximised)
-      (record {
-        from = s .level;
-        target = u .maximum;
-        heat = now .course .heat;
-        up = getD (u .up .rates) 4 0;
-        down = i .down;
-        maximised = true;
-        ordered = now .ordered;
-      })
+      (record { from = s .level; target = u .maximum; heat = now .course .heat; up = mxonRate; down = i .down; maximised = true; ordered = now .ordered })
   outcomeBy Sync = unless (ltb 0 (s .level))
       (record { from = s .level; target = syncTarget; heat = heatBy u (s .off); up = i .up; down = i .down; maximised = false; ordered = syncTarget })
   outcomeBy Mxof = unless (not (now .maximised))
-      (record {
-        from = s .level;
-        target = now .ordered;
-        heat = now .course .heat;
-        up = i .up;
-        down = getD (u .down .rates) 0 0;
-        maximised = false;
-        ordered = now .ordered;
-      })
+      (record { from = s .level; target = now .ordered; heat = now .course .heat; up = i .up; down = mxofRate; maximised = false; ordered = now .ordered })
   outcomeBy Desy = unless (eqb (s .level) 0)
       (record { from = s .level; target = 0; heat = now .course .heat; up = i .up; down = i .down; maximised = false; ordered = now .ordered })
   outcomeBy Fail = Ignored
@@ -91,16 +78,12 @@ module _ (u : UnitData) (now : UnderWay) (i : Instruction) (s : State) where
 unfoldable pub stepped : ℕ → ℕ → ℕ → ℕ
 stepped block target v = pick (eqb v 0 && ltb 0 target) (min block target) v
 
--- the course that a setting makes at a second
+-- the course that a setting makes at a second, and where it starts
+abbrev pub startLevel : UnitData → Setting → Level
+startLevel u g = record { grains = stepped (grains (columnFor u (g .heat) .block)) (grains (g .target)) (g .from) }
+
 unfoldable pub courseFrom : UnitData → ℕ → Setting → Course
-courseFrom u begin g = record {
-  begin = begin;
-  start = record { grains = stepped (grains (columnFor u (g .heat) .block)) (grains (g .target)) (g .from) };
-  target = g .target;
-  heat = g .heat;
-  up = g .up;
-  down = g .down;
-}
+courseFrom u begin g = record { begin = begin; start = startLevel u g; target = g .target; heat = g .heat; up = g .up; down = g .down }
 
 -- it under way, the unit having been off so many seconds where it began
 unfoldable pub underWay : UnitData → ℕ → Setting → ℕ → UnderWay
@@ -117,9 +100,7 @@ startCourse u o =
 unfoldable pub begun : UnitData → Numbered → Setting → State → UnderWay
 begun u o g s = underWay u (acting o) g (s .off)
 
--- ---- all that act, one after another
-
--- their fates, and the day's courses, both in order
+-- all that act, one after another: their fates, and the day's courses, both in order
 pub record Followed : Type 0 where
   pub marks : List Mark
   pub courses : List UnderWay

@@ -65,16 +65,12 @@ recordedIn ss i = recordedTwice ss (halfHour * i) halfHour
 unfoldable pub rounded : ℕ → ℕ
 rounded twice = (twice + 108000) / 216000
 
--- ---- the working twin, by pieces
-
--- ---- the day's pieces: "cut besides only by fate-0 instructions and the day's end"
+-- the day's pieces: "cut besides only by fate-0 instructions and the day's end"
 unfoldable pub dayPieces : List Span → List Piece
 dayPieces [] = []
 dayPieces (s ∷ ss) = piecesIn (s .trajectory) (s .begin) (s .end) ++ dayPieces ss
 
--- ---- what close finds
-
--- fates by number, courses, twice the recorded area from 0 to each half-hour boundary, quantities, the last course and the state at the day's end
+-- what close finds: fates by number, courses, twice the recorded area from 0 to each half-hour boundary, quantities, the last course and the state at the day's end
 pub record Found : Type 0 where
   pub fates : List ℕ
   pub courses : List Course

@@ -1,5 +1,4 @@
--- Believed: document 01, What each does at its acting second. The level just before and the seconds off, so many seconds after a course began: by the
--- rule of one second.
+-- Believed: document 01, What each does at its acting second. The level just before and the seconds off, so many seconds after a course began.
 use Prim.Native.Nat.{ℕ, zero, suc, min}
 use mathlib.Core.Bool.{_&&_}
 use lib.Dec.{eqb}
@@ -10,8 +9,6 @@ use Rattle.course.specs.Course.{Trajectory, Moment, heading, second}
 -- ".. held at 10,000,000"
 unfoldable pub held : ℕ → ℕ
 held n = min n 10000000
-
--- ---- by the rule of one second
 
 -- a moment of a course, and the seconds off
 pub record Watch : Type 0 where
@@ -29,5 +26,3 @@ watch c off (suc k) = let w : Watch = watch c off k in watchNext w (second (head
 
 unfoldable pub byRule : Trajectory → ℕ → ℕ → State
 byRule c off k = let w : Watch = watch c off k in record { level = w .moment .level; off = w .off }
-
--- ---- the working twin, by segments

@@ -7,7 +7,8 @@ use native.Mathlib.Omega.{arith}
 use lib.ListN.{length, getD, set, length-set}
 use lib.Seq.{getD-set-same, getD-set-other}
 use borrow.Author.Tests.{le-leb, lt-leb}
-use Rattle.level.specs.Numbers.{halfHour, mostHalfHours, mostSeconds}
+use Rattle.level.specs.Numbers.{halfHour, mostHalfHours}
+use Rattle.level.specs.Bounds.{mostSeconds}
 use Rattle.profile_areas.specs.Passing.{Summed, summed, upTo, Adds, Fits, twiceBound}
 
 -- a boundary that is reached, and one that is not

@@ -5,8 +5,8 @@ use mathlib.Core.List.{List}
 use native.Mathlib.Nat.{mul-le-mul-left, mul-le-mul-right, zero-mul, div-eq-of-eq-mul-right}
 use native.Mathlib.Omega.{arith}
 use lib.ListN.{length, set}
-use Rattle.level.specs.Numbers.{halfHour, mostHalfHours, mostSeconds, boundaryPlaces}
-use Rattle.level.specs.Bounds.{levelBound}
+use Rattle.level.specs.Numbers.{halfHour, mostHalfHours, boundaryPlaces}
+use Rattle.level.specs.Bounds.{mostSeconds, levelBound}
 use Rattle.course.specs.Course.{Heading, rising, falling, toward, gap}
 use Rattle.course.specs.Headings.{Along}
 use Rattle.course_walk.specs.declared.Place.{Place}

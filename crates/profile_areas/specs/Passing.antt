@@ -7,8 +7,8 @@ use lib.Dec.{leb, ltb}
 use lib.ListN.{length, getD}
 use Rattle.level.specs.Choice.{pick}
 use Rattle.level.specs.Level.{grains}
-use Rattle.level.specs.Numbers.{halfHour, mostHalfHours, mostSeconds, boundaryPlaces}
-use Rattle.level.specs.Bounds.{levelBound}
+use Rattle.level.specs.Numbers.{halfHour, mostHalfHours, boundaryPlaces}
+use Rattle.level.specs.Bounds.{mostSeconds, levelBound}
 use Rattle.records.specs.declared.UnitData.{UnitData}
 use Rattle.course.specs.declared.Course.{Course}
 use Rattle.course.specs.Lists.{Lists}

@@ -5,7 +5,7 @@ use mathlib.Core.Bool.{true, false}
 use mathlib.Core.List.{List, [], _∷_, _++_, map}
 use lib.ListN.{set}
 use Rattle.level.specs.Lists.{some}
-use Rattle.level.specs.Numbers.{mostSeconds}
+use Rattle.level.specs.Bounds.{mostSeconds}
 use Rattle.records.specs.Answers.{numberOf}
 use Rattle.records.specs.Codes.{meaningOf, meaningIn, isUnknown}
 use Rattle.records.specs.Records.{sizeOf, triggerOf, columnOf, unitOf, openingOf, issueOf, instructionOf}

@@ -3,7 +3,7 @@ use mathlib.Core.Path.{_≡_, refl}
 use mathlib.Core.List.{List, [], _∷_}
 use Prim.Native.Nat.{ℕ}
 use Rattle.level.specs.Lists.{those, some}
-use Rattle.level.specs.Numbers.{mostSeconds}
+use Rattle.level.specs.Bounds.{mostSeconds}
 use Rattle.records.specs.declared.Effect.{Effect}
 use Rattle.records.specs.declared.Effect.the-variants.{Trip, Mwof, Mxon, Sync, Desy, Fail}
 use Rattle.records.specs.declared.Instruction.{Instruction}

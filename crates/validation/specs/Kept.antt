@@ -1,5 +1,4 @@
--- Believed: document 01, Which instructions are kept (P.12, P.13). Steps 1 to 4. "Each instruction gets one fate; the first step that settles it
--- counts."
+-- Believed: document 01, Which instructions are kept (P.12, P.13). "Each instruction gets one fate; the first step that settles it counts."
 use Prim.Native.Nat.{ℕ, zero, suc, _+_, min}
 use mathlib.Core.List.{List, [], _∷_, _++_, map}
 use mathlib.Core.Bool.{Bool, true, false, _&&_, _||_, not}
@@ -72,18 +71,11 @@ unfoldable pub present : Effect → List Numbered → List Numbered
 present c g = firstOne (those (λ (o : Numbered). same (effectOf o) c) g)
 
 -- "The carrier is then the SYNC or DESY, with the MWOF's rates" and its level
+abbrev pub withFigures : Instruction → Instruction → Instruction
+withFigures m c = record { effective = c .effective; issue = c .issue; meaning = c .meaning; level = m .level; up = m .up; down = m .down }
+
 unfoldable pub carrying : Numbered → Numbered → Numbered
-carrying m c = record {
-  number = c .number;
-  instruction = record {
-    effective = c .instruction .effective;
-    issue = c .instruction .issue;
-    meaning = c .instruction .meaning;
-    level = m .instruction .level;
-    up = m .instruction .up;
-    down = m .instruction .down;
-  };
-}
+carrying m c = record { number = c .number; instruction = withFigures (m .instruction) (c .instruction) }
 
 -- "If that is MWOF(x) and SYNC is present, SYNC(x) is used, else with DESY present DESY(x)"
 unfoldable pub merged : List Numbered → Numbered → List Numbered
@@ -180,9 +172,7 @@ unfoldable pub turned : List Numbered → List Numbered → List Numbered
 turned [] ys = ys
 turned (x ∷ xs) ys = turned xs (x ∷ ys)
 
--- ---- the four steps together
-
--- those that act, in time order, and the fates settled
+-- the four steps together: those that act, in time order, and the fates settled
 pub record Validated : Type 0 where
   pub acts : List Numbered
   pub marks : List Mark

@@ -7,7 +7,8 @@ use lib.Dec.{ltb, ltb→lt}
 use lib.ListN.{length, take, drop, getD}
 use Rattle.level.specs.Choice.{pick}
 use Rattle.level.specs.Level.{grains}
-use Rattle.level.specs.Numbers.{halfHour, mostSeconds, instructionPlaces, coursePlaces}
+use Rattle.level.specs.Numbers.{halfHour, instructionPlaces, coursePlaces}
+use Rattle.level.specs.Bounds.{mostSeconds}
 use Rattle.level.proofs.Lists.{left-cons, left-none}
 use Rattle.records.specs.declared.UnitData.{UnitData}
 use Rattle.validation.specs.declared.Numbered.{Numbered}
