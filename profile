@@ -45,15 +45,27 @@ interrupted() {
 build() {
     command -v rt >/dev/null 2>&1 || fail 'rt, the command of the kit of Rattle, is not on PATH'
     mkdir -p "$here/target" || fail 'target/ could not be made'
-    total=$(awk -F: '{ own[$1]; deps[$1] = $2 }
-        END { n = split(deps["profiler"], d, " "); for (i = 1; i <= n; i++) if (d[i] in own) of++; print of + 1 }' "$here/crates.txt")
+    # The crates that the program reaches, in the order of crates.txt, in which they are proved soonest.
+    crates=$(awk -F: 'function reach(name,    words, k, n) {
+            if (name in reached || !(name in uses)) return
+            reached[name]
+            n = split(uses[name], words, " ")
+            for (k = 1; k <= n; k++) reach(words[k])
+        }
+        { names[NR] = $1; uses[$1] = $2 }
+        END { reach("profiler"); for (k = 1; k <= NR; k++) if (names[k] in reached) print names[k] }' "$here/crates.txt")
+    total=$(echo "$crates" | awk 'END { print NR }')
+    # Twice as many at a time as there are processors, at most four: rt waits for the slowest of those that it began together.
+    jobs=$(($(nproc 2>/dev/null || echo 2) * 2))
+    [ "$jobs" -le 4 ] || jobs=4
     if [ -t 2 ]; then
         progress "0 of $total crates proved"
     else
         printf 'proving %s crates, log in target/profiler.log\n' "$total" >&2
     fi
     trap interrupted INT
-    status=$({ { (CDPATH='' cd -- "$here" && exec rt check profiler) </dev/null 2>&1 3>&-; echo $? >&3; } | tee "$log" | follow; } 3>&1 >&2)
+    # shellcheck disable=SC2086
+    status=$({ { (CDPATH='' cd -- "$here" && RT_JOBS="${RT_JOBS:-$jobs}" exec rt check $crates) </dev/null 2>&1 3>&-; echo $? >&3; } | tee "$log" | follow; } 3>&1 >&2)
     trap - INT
     if [ "$status" != 0 ]; then
         # A program that was linked all the same is not taken for built.

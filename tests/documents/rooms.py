@@ -15,6 +15,7 @@ import sys
 WORDS = [a for a in sys.argv[1:] if not a.startswith("--")]
 ROOT = pathlib.Path(WORDS[0] if WORDS else pathlib.Path(__file__).resolve().parents[2])
 CRATES = ROOT / "crates"
+# What a reader can be asked to believe. A request that adds definitions may have to raise it, and then says so in docs/CHANGES.md.
 MOST = 1300
 # The calls of the library and of the programs: what they promise rests on believed definitions alone.
 CALLS = {"day_step": ["step"], "day_take": ["take", "take_front"], "listing_print": ["list"], "gristpebble": ["gristpebble_listing"],

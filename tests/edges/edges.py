@@ -156,7 +156,7 @@ def program_part(profiler, calls):
 
 
 def words_part():
-    source = "".join(path.read_text(encoding="utf-8") for path in (ROOT / "crates/records/src").glob("*.rt"))
+    source = "".join(path.read_text(encoding="utf-8") for path in (ROOT / "crates/records_bytes/src").glob("*.rt"))
     numbers = sorted(int(number) for number in re.findall(r"Refusal::\w+ => (\d+),", source))
     check("refusals of the code", numbers == NUMBERS, numbers)
     lines = (ROOT / "bindings/refusals.txt").read_text(encoding="utf-8").splitlines()
@@ -169,10 +169,10 @@ def words_part():
 
 STAND_IN = """#!/bin/sh
 # Prints what rt prints, and makes the program. RT_TRY: fail, unmade, wait.
-[ "$*" = 'check profiler' ] || exit 9
+[ "$*" = 'check %(crates)s' ] || exit 9
 cat >/dev/null
 echo called >>../calls-of-rt
-for name in %s; do
+for name in %(crates)s; do
     echo "fn $name::main: proved"
     echo "rt: $name proved (1 s)"
     if [ "${RT_TRY-}" = wait ]; then
@@ -207,10 +207,15 @@ class Copy:
             name.mkdir()
         for name in TOOLS:
             (self.tools / name).symlink_to(shutil.which(name))
-        lines = [line.split(":") for line in (ROOT / "crates.txt").read_text(encoding="utf-8").splitlines()]
-        own = [line[0] for line in lines]
-        self.crates = [name for name in own if name in dict(lines)["profiler"].split()] + ["profiler"]
-        (self.rt / "rt").write_text(STAND_IN % " ".join(self.crates), encoding="utf-8")
+        uses = dict(line.split(":") for line in (ROOT / "crates.txt").read_text(encoding="utf-8").splitlines())
+        reached, todo = set(), ["profiler"]
+        while todo:
+            name = todo.pop()
+            if name in uses and name not in reached:
+                reached.add(name)
+                todo += uses[name].split()
+        self.crates = [name for name in uses if name in reached]
+        (self.rt / "rt").write_text(STAND_IN % {"crates": " ".join(self.crates)}, encoding="utf-8")
         (self.rt / "rt").chmod(0o755)
 
     def command(self, *words):
