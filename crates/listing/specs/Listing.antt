@@ -41,7 +41,6 @@ unfoldable pub listing : List ℕ → List Piece → List ℕ → Closing → Li
 listing fates pieces quantities e =
     fLines 1 fates ++ (sLines pieces ++ (qLines quantities ++ eLine (e .level .grains) (e .target) (e .heat) (e .off)))
 
--- the listing of a day
 unfoldable pub printedDay : Day → List ℕ
 printedDay d = listing (fatesIn d) (dayPieces (spansOf (d .taken .unit) daySeconds (coursesIn d))) (quantitiesIn d) (closingIn d)
 

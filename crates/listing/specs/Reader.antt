@@ -1,4 +1,4 @@
--- Believed: document 01, The printed day (demand 3). What a listing prints for a half-hour, read off its bytes: nothing here says how they were written.
+-- Believed: document 01, The printed day (demand 3). What a listing prints for a half-hour, read off its bytes alone.
 use Prim.Native.Nat.{ℕ, _+_, _*_, _-_}
 use mathlib.Core.List.{List, [], _∷_, _++_}
 use mathlib.Core.Bool.{Bool, true, false, _&&_}

@@ -34,12 +34,16 @@ unless false g = Sets g
 
 -- on the unit u, with the course now under way, of the instruction i, read with s
 module _ (u : UnitData) (now : UnderWay) (i : Instruction) (s : State) where
+  -- "Column and heat stay until the next start"
+  abbrev pub heatNow : ℕ
+  heatNow = now .course .heat
+
   -- "MWOF(x): target the smaller of x and capacity; from 0 with the cold column"
   unfoldable pub mwofTarget : ℕ
   mwofTarget = min (i .level) (u .capacity)
 
   abbrev pub mwofHeat : ℕ
-  mwofHeat = pick (eqb (s .level) 0) 3 (now .course .heat)
+  mwofHeat = pick (eqb (s .level) 0) 3 heatNow
 
   -- "SYNC: target the larger of its x (0 if none) and MSG, at most capacity"
   unfoldable pub syncTarget : ℕ
@@ -55,20 +59,20 @@ module _ (u : UnitData) (now : UnderWay) (i : Instruction) (s : State) where
   -- "Fate 7, and the course under way goes on: at level 0, MWOF(0), DESY, TRIP, MXON; above 0, SYNC; MXON while maximised; MXOF when not.
   -- Otherwise fate 0 and a new course: DESY: target 0. TRIP: level 0 at that second, target 0. MXON: target the short-term maximum; ramp-up
   -- rate 5 for all five. MXOF: target that of the last MWOF or SYNC with fate 0, or the opening target; ramp-down rate 1 for all five.
-  -- MXON turns maximised on; any other fate-0 instruction turns it off. Column and heat stay until the next start." (FAIL never acts.)
+  -- MXON turns maximised on; any other fate-0 instruction turns it off." (FAIL never acts.)
   unfoldable pub outcomeBy : Effect → Outcome
   outcomeBy Trip = unless (eqb (s .level) 0)
-      (record { from = 0; target = 0; heat = now .course .heat; up = i .up; down = i .down; maximised = false; ordered = now .ordered })
+      (record { from = 0; target = 0; heat = heatNow; up = i .up; down = i .down; maximised = false; ordered = now .ordered })
   outcomeBy Mwof = unless (eqb (s .level) 0 && eqb (i .level) 0)
       (record { from = s .level; target = mwofTarget; heat = mwofHeat; up = i .up; down = i .down; maximised = false; ordered = mwofTarget })
   outcomeBy Mxon = unless (eqb (s .level) 0 || now .maximised)
-      (record { from = s .level; target = u .maximum; heat = now .course .heat; up = mxonRate; down = i .down; maximised = true; ordered = now .ordered })
+      (record { from = s .level; target = u .maximum; heat = heatNow; up = mxonRate; down = i .down; maximised = true; ordered = now .ordered })
   outcomeBy Sync = unless (ltb 0 (s .level))
       (record { from = s .level; target = syncTarget; heat = heatBy u (s .off); up = i .up; down = i .down; maximised = false; ordered = syncTarget })
   outcomeBy Mxof = unless (not (now .maximised))
-      (record { from = s .level; target = now .ordered; heat = now .course .heat; up = i .up; down = mxofRate; maximised = false; ordered = now .ordered })
+      (record { from = s .level; target = now .ordered; heat = heatNow; up = i .up; down = mxofRate; maximised = false; ordered = now .ordered })
   outcomeBy Desy = unless (eqb (s .level) 0)
-      (record { from = s .level; target = 0; heat = now .course .heat; up = i .up; down = i .down; maximised = false; ordered = now .ordered })
+      (record { from = s .level; target = 0; heat = heatNow; up = i .up; down = i .down; maximised = false; ordered = now .ordered })
   outcomeBy Fail = Ignored
 
   abbrev pub outcome : Outcome

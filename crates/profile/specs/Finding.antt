@@ -9,7 +9,6 @@ use Rattle.course.specs.Course.{noCourse}
 use Rattle.profile.specs.declared.Finding.{Finding}
 use Rattle.profile.specs.Profile.{Found, rounded}
 
--- nothing found yet
 unfoldable pub noFinding : Finding
 noFinding = record {
   fates = replicate instructionPlaces 0;

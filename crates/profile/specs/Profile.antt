@@ -70,7 +70,7 @@ unfoldable pub dayPieces : List Span → List Piece
 dayPieces [] = []
 dayPieces (s ∷ ss) = piecesIn (s .trajectory) (s .begin) (s .end) ++ dayPieces ss
 
--- what close finds: fates by number, courses, twice the recorded area from 0 to each half-hour boundary, quantities, the last course and the state at the day's end
+-- what close finds: fates by number, courses, twice the recorded area from 0 to each boundary, quantities, the last course, the state at the end
 pub record Found : Type 0 where
   pub fates : List ℕ
   pub courses : List Course

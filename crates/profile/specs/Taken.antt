@@ -16,7 +16,6 @@ use Rattle.profile.specs.declared.Taken.{Taken}
 unfoldable pub startOf : Opening → Start
 startOf o = record { level = o .level; target = o .target; heat = o .heat; up = 0; down = 0; maximised = false; ordered = o .target; off = o .off }
 
--- nothing let in
 unfoldable pub noTaken : Taken
 noTaken = record {
   hasUnit = false;

@@ -79,7 +79,7 @@ module _ (ns : List ℕ) where
 unfoldable pub openingOf : List ℕ → Opening
 openingOf b = record { level = numberAt b 0; target = numberAt b 4; heat = numberAt b 8; off = numberAt b 12 }
 
--- ---- kind 3: "issue time, signed (two's complement)", as seconds above -604,800: what lies below that comes out above 1,209,600 like what lies above 604,800
+-- ---- kind 3: "issue time, signed (two's complement)", as seconds above -604,800: what is out of range comes out above 1,209,600
 unfoldable pub issueOf : ℕ → ℕ
 issueOf n = (n + 604800) % 4294967296
 
