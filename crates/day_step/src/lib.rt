@@ -1,4 +1,4 @@
-// Taking the record at the front of the input into a day: a unit, an opening, an instruction by its front (`entering`), or
+// Taking the record at the front of the input into a day: a unit, an opening, an instruction by its front (`day_enter`), or
 // close.
 ghost use mathlib.Core.Path.{_≡_};
 ghost use lib.ListN.{getD};

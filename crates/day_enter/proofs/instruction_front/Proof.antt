@@ -31,13 +31,9 @@ returns-4 c =
 returns-5 : tie.Need-returns-5
 unfolding instructionFront
 returns-5 c =
+    let late = c .before .before in
     c .read-instruction .ensures
-    ∙ rw (
-      le-ltb _ _ (c .before .before .before .before .before .if1 .left),
-      c .before .before .before .before .if2 .left,
-      c .before .before .before .if3 .left,
-      lt-leb _ _ (c .before .before .if4 .left),
-    )
+    ∙ rw (le-ltb _ _ (late .before .before .before .if1 .left), late .before .before .if2 .left, late .before .if3 .left, lt-leb _ _ (late .if4 .left))
 
 pub instruction-front-spec : {M : Type 1} → statement M
 instruction-front-spec =

@@ -21,24 +21,15 @@ returns-3 c =
 returns-4 : tie.Need-returns-4
 unfolding openingFront
 returns-4 c =
-    c .refuse-opening4 .ensures ∙ rw (
-      le-ltb _ _ (c .before .before .before .before .if1 .left),
-      c .before .before .before .if2 .left,
-      c .before .before .if3 .left,
-      c .before .if4 .taken,
-    )
+    let late = c .before .before in
+    c .refuse-opening4 .ensures ∙ rw (le-ltb _ _ (late .before .before .if1 .left), late .before .if2 .left, late .if3 .left, c .before .if4 .taken)
 
 returns-5 : tie.Need-returns-5
 unfolding openingFront
 returns-5 c =
-    c .below-maximum .ensures
-    ∙ (ap (belowMaximum _) (c .before .read-opening .ensures)
-    ∙ rw (
-      le-ltb _ _ (c .before .before .before .before .before .before .if1 .left),
-      c .before .before .before .before .before .if2 .left,
-      c .before .before .before .before .if3 .left,
-      c .before .before .before .if4 .left,
-    ))
+    let late = c .before .before .before in
+    c .below-maximum .ensures ∙ (ap (belowMaximum _) (c .before .read-opening .ensures)
+    ∙ rw (le-ltb _ _ (late .before .before .before .if1 .left), late .before .before .if2 .left, late .before .if3 .left, late .if4 .left))
 
 pub opening-front-spec : {M : Type 1} → statement M
 opening-front-spec =

@@ -16,9 +16,10 @@ returns c =
 
 returns-2 : tie.Need-returns-2
 returns-2 c =
-    let s = c .before .before .before .before .before in
+    let r = c .before .before .before .before in
+    let s = r .before in
     let first = s .before .before .close-front in
-    let read = c .before .before .before .before .find-close in
+    let read = r .find-close in
     let begins = is-taken (first .result) _ (s .before .is-accepted .ensures) (s .if1 .left) in
     c .refused2 .ensures
     ∙ close-refused _ (first .result) (first .ensures) begins (read .result) (read .ensures)
@@ -26,9 +27,10 @@ returns-2 c =
 
 returns-3 : tie.Need-returns-3
 returns-3 c =
-    let s = c .before .before .before .before .before in
+    let r = c .before .before .before .before in
+    let s = r .before in
     let first = s .before .before .close-front in
-    let read = c .before .before .before .before .find-close in
+    let read = r .find-close in
     let begins = is-taken (first .result) _ (s .before .is-accepted .ensures) (s .if1 .left) in
     ap (λ (d : Day). accept d closeSize) (c .closed-day .ensures)
     ∙ close-taken _ (first .result) (first .ensures) begins (read .result) (read .ensures)

@@ -13,36 +13,26 @@ use Rattle.day_enter.proofs.Laws.{instruction-step, instruction-says, instructi
 use borrow.Author.Needs.{needs}
 use Rattle.day_step.proofs.instruction_step.Statement.{statement}
 use Rattle.day_step.proofs.instruction_step.Tie as tie
-use Rattle.day_step.proofs.instruction_step.Reads as reads
-use Rattle.day_step.proofs.instruction_step.Lts as lts
-use Rattle.day_enter.proofs.instruction_front.Reads as instruction-front-reads
-use Rattle.records_bytes.proofs.is_accepted.Reads as is-accepted-reads
-use Rattle.day_step.proofs.accepted.Reads as accepted-reads
-use Rattle.day_step.proofs.refused.Reads as refused-reads
+
+-- where the record at the front was read, back to the entry
+abbrev start : tie.After-instruction-front → tie.Start
+start r = r .before .before .before
 
 returns : tie.Need-returns
 returns c =
-    let s = c .before .before .before .before .before .before in
-    let read = c .before .before .before .instruction-front in
+    let r = c .before .before .before in
+    let s = start r in
+    let read = r .instruction-front in
     let no = is-refused (read .result .answer) _ (c .before .before .is-accepted .ensures) (c .before .if1 .taken) in
     c .refused .ensures ∙ (settle-refused (read .result .answer) _ _ no
     ∙ instruction-step (foundIn paper) (s .args .day) (s .args .input .now) (read .result) (read .ensures) (s .pre))
 
 -- an instruction that is taken is one of the first forty
-room : (c : lts.After-instruction (
-  instruction-front-reads.Asked,
-  instruction-front-reads.Learnt,
-  is-accepted-reads.Asked,
-  is-accepted-reads.Learnt,
-  refused-reads.Asked,
-  refused-reads.Learnt,
-  accepted-reads.Asked,
-  accepted-reads.Learnt,
-) reads.Pre reads.Post) →
-    c .before .before .before .before .before .before .args .day .taken .count < instructionPlaces
+room : (c : tie.After-instruction) → start (c .before .before .before) .args .day .taken .count < instructionPlaces
 room c =
-    let s = c .before .before .before .before .before .before in
-    let read = c .before .before .before .instruction-front in
+    let r = c .before .before .before in
+    let s = start r in
+    let read = r .instruction-front in
     instruction-room (foundIn paper) (s .args .day) (s .args .input .now) (read .result) (read .ensures)
     (is-taken (read .result .answer) _ (c .before .before .is-accepted .ensures) (c .before .if1 .left))
 
@@ -58,8 +48,9 @@ add-taken c = omega (arith, room c)
 returns-2 : tie.Need-returns-2
 unfolding dayWith takenWith
 returns-2 c =
-    let s = c .before .before .before .before .before .before .before in
-    let read = c .before .before .before .before .instruction-front in
+    let r = c .before .before .before .before in
+    let s = r .before .before .before in
+    let read = r .instruction-front in
     let yes = is-taken (read .result .answer) _ (c .before .before .before .is-accepted .ensures) (c .before .before .if1 .left) in
     let says = instruction-says (foundIn paper) (s .args .day) (s .args .input .now) (read .result) (read .ensures) yes in
     c .accepted .ensures
