@@ -22,11 +22,11 @@ use Rattle.validation.specs.declared.Numbered.{Numbered}
 use Rattle.records.specs.declared.Instruction.{Instruction}
 use Rattle.validation.proofs.Few.{numbered-length}
 use Rattle.validation.specs.Kept.{numbered, effectiveOf, effectOf, superseded, group, highest, firstOne, orElse, present, usedOf, nextTime, usedFrom, used}
-use Rattle.validation_rank.specs.Found.{foundList, bestFrom}
+use Rattle.validation_rank.specs.Picked.{pickedList, bestFrom}
 use Rattle.validation_groups.specs.Working.{noNumbered, numberedAt, sequenceOf, pushed, joined, issueTimeOf, Timed, laterOf, latestAt, supersededAmong, earlierOf, nextTimeAmong}
 use Rattle.validation_groups.specs.declared.Sequence.{Sequence}
-use Rattle.validation_rank.specs.declared.Found.{Found}
-use Rattle.validation_rank.specs.declared.Found.the-variants.{One, Nothing}
+use Rattle.validation_rank.specs.declared.Picked.{Picked}
+use Rattle.validation_rank.specs.declared.Picked.the-variants.{One, Nothing}
 
 -- ---- what is left of the first n places, from the place i on
 module _ {A : Type 0} (xs : List A) (n : ℕ) where
@@ -76,10 +76,10 @@ module _ {s : Sequence} {rest whole : List Numbered} where
   unfolding pushed
   begun-store k o e h b = rw e at (begun-push o (omega arith) b)
 
-  pub begun-found : (f : Found) → s .count < instructionPlaces → Begun s (foundList f ++ rest) whole → Begun (joined s f) rest whole
+  pub begun-picked : (f : Picked) → s .count < instructionPlaces → Begun s (pickedList f ++ rest) whole → Begun (joined s f) rest whole
   unfolding joined
-  begun-found (One o) h b = begun-push o h b
-  begun-found Nothing h b = b
+  begun-picked (One o) h b = begun-push o h b
+  begun-picked Nothing h b = b
 
 -- the list that a sequence holds
 pub held : {s : Sequence} {xs : List Numbered} → s ≡ sequenceOf xs → s .count ≤ instructionPlaces → take (s .count) (s .items) ≡ xs
@@ -87,7 +87,7 @@ held {s} {xs} e h =
     ap (λ (q : Sequence). take (q .count) (q .items)) e
     ∙ filled-listed noNumbered instructionPlaces xs (omega (arith, ap (λ (q : Sequence). q .count) e))
 
-pub joined-count : (s : Sequence) (f : Found) → joined s f .count ≤ s .count + 1
+pub joined-count : (s : Sequence) (f : Picked) → joined s f .count ≤ s .count + 1
 unfolding joined pushed
 joined-count s (One o) = omega arith
 joined-count s Nothing = omega arith
@@ -208,21 +208,21 @@ module _ (os : List Numbered) (t : ℕ) (o : Numbered) where
   group-left h e = simp (eq-eqb _ _ h, e)
 
 -- ---- a group walked: of those before, the highest ranked, the earliest SYNC and the earliest DESY; the rest is still to come
-pub record Walked (best sync desy : Found) (rest whole : List Numbered) : Type 0 where
-  pub highest-so : bestFrom (foundList best) rest ≡ bestFrom [] whole
-  pub sync-so : orElse (foundList sync) (present Sync rest) ≡ present Sync whole
-  pub desy-so : orElse (foundList desy) (present Desy rest) ≡ present Desy whole
+pub record Walked (best sync desy : Picked) (rest whole : List Numbered) : Type 0 where
+  pub highest-is : bestFrom (pickedList best) rest ≡ bestFrom [] whole
+  pub sync-is : orElse (pickedList sync) (present Sync rest) ≡ present Sync whole
+  pub desy-is : orElse (pickedList desy) (present Desy rest) ≡ present Desy whole
 
 pub walked-none : (whole : List Numbered) → Walked Nothing Nothing Nothing whole whole
-walked-none whole = record { highest-so = refl; sync-so = refl; desy-so = refl }
+walked-none whole = record { highest-is = refl; sync-is = refl; desy-is = refl }
 
-best-more : (f : Found) (o : Numbered) (rest : List Numbered) → bestFrom (bestFrom (foundList f) (o ∷ [])) rest ≡ bestFrom (foundList f) (o ∷ rest)
+best-more : (f : Picked) (o : Numbered) (rest : List Numbered) → bestFrom (bestFrom (pickedList f) (o ∷ [])) rest ≡ bestFrom (pickedList f) (o ∷ rest)
 unfolding bestFrom highest
 best-more (One b) o rest = refl
 best-more Nothing o rest = refl
 
-present-more : (code : Effect) (f : Found) (o : Numbered) (rest : List Numbered) →
-    orElse (orElse (foundList f) (present code (o ∷ []))) (present code rest) ≡ orElse (foundList f) (present code (o ∷ rest))
+present-more : (code : Effect) (f : Picked) (o : Numbered) (rest : List Numbered) →
+    orElse (orElse (pickedList f) (present code (o ∷ []))) (present code rest) ≡ orElse (pickedList f) (present code (o ∷ rest))
 unfolding present those
 present-more code (One b) o rest = refl
 present-more code Nothing o rest = go (same (effectOf o) code)
@@ -234,36 +234,36 @@ present-more code Nothing o rest = go (same (effectOf o) code)
     go false = refl
 
 -- with o looked at
-pub walked-more : {best sync desy better s d : Found} {rest whole : List Numbered} (o : Numbered) →
-    foundList better ≡ bestFrom (foundList best) (o ∷ []) →
-    foundList s ≡ orElse (foundList sync) (present Sync (o ∷ [])) → foundList d ≡ orElse (foundList desy) (present Desy (o ∷ [])) → Walked best sync
+pub walked-more : {best sync desy better s d : Picked} {rest whole : List Numbered} (o : Numbered) →
+    pickedList better ≡ bestFrom (pickedList best) (o ∷ []) →
+    pickedList s ≡ orElse (pickedList sync) (present Sync (o ∷ [])) → pickedList d ≡ orElse (pickedList desy) (present Desy (o ∷ [])) → Walked best sync
     desy (o ∷ rest) whole → Walked better s d rest whole
 walked-more {best} {sync} {desy} {better} {s} {d} {rest} o p q r w = record {
-  highest-so = ap (λ (l : List Numbered). bestFrom l rest) p ∙ (best-more best o rest ∙ w .highest-so);
-  sync-so = ap (λ (l : List Numbered). orElse l (present Sync rest)) q ∙ (present-more Sync sync o rest ∙ w .sync-so);
-  desy-so = ap (λ (l : List Numbered). orElse l (present Desy rest)) r ∙ (present-more Desy desy o rest ∙ w .desy-so);
+  highest-is = ap (λ (l : List Numbered). bestFrom l rest) p ∙ (best-more best o rest ∙ w .highest-is);
+  sync-is = ap (λ (l : List Numbered). orElse l (present Sync rest)) q ∙ (present-more Sync sync o rest ∙ w .sync-is);
+  desy-is = ap (λ (l : List Numbered). orElse l (present Desy rest)) r ∙ (present-more Desy desy o rest ∙ w .desy-is);
 }
 
-best-all : (f : Found) → foundList f ≡ bestFrom (foundList f) []
+best-all : (f : Picked) → pickedList f ≡ bestFrom (pickedList f) []
 unfolding bestFrom highest
 best-all (One b) = refl
 best-all Nothing = refl
 
-present-all : (code : Effect) (f : Found) → foundList f ≡ orElse (foundList f) (present code [])
+present-all : (code : Effect) (f : Picked) → pickedList f ≡ orElse (pickedList f) (present code [])
 unfolding present those
 present-all code (One b) = refl
 present-all code Nothing = refl
 
 -- all of it
-module _ {best sync desy : Found} {whole : List Numbered} (w : Walked best sync desy [] whole) where
-  pub walked-best : foundList best ≡ bestFrom [] whole
-  walked-best = best-all best ∙ w .highest-so
+module _ {best sync desy : Picked} {whole : List Numbered} (w : Walked best sync desy [] whole) where
+  pub walked-best : pickedList best ≡ bestFrom [] whole
+  walked-best = best-all best ∙ w .highest-is
 
-  pub walked-sync : foundList sync ≡ present Sync whole
-  walked-sync = present-all Sync sync ∙ w .sync-so
+  pub walked-sync : pickedList sync ≡ present Sync whole
+  walked-sync = present-all Sync sync ∙ w .sync-is
 
-  pub walked-desy : foundList desy ≡ present Desy whole
-  walked-desy = present-all Desy desy ∙ w .desy-so
+  pub walked-desy : pickedList desy ≡ present Desy whole
+  walked-desy = present-all Desy desy ∙ w .desy-is
 
 pub those-none : {A : Type 0} {xs : List A} (f : A → Bool) → xs ≡ [] → those f xs ≡ []
 unfolding those

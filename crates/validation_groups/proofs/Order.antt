@@ -17,11 +17,11 @@ use Rattle.records.specs.declared.Effect.the-variants.{Mwof, Sync, Desy}
 use Rattle.records.specs.Codes.{codeNumber}
 use Rattle.validation.specs.declared.Numbered.{Numbered}
 use Rattle.validation.specs.Kept.{effectiveOf, effectOf, superseded, group, highest, present, merged, usedOf, nextTime, usedFrom, used}
-use Rattle.validation_rank.specs.Found.{foundList}
-use Rattle.validation_groups.specs.Working.{noNumbered, sequenceOf, joined, issueTimeOf, laterOf, latestAt, rises, Rising, hasTimeAt, followsTime, aloneAt, Run}
+use Rattle.validation_rank.specs.Picked.{pickedList}
+use Rattle.validation_groups.specs.Working.{noNumbered, sequenceOf, joined, issueTimeOf, laterOf, latestAt, risingFrom, Rising, hasTimeAt, followsTime, aloneAt, Run}
 use Rattle.validation_groups.specs.declared.Sequence.{Sequence}
-use Rattle.validation_rank.specs.declared.Found.{Found}
-use Rattle.validation_groups.proofs.Laws.{Begun, begun-none, begun-found, used-stop, used-more}
+use Rattle.validation_rank.specs.declared.Picked.{Picked}
+use Rattle.validation_groups.proofs.Laws.{Begun, begun-none, begun-picked, used-stop, used-more}
 
 -- ---- the next time
 abbrev timeAt : List Numbered → ℕ → ℕ
@@ -109,7 +109,7 @@ module _ (os : List Numbered) (i : ℕ) (h : i < length os) (alone : (j : ℕ) �
 
 -- ---- in order
 -- the groups of the first i places are in; those of the others follow, from a time on
-pub record Reached (end : ℕ) (os : List Numbered) (ts : List ℕ) (n i : ℕ) (out : Sequence) : Type 0 where
+pub record OrderProgress (end : ℕ) (os : List Numbered) (ts : List ℕ) (n i : ℕ) (out : Sequence) : Type 0 where
   pub time : ℕ
   pub fuel : ℕ
   pub enough : n ≤ fuel + i
@@ -119,7 +119,7 @@ pub record Reached (end : ℕ) (os : List Numbered) (ts : List ℕ) (n i : ℕ) 
 
 module _ (end : ℕ) (os : List Numbered) (ts : List ℕ) (n : ℕ) (long : length os ≡ n) (at : (j : ℕ) → j < n → getD ts j 0 ≡ timeAt os j)
     (rising : Rising ts n) where
-  pub reached-none : Reached end os ts n 0 (sequenceOf [])
+  pub reached-none : OrderProgress end os ts n 0 (sequenceOf [])
   unfolding used
   reached-none =
       record {
@@ -131,7 +131,7 @@ module _ (end : ℕ) (os : List Numbered) (ts : List ℕ) (n : ℕ) (long : leng
         begun = begun-none (usedFrom end os (length os) 0);
       }
 
-  module _ (i : ℕ) (out : Sequence) (r : Reached end os ts n i out) where
+  module _ (i : ℕ) (out : Sequence) (r : OrderProgress end os ts n i out) where
     -- none before the place i is from the time on
     from-here : (j : ℕ) → j < n → r .time ≤ timeAt os j → i ≤ j
     from-here j l h = elim (decLe i j) [
@@ -162,11 +162,11 @@ module _ (end : ℕ) (os : List Numbered) (ts : List ℕ) (n : ℕ) (long : leng
         omega (arith, at i h)
 
     -- one group more: those from the place i up to the place k
-    pub reached-more : (k : ℕ) (f : Found) → out .count < instructionPlaces → i < n → getD ts i 0 < end → Run ts n (getD ts i 0) (i + 1) k →
-        foundList f ≡ usedOf (group os (getD ts i 0)) → Reached end os ts n k (joined out f)
+    pub reached-more : (k : ℕ) (f : Picked) → out .count < instructionPlaces → i < n → getD ts i 0 < end → Run ts n (getD ts i 0) (i + 1) k →
+        pickedList f ≡ usedOf (group os (getD ts i 0)) → OrderProgress end os ts n k (joined out f)
     reached-more k f room h early run e =
         let x : ℕ = getD ts i 0 in
-        let q : usedFrom end os (r .fuel) (r .time) ≡ foundList f ++ usedFrom end os (r .fuel - 1) (x + 1) =
+        let q : usedFrom end os (r .fuel) (r .time) ≡ pickedList f ++ usedFrom end os (r .fuel - 1) (x + 1) =
         used-more end os (r .fuel) (r .time) (omega (arith, r .enough)) (omega (arith, next-here h early))
         ∙ (ap (λ (t : ℕ). usedOf (group os t) ++ usedFrom end os (r .fuel - 1) (t + 1)) (next-here h early)
         ∙ ap (λ (l : List Numbered). l ++ usedFrom end os (r .fuel - 1) (x + 1)) (sym e)) in
@@ -176,7 +176,7 @@ module _ (end : ℕ) (os : List Numbered) (ts : List ℕ) (n : ℕ) (long : leng
           enough = omega (arith, r .enough, run .starts);
           before = λ j l. passed j l (decLe j i);
           after = λ j p l. omega (arith, above j p l);
-          begun = begun-found f room (rw q at (r .begun));
+          begun = begun-picked f room (rw q at (r .begun));
         }
       where
         passed : (j : ℕ) → j < k → Dec (j ≤ i) → getD ts j 0 < getD ts i 0 + 1
@@ -208,12 +208,12 @@ module _ (end : ℕ) (os : List Numbered) (ts : List ℕ) (n : ℕ) (long : leng
 
 -- ---- the times in order
 -- any two of them
-rising-any : (before : ℕ) (ts : List ℕ) → rises before ts ≡ true → (i j : ℕ) → i ≤ j → j < length ts →
+rising-any : (before : ℕ) (ts : List ℕ) → risingFrom before ts ≡ true → (i j : ℕ) → i ≤ j → j < length ts →
     (before ≤ getD ts i 0) × (getD ts i 0 ≤ getD ts j 0)
-unfolding rises
+unfolding risingFrom
 rising-any before [] e i j p l = absurd (omega arith)
 rising-any before (t ∷ ts) e i j p l =
-    let a = and-true (leb before t) (rises t ts) e in
+    let a = and-true (leb before t) (risingFrom t ts) e in
     go i j p l (leb-true before t (a .0)) (rising-any t ts (a .1))
   where
     go : (i j : ℕ) → i ≤ j → j < suc (length ts) → before ≤ t →
@@ -225,22 +225,22 @@ rising-any before (t ∷ ts) e i j p l =
     go (suc i) (suc j) p l b ih = omega (arith, ih i j (omega arith) (omega arith))
 
 module _ (ts : List ℕ) (n : ℕ) (fits : n ≤ length ts) where
-  pub rises-rising : rises 0 (take n ts) ≡ true → Rising ts n
+  pub rises-rising : risingFrom 0 (take n ts) ≡ true → Rising ts n
   rises-rising e i j p l =
       rw (getD-take n ts i 0 (omega arith), getD-take n ts j 0 l) at (rising-any 0 (take n ts) e i j p (omega (arith, length-take n ts)) .1)
 
   -- from the place i on: it is not earlier; it is earlier; none is left
   module _ (before i : ℕ) where
-    pub rises-next : i < n → before ≤ getD ts i 0 → rises (getD ts i 0) (drop (i + 1) (take n ts)) ≡ rises before (drop i (take n ts))
-    unfolding rises
+    pub rises-next : i < n → before ≤ getD ts i 0 → risingFrom (getD ts i 0) (drop (i + 1) (take n ts)) ≡ risingFrom before (drop i (take n ts))
+    unfolding risingFrom
     rises-next h e = rw (left-cons ts n i 0 h fits, le-leb before (getD ts i 0) e)
 
-    pub rises-not : i < n → getD ts i 0 < before → false ≡ rises before (drop i (take n ts))
-    unfolding rises
+    pub rises-not : i < n → getD ts i 0 < before → false ≡ risingFrom before (drop i (take n ts))
+    unfolding risingFrom
     rises-not h e = rw (left-cons ts n i 0 h fits, lt-leb before (getD ts i 0) e)
 
-    pub rises-all : n ≤ i → true ≡ rises before (drop i (take n ts))
-    unfolding rises
+    pub rises-all : n ≤ i → true ≡ risingFrom before (drop i (take n ts))
+    unfolding risingFrom
     rises-all h = rw (left-none ts n i h)
 
 pub same-more : (ts : List ℕ) (from i t : ℕ) → getD ts i 0 ≡ t → ((j : ℕ) → from ≤ j → j < i → getD ts j 0 ≡ t) → (j : ℕ) → from ≤ j → j < i + 1 →
@@ -248,9 +248,9 @@ pub same-more : (ts : List ℕ) (from i t : ℕ) → getD ts i 0 ≡ t → ((j :
 same-more ts from i t e same j p l = elim (ℕ-discrete j i) [ yes q ↦ rw q e | no n ↦ same j p (omega arith) ]
 
 -- ---- neighbours
-pub follows-so : (ts : List ℕ) (at t : ℕ) → followsTime ts at t ≡ true → (0 < at) × (getD ts (at - 1) 0 ≡ t)
+pub follows-is : (ts : List ℕ) (at t : ℕ) → followsTime ts at t ≡ true → (0 < at) × (getD ts (at - 1) 0 ≡ t)
 unfolding followsTime
-follows-so ts at t e =
+follows-is ts at t e =
     let a = and-true (ltb 0 at) (eqb (getD ts (at - 1) 0) t) e in
     (ltb-true 0 at (a .0), eqb-true (getD ts (at - 1) 0) t (a .1))
 
@@ -302,7 +302,7 @@ latest-high (x ∷ xs) (y ∷ js) t (suc j) h k e = go (eqb x t) (latest-high xs
     go false ih = ih
 
 -- one alone has the latest issue time itself
-pub alone-latest : (ts js : List ℕ) (n at : ℕ) → at < n → n ≤ length ts → n ≤ length js → (rises 0 (take n ts) && aloneAt ts n at) ≡ true →
+pub alone-latest : (ts js : List ℕ) (n at : ℕ) → at < n → n ≤ length ts → n ≤ length js → (risingFrom 0 (take n ts) && aloneAt ts n at) ≡ true →
     getD js at 0 ≡ latestAt (take n ts) (take n js) (getD ts at 0)
 alone-latest ts js n at h fits room alone =
     let low = latest-low (take n ts) (take n js) (getD ts at 0) (getD js at 0) (λ j l. each j (omega (arith, length-take n ts))) in
@@ -311,8 +311,8 @@ alone-latest ts js n at h fits room alone =
     in
     omega (arith, getD-take n js at 0 h)
   where
-    both : (rises 0 (take n ts) ≡ true) × (aloneAt ts n at ≡ true)
-    both = and-true (rises 0 (take n ts)) (aloneAt ts n at) alone
+    both : (risingFrom 0 (take n ts) ≡ true) × (aloneAt ts n at ≡ true)
+    both = and-true (risingFrom 0 (take n ts)) (aloneAt ts n at) alone
 
     only : (j : ℕ) → j < n → (j ≡ at → ⊥) → getD ts j 0 ≡ getD ts at 0 → ⊥
     only = alone-only ts n at (rises-rising ts n fits (both .0)) h (both .1)

@@ -13,8 +13,8 @@ use Rattle.records.specs.Records.{noInstruction}
 use Rattle.validation.specs.declared.Numbered.{Numbered}
 use Rattle.validation.specs.Kept.{effectiveOf}
 use Rattle.validation_groups.specs.declared.Sequence.{Sequence}
-use Rattle.validation_rank.specs.declared.Found.{Found}
-use Rattle.validation_rank.specs.declared.Found.the-variants.{One, Nothing}
+use Rattle.validation_rank.specs.declared.Picked.{Picked}
+use Rattle.validation_rank.specs.declared.Picked.the-variants.{One, Nothing}
 
 -- a place that holds none
 abbrev pub noNumbered : Numbered
@@ -31,7 +31,7 @@ sequenceOf xs = record { items = filled instructionPlaces noNumbered xs; count =
 unfoldable pub pushed : Sequence → Numbered → Sequence
 pushed s o = record { items = set (s .items) (s .count) o; count = s .count + 1 }
 
-unfoldable pub joined : Sequence → Found → Sequence
+unfoldable pub joined : Sequence → Picked → Sequence
 joined s (One o) = pushed s o
 joined s Nothing = s
 
@@ -69,9 +69,9 @@ nextTimeAmong end [] t = end
 nextTimeAmong end (x ∷ xs) t = earlierOf x t (nextTimeAmong end xs t)
 
 -- each of the times is at least the one before it, the first at least `before`
-unfoldable pub rises : ℕ → List ℕ → Bool
-rises before [] = true
-rises before (t ∷ ts) = leb before t && rises t ts
+unfoldable pub risingFrom : ℕ → List ℕ → Bool
+risingFrom before [] = true
+risingFrom before (t ∷ ts) = leb before t && risingFrom t ts
 
 -- so stand the first n times, any two of them
 abbrev pub Rising : List ℕ → ℕ → Type 0

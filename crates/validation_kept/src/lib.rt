@@ -8,7 +8,7 @@ ghost use Rattle.level.specs.Choice.{pick};
 ghost use Rattle.level.specs.Numbers.{instructionPlaces};
 ghost use Rattle.validation.specs.declared.Numbered.{Numbered};
 ghost use Rattle.validation.specs.Kept.{numbered, acting, actors, lateMarks};
-ghost use Rattle.validation_groups.specs.Working.{Timed, rises};
+ghost use Rattle.validation_groups.specs.Working.{Timed, risingFrom};
 ghost use Rattle.validation_kept.specs.Outcome.{validationOf};
 ghost use Rattle.validation_kept.specs.Late.{lateFateBy, LateFates, settled, actingWith, fatesTo};
 ghost use Rattle.validation_sequence.specs.Working.{entryNumber, Noted, Soon};
@@ -148,7 +148,7 @@ fn fates_of(
     ordered: bool,
     later: [u8; level::INSTRUCTIONS],
 ) -> [u8; level::INSTRUCTIONS]
-    requires { ⌜ (n ≤ instructionPlaces) × (n ≤ length (now times)) × (n ≤ length (now issues)) × (ordered ≡ rises 0 (take n (now times))) ⌝ }
+    requires { ⌜ (n ≤ instructionPlaces) × (n ≤ length (now times)) × (n ≤ length (now issues)) × (ordered ≡ risingFrom 0 (take n (now times))) ⌝ }
     ensures { λ r. ⌜ r ≡ filled instructionPlaces 0 (fatesTo (take n (now (times .entry))) (take n (now (issues .entry))) later n) ⌝ }
 {
     let mut out = [0u8; level::INSTRUCTIONS];

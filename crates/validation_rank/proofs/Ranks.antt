@@ -14,9 +14,9 @@ use Rattle.records.specs.declared.Effect.the-variants.{Mwof, Sync, Desy}
 use Rattle.records.specs.Codes.{same}
 use Rattle.validation.specs.declared.Numbered.{Numbered}
 use Rattle.validation.specs.Kept.{effectOf, levelOf, goesBefore, highest, orElse, present, carrying, merged, usedOf}
-use Rattle.validation_rank.specs.Found.{foundList, bestFrom}
-use Rattle.validation_rank.specs.declared.Found.{Found}
-use Rattle.validation_rank.specs.declared.Found.the-variants.{One, Nothing}
+use Rattle.validation_rank.specs.Picked.{pickedList, bestFrom}
+use Rattle.validation_rank.specs.declared.Picked.{Picked}
+use Rattle.validation_rank.specs.declared.Picked.the-variants.{One, Nothing}
 
 module _ (x o : Numbered) where
   pub goes-rank : x .instruction .meaning .rank < o .instruction .meaning .rank → true ≡ goesBefore x o
@@ -49,15 +49,15 @@ module _ (g : List Numbered) where
   unfolding merged
   merged-other o h = rw h
 
-  pub merged-into : (o : Numbered) (f : Found) (c : Numbered) → same (effectOf o) Mwof ≡ true →
-      foundList f ≡ orElse (present Sync g) (present Desy g) → f ≡ One c → carrying o c ∷ [] ≡ merged g o
+  pub merged-into : (o : Numbered) (f : Picked) (c : Numbered) → same (effectOf o) Mwof ≡ true →
+      pickedList f ≡ orElse (present Sync g) (present Desy g) → f ≡ One c → carrying o c ∷ [] ≡ merged g o
   unfolding merged
-  merged-into o f c h p q = let e : orElse (present Sync g) (present Desy g) ≡ c ∷ [] = sym p ∙ ap foundList q in rw (h, e)
+  merged-into o f c h p q = let e : orElse (present Sync g) (present Desy g) ≡ c ∷ [] = sym p ∙ ap pickedList q in rw (h, e)
 
-  pub merged-alone : (o : Numbered) (f : Found) → same (effectOf o) Mwof ≡ true → foundList f ≡ orElse (present Sync g) (present Desy g) →
+  pub merged-alone : (o : Numbered) (f : Picked) → same (effectOf o) Mwof ≡ true → pickedList f ≡ orElse (present Sync g) (present Desy g) →
       f ≡ Nothing → o ∷ [] ≡ merged g o
   unfolding merged
-  merged-alone o f h p q = let e : orElse (present Sync g) (present Desy g) ≡ [] = sym p ∙ ap foundList q in rw (h, e)
+  merged-alone o f h p q = let e : orElse (present Sync g) (present Desy g) ≡ [] = sym p ∙ ap pickedList q in rw (h, e)
 
 pub used-best : (g : List Numbered) (o : Numbered) → o ∷ [] ≡ bestFrom [] g → merged g o ≡ usedOf g
 unfolding usedOf bestFrom
@@ -70,11 +70,11 @@ used-none [] e = refl
 used-none (x ∷ xs) e = absurd (omega (arith, ap length e))
 
 -- one more looked at
-pub better-one : (f : Found) (b o h : Numbered) → f ≡ One b → h ≡ pick (goesBefore o b) o b → h ∷ [] ≡ bestFrom (foundList f) (o ∷ [])
+pub better-one : (f : Picked) (b o h : Numbered) → f ≡ One b → h ≡ pick (goesBefore o b) o b → h ∷ [] ≡ bestFrom (pickedList f) (o ∷ [])
 unfolding bestFrom highest
 better-one f b o h e k = rw (e, k)
 
-pub better-none : (f : Found) (o : Numbered) → f ≡ Nothing → o ∷ [] ≡ bestFrom (foundList f) (o ∷ [])
+pub better-none : (f : Picked) (o : Numbered) → f ≡ Nothing → o ∷ [] ≡ bestFrom (pickedList f) (o ∷ [])
 unfolding bestFrom highest
 better-none f o e = rw e
 

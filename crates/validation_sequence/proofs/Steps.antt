@@ -17,7 +17,7 @@ use Rattle.records.specs.Codes.{same}
 use Rattle.validation.specs.declared.Numbered.{Numbered}
 use Rattle.validation.specs.Kept.{effectiveOf, effectOf, Mark, mark, repeats, syncWithinHour, fromSync, beforeSync, Checked, failed, checkOne, check, acting}
 use Rattle.validation_groups.specs.Working.{noNumbered}
-use Rattle.validation_sequence.specs.Working.{Checking, checking, entryNumber, Noted, Synced, never, Soon, Stepped, stackOf, stackFrom, syncPlace, setFate, marked, withFate, keeping, noneChecked, Tracks, Follows}
+use Rattle.validation_sequence.specs.Working.{Checking, checking, entryNumber, Noted, Synced, never, Soon, StepThree, stackOf, stackFrom, syncPlace, setFate, marked, withFate, keeping, noneChecked, Tracks, Follows}
 use Rattle.validation_sequence.proofs.Stack.{stack-push, synced-push, hour-none, hour-some, before-sync, from-sync}
 
 -- ---- fates in an array
@@ -163,10 +163,10 @@ soon-push times h v b p r j l = elim (ℕ-discrete j h) [
   | no i ↦ rw (getD-set-other times h j v 0 i) (r j (omega arith))
 ]
 
-module _ {ks : List Numbered} {h : ℕ} {fates numbers times : List ℕ} {m : Checked} (r : Stepped ks h fates numbers times m) (o : Numbered) where
+module _ {ks : List Numbered} {h : ℕ} {fates numbers times : List ℕ} {m : Checked} (r : StepThree ks h fates numbers times m) (o : Numbered) where
   -- none is added
   pub stepped-on : (k : ℕ) (next : List ℕ) → k ≤ h → Follows (checking ks h fates) (checking ks k next) (λ (c : Checked). checkOne c o) →
-      Stepped ks k next numbers times (checkOne m o)
+      StepThree ks k next numbers times (checkOne m o)
   stepped-on k next p f = record {
     few = omega (arith, r .few);
     tracks = f m (r .tracks);
@@ -179,7 +179,7 @@ module _ {ks : List Numbered} {h : ℕ} {fates numbers times : List ℕ} {m : Ch
   pub stepped-keep : (v : ℕ) → v ≡ acting o → v < never → h < instructionPlaces → length ks ≡ instructionPlaces → length numbers ≡ instructionPlaces →
       length times ≡ instructionPlaces →
       Follows (checking ks h fates) (keeping (checking ks h fates) o) (λ (c : Checked). checkOne c o) →
-      Stepped (set ks h o) (h + 1) fates (set numbers h (o .number)) (set times h v) (checkOne m o)
+      StepThree (set ks h o) (h + 1) fates (set numbers h (o .number)) (set times h v) (checkOne m o)
   unfolding keeping
   stepped-keep v e b p a1 a2 a3 f = record {
     few = omega arith;
@@ -202,7 +202,7 @@ pub record Checks (n i count : ℕ) (first items : List Numbered) (places fates 
   pub times-long : length times ≡ instructionPlaces
   pub ahead : (j : ℕ) → i ≤ j → getD items j noNumbered ≡ getD first j noNumbered
   pub synced : Synced places items count
-  pub stepped : Stepped items count fates numbers times (check noneChecked (take i first))
+  pub stepped : StepThree items count fates numbers times (check noneChecked (take i first))
 
 -- none yet
 pub checks-none : (n : ℕ) (first : List Numbered) (places fates numbers times : List ℕ) → n ≤ instructionPlaces → length first ≡ instructionPlaces →

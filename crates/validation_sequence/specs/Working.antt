@@ -82,7 +82,7 @@ abbrev pub Soon : List ℕ → ℕ → Type 0
 Soon times h = (j : ℕ) → j < h → getD times j 0 < never
 
 -- step 3 has come to this: the kept ones and the fates, and beside them the numbers and the acting times of the kept ones
-pub record Stepped (kept : List Numbered) (height : ℕ) (fates numbers times : List ℕ) (m : Checked) : Type 0 where
+pub record StepThree (kept : List Numbered) (height : ℕ) (fates numbers times : List ℕ) (m : Checked) : Type 0 where
   pub few : height ≤ instructionPlaces
   pub tracks : Tracks (checking kept height fates) m
   pub named : Noted entryNumber numbers kept height

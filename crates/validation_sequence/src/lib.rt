@@ -11,7 +11,7 @@ ghost use Rattle.records.specs.Codes.{same};
 ghost use Rattle.validation.specs.declared.Numbered.{Numbered};
 ghost use Rattle.validation.specs.Kept.{effectOf, effectiveOf, mark, repeats, syncWithinHour, Checked, failed, check, acting};
 ghost use Rattle.validation_groups.specs.Working.{noNumbered};
-ghost use Rattle.validation_sequence.specs.Working.{entryNumber, Noted, stackOf, stackFrom, syncPlace, Synced, setFate, marked, checking, noneChecked, Follows, never, Stepped};
+ghost use Rattle.validation_sequence.specs.Working.{entryNumber, Noted, stackOf, stackFrom, syncPlace, Synced, setFate, marked, checking, noneChecked, Follows, never, StepThree};
 
 // ---- step 3: in time order, against the last kept one
 
@@ -157,7 +157,7 @@ pub fn check_all(
     times: &mut [u64; level::INSTRUCTIONS],
 ) -> validation_groups::Sequence
     requires { ⌜ (used .count ≤ instructionPlaces) × (now fates ≡ replicate instructionPlaces 2) × (length (now numbers) ≡ instructionPlaces) × (length (now times) ≡ instructionPlaces) ⌝ }
-    ensures { λ r. ⌜ Stepped (r .items) (r .count) (now (fates .exit)) (now (numbers .exit)) (now (times .exit)) (check noneChecked (take (used .count) (used .items))) ⌝ }
+    ensures { λ r. ⌜ StepThree (r .items) (r .count) (now (fates .exit)) (now (numbers .exit)) (now (times .exit)) (check noneChecked (take (used .count) (used .items))) ⌝ }
 {
     let n = used.count;
     let mut items = used.items;

@@ -1,14 +1,14 @@
 use Prim.Native.Nat.{_≤_, _-_}
 use mathlib.Core.Path.{_≡_, refl, _∙_}
 use lib.ListN.{take, drop}
-use Rattle.validation_groups.specs.Working.{rises}
+use Rattle.validation_groups.specs.Working.{risingFrom}
 use Rattle.validation_groups.proofs.Order.{rises-next, rises-not, rises-all}
 use native.Mathlib.Omega.{arith}
 use Rattle.validation_groups.proofs.in_order.Statement.{statement}
 use Rattle.validation_groups.proofs.in_order.Tie as tie
 
 abbrev Inv-loop : tie.InvT-loop
-Inv-loop times n before₀ i₀ before i = (i ≤ n) × (rises before (drop i (take n times)) ≡ rises 0 (take n times))
+Inv-loop times n before₀ i₀ before i = (i ≤ n) × (risingFrom before (drop i (take n times)) ≡ risingFrom 0 (take n times))
 
 abbrev μ-loop : tie.MeasureT-loop
 μ-loop times n before₀ i₀ before i = n - i

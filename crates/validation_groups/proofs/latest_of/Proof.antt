@@ -3,7 +3,7 @@ use mathlib.Core.Bool.{Bool, _&&_}
 use native.Mathlib.Omega.{arith}
 use lib.ListN.{take, getD}
 use Rattle.validation_groups.specs.Working.{latestAt, aloneAt}
-use Rattle.validation_groups.proofs.Order.{alone-latest, follows-so}
+use Rattle.validation_groups.proofs.Order.{alone-latest, follows-is}
 use borrow.Author.Needs.{needs}
 use Rattle.validation_groups.proofs.latest_of.Statement.{statement}
 use Rattle.validation_groups.proofs.latest_of.Tie as tie
@@ -20,7 +20,7 @@ returns-2 : tie.Need-returns-2
 returns-2 c =
     let s = c .before .before .before .before .before in
     let a = s .args in
-    let f = follows-so (a .times .now) (a .at) (getD (a .times .now) (a .at) 0) (sym (c .before .follows-time .ensures) ∙ c .if2 .taken) in
+    let f = follows-is (a .times .now) (a .at) (getD (a .times .now) (a .at) 0) (sym (c .before .follows-time .ensures) ∙ c .if2 .taken) in
     s .pre .1 (f .0) ∙ ap (latestAt (take (a .n) (a .times .now)) (take (a .n) (a .issues .now))) (f .1)
 
 pub latest-of-spec : {M : Type 1} → statement M

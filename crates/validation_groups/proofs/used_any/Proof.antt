@@ -4,8 +4,8 @@ use mathlib.Core.List.{List, [], _++_}
 use lib.ListN.{length, take}
 use Rattle.validation.specs.declared.Numbered.{Numbered}
 use Rattle.validation.specs.Kept.{numbered, effectiveOf, used, usedFrom, usedOf, group, nextTime}
-use Rattle.validation_rank.specs.Found.{foundList}
-use Rattle.validation_groups.proofs.Laws.{Begun, begun-none, begun-found, begun-all, joined-count, next-is, time-fits, used-stop, used-more, used-zero, used-begins, as-many, timed-all}
+use Rattle.validation_rank.specs.Picked.{pickedList}
+use Rattle.validation_groups.proofs.Laws.{Begun, begun-none, begun-picked, begun-all, joined-count, next-is, time-fits, used-stop, used-more, used-zero, used-begins, as-many, timed-all}
 use native.Mathlib.Omega.{arith}
 use borrow.Author.Needs.{needs}
 use Rattle.validation_groups.proofs.used_any.Statement.{statement}
@@ -61,15 +61,15 @@ loop-again c =
     let next = c .before .before .before .next-time .result in
     let t : next ≡ nextTime (s .end) os (l .t) = c .before .before .before .next-time .ensures ∙ next-is (z .pre .1) (s .end) (l .t) in
     let u = c .before .used-at .result in
-    let g : foundList u ≡ usedOf (group os next) = c .before .used-at .ensures in
+    let g : pickedList u ≡ usedOf (group os next) = c .before .used-at .ensures in
     let m : s .n - (l .i + 1) ≡ s .n - l .i - 1 = omega arith in
-    let q : usedFrom (s .end) os (s .n - l .i) (l .t) ≡ foundList u ++ usedFrom (s .end) os (s .n - (l .i + 1)) (next + 1) =
+    let q : usedFrom (s .end) os (s .n - l .i) (l .t) ≡ pickedList u ++ usedFrom (s .end) os (s .n - (l .i + 1)) (next + 1) =
     used-more (s .end) os (s .n - l .i) (l .t) (omega arith) (omega arith)
     ∙ (ap (λ (k : ℕ). usedOf (group os k) ++ usedFrom (s .end) os (s .n - l .i - 1) (k + 1)) (sym t)
     ∙ (ap (λ (k : ℕ). usedOf (group os next) ++ usedFrom (s .end) os k (next + 1)) (sym m)
     ∙ ap (λ (xs : List Numbered). xs ++ usedFrom (s .end) os (s .n - (l .i + 1)) (next + 1)) (sym g))) in
-    let e = c .push-found .ensures in
-    (omega arith, rw e (omega (arith, joined-count (l .out) u)), rw e (begun-found u (omega arith) (rw q at (l .inv .2))))
+    let e = c .push-picked .ensures in
+    (omega arith, rw e (omega (arith, joined-count (l .out) u)), rw e (begun-picked u (omega arith) (rw q at (l .inv .2))))
 
 returns-2 : tie.Need-returns-2 Inv-loop μ-loop
 returns-2 c =

@@ -6,7 +6,7 @@ use lib.ListN.{length, take, drop, getD}
 use Rattle.level.specs.Lists.{those}
 use Rattle.validation.specs.declared.Numbered.{Numbered}
 use Rattle.validation.specs.Kept.{numbered, effectiveOf, superseded, group, orElse, usedOf}
-use Rattle.validation_rank.specs.Found.{foundList}
+use Rattle.validation_rank.specs.Picked.{pickedList}
 use Rattle.validation_groups.specs.Working.{noNumbered, issueTimeOf, Timed, supersededAmong}
 use Rattle.level.proofs.Lists.{left-none}
 use Rattle.validation_groups.proofs.Laws.{Walked, inGroup, those-none, those-skip, those-keep, walked-none, walked-more, walked-best, walked-sync, walked-desy, time-fits, time-at, superseded-is, group-other, group-gone, group-left, as-many, all-numbered, number-here, timed-all}
@@ -112,8 +112,8 @@ loop-again-3 c =
     let w = rw (those-keep os n (inGroup (take n os) (s .args .t)) (l .i) noNumbered (omega arith) (fits s) e) at (l .inv .1) in (
       omega arith,
       walked-more (c .before .before .before .before .before .number-at .result) (c .before .before .before .before .better .ensures)
-          (c .before .before .or-else .ensures ∙ ap (orElse (foundList (l .sync))) (c .before .before .before .of-code .ensures))
-          (c .or-else2 .ensures ∙ ap (orElse (foundList (l .desy))) (c .before .of-code2 .ensures))
+          (c .before .before .or-else .ensures ∙ ap (orElse (pickedList (l .sync))) (c .before .before .before .of-code .ensures))
+          (c .or-else2 .ensures ∙ ap (orElse (pickedList (l .desy))) (c .before .of-code2 .ensures))
           (rw (number-here (s .args .t1) n (room s) (l .i) (omega arith) ∙ sym (c .before .before .before .before .before .number-at .ensures))
           at w),
     )

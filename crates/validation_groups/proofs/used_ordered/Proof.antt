@@ -3,19 +3,19 @@ use mathlib.Core.Path.{_≡_, sym, ap, _∙_}
 use mathlib.Core.List.{List, [], _∷_}
 use lib.ListN.{length, take, getD}
 use Rattle.validation.specs.Kept.{numbered, effectiveOf, usedOf, group}
-use Rattle.validation_rank.specs.Found.{foundList}
+use Rattle.validation_rank.specs.Picked.{pickedList}
 use Rattle.validation_groups.specs.Working.{noNumbered, pushed, joined}
-use Rattle.validation_rank.specs.declared.Found.the-variants.{One}
+use Rattle.validation_rank.specs.declared.Picked.the-variants.{One}
 use Rattle.validation.specs.declared.Numbered.{Numbered}
 use Rattle.validation_groups.proofs.Laws.{begun-all, time-at, as-many, number-here, timed-all}
-use Rattle.validation_groups.proofs.Order.{Reached, reached-none, reached-late, reached-all, reached-more, reached-alone}
+use Rattle.validation_groups.proofs.Order.{OrderProgress, reached-none, reached-late, reached-all, reached-more, reached-alone}
 use native.Mathlib.Omega.{arith}
 use borrow.Author.Needs.{needs}
 use Rattle.validation_groups.proofs.used_ordered.Statement.{statement}
 use Rattle.validation_groups.proofs.used_ordered.Tie as tie
 
 abbrev Inv-loop : tie.InvT-loop
-Inv-loop times issues n end instructions out₀ i₀ out i = (i ≤ n) × (out .count ≤ i) × Reached end (numbered 1 (take n instructions)) times n i out
+Inv-loop times issues n end instructions out₀ i₀ out i = (i ≤ n) × (out .count ≤ i) × OrderProgress end (numbered 1 (take n instructions)) times n i out
 
 abbrev μ-loop : tie.MeasureT-loop
 μ-loop times issues n end instructions out₀ i₀ out i = n - i
@@ -82,7 +82,7 @@ loop-again-2 c =
     let os = numbers s in
     let run = c .before .before .before .before .before .run-end .ensures in
     let u = c .before .before .before .used-at .result in
-    let e : foundList u ≡ usedOf (group os (getD (s .args .times .now) (l .i) 0)) = c .before .before .before .used-at .ensures in
+    let e : pickedList u ≡ usedOf (group os (getD (s .args .times .now) (l .i) 0)) = c .before .before .before .used-at .ensures in
     let r =
     reached-more (s .args .end) os (s .args .times .now) (s .args .n) (long s) (at s) (s .pre .2) (l .i) (l .out) (l .inv .2)
     (c .before .before .before .before .before .run-end .result) u (omega arith) (omega arith) (omega arith) run e in
@@ -99,7 +99,7 @@ loop-again-3 c =
     let os = numbers s in
     let run = c .before .before .before .before .run-end .ensures in
     let u = c .before .before .used-at .result in
-    let e : foundList u ≡ usedOf (group os (getD (s .args .times .now) (l .i) 0)) = c .before .before .used-at .ensures in
+    let e : pickedList u ≡ usedOf (group os (getD (s .args .times .now) (l .i) 0)) = c .before .before .used-at .ensures in
     let r =
     reached-more (s .args .end) os (s .args .times .now) (s .args .n) (long s) (at s) (s .pre .2) (l .i) (l .out) (l .inv .2)
     (c .before .before .before .before .run-end .result) u (omega arith) (omega arith) (omega arith) run e in
