@@ -23,7 +23,7 @@ use Rattle.records.specs.declared.Instruction.{Instruction}
 use Rattle.validation.proofs.Few.{numbered-length}
 use Rattle.validation.specs.Kept.{numbered, effectiveOf, effectOf, superseded, group, highest, firstOne, orElse, present, usedOf, nextTime, usedFrom, used}
 use Rattle.validation_rank.specs.Picked.{pickedList, bestFrom}
-use Rattle.validation_groups.specs.Working.{noNumbered, numberedAt, sequenceOf, pushed, joined, issueTimeOf, Timed, laterOf, latestAt, supersededAmong, earlierOf, nextTimeAmong}
+use Rattle.validation_groups.specs.Working.{noNumbered, numberedAt, sequenceOf, pushed, joined, Holds, issueTimeOf, Timed, laterOf, latestAt, supersededAmong, earlierOf, nextTimeAmong}
 use Rattle.validation_groups.specs.declared.Sequence.{Sequence}
 use Rattle.validation_rank.specs.declared.Picked.{Picked}
 use Rattle.validation_rank.specs.declared.Picked.the-variants.{One, Nothing}
@@ -82,10 +82,10 @@ module _ {s : Sequence} {rest whole : List Numbered} where
   begun-picked Nothing h b = b
 
 -- the list that a sequence holds
-pub held : {s : Sequence} {xs : List Numbered} → s ≡ sequenceOf xs → s .count ≤ instructionPlaces → take (s .count) (s .items) ≡ xs
-held {s} {xs} e h =
-    ap (λ (q : Sequence). take (q .count) (q .items)) e
-    ∙ filled-listed noNumbered instructionPlaces xs (omega (arith, ap (λ (q : Sequence). q .count) e))
+pub held : {s : Sequence} {xs : List Numbered} → Holds s xs → take (s .count) (s .items) ≡ xs
+held {s} {xs} h =
+    ap (λ (q : Sequence). take (q .count) (q .items)) (h .exactly)
+    ∙ filled-listed noNumbered instructionPlaces xs (omega (arith, ap (λ (q : Sequence). q .count) (h .exactly)))
 
 pub joined-count : (s : Sequence) (f : Picked) → joined s f .count ≤ s .count + 1
 unfolding joined pushed
@@ -280,12 +280,14 @@ used-step : (end : ℕ) (os : List Numbered) (m t : ℕ) → nextTime end os t <
 unfolding usedFrom
 used-step end os m t h = rw (lt-ltb (nextTime end os t) end h, usedFrom)
 
-pub used-more : (end : ℕ) (os : List Numbered) (m t : ℕ) → 0 < m → nextTime end os t < end →
-    usedFrom end os m t ≡ usedOf (group os (nextTime end os t)) ++ usedFrom end os (m - 1) (nextTime end os t + 1)
-used-more end os zero t p h = absurd (omega arith)
-used-more end os (suc m) t p h =
-    let e : suc m - 1 ≡ m = omega arith in
-    rw (e, add-one (nextTime end os t)) (used-step end os m t h)
+-- one group more is in: that of the next time
+pub begun-group : {s : Sequence} {whole : List Numbered} (end : ℕ) (os : List Numbered) (m k t next : ℕ) (f : Picked) → m ≡ k + 1 →
+    next ≡ nextTime end os t → next < end → s .count < instructionPlaces → pickedList f ≡ usedOf (group os next) →
+    Begun s (usedFrom end os m t) whole → Begun (joined s f) (usedFrom end os k (next + 1)) whole
+begun-group end os m k t next f d q h room g b =
+    let e : m ≡ suc k = omega arith in
+    let more : usedFrom end os m t ≡ pickedList f ++ usedFrom end os k (next + 1) = rw (e, g, q, add-one) (used-step end os k t (omega arith)) in
+    begun-picked f room (rw more at b)
 
 pub used-zero : (end : ℕ) (os : List Numbered) (t : ℕ) → usedFrom end os 0 t ≡ []
 unfolding usedFrom

@@ -1,6 +1,6 @@
 -- Those used, where the times stand in order: one time's group after another, from the place of its first.
 use mathlib.Core.Path.{_≡_, refl, sym, ap, _∙_}
-use mathlib.Core.List.{List, [], _∷_, _++_}
+use mathlib.Core.List.{List, [], _∷_}
 use mathlib.Core.Bool.{Bool, true, false, _&&_, not, true≢false}
 use Prim.Native.Nat.{ℕ, zero, suc, _+_, _-_, _≤_, _<_, min, max}
 use native.Mathlib.Decide.{ℕ-discrete, decLe}
@@ -21,7 +21,7 @@ use Rattle.validation_rank.specs.Picked.{pickedList}
 use Rattle.validation_groups.specs.Working.{noNumbered, sequenceOf, joined, issueTimeOf, laterOf, latestAt, risingFrom, Rising, hasTimeAt, followsTime, aloneAt, Run}
 use Rattle.validation_groups.specs.declared.Sequence.{Sequence}
 use Rattle.validation_rank.specs.declared.Picked.{Picked}
-use Rattle.validation_groups.proofs.Laws.{Begun, begun-none, begun-picked, used-stop, used-more}
+use Rattle.validation_groups.proofs.Laws.{Begun, begun-none, begun-group, joined-count, used-stop}
 
 -- ---- the next time
 abbrev timeAt : List Numbered → ℕ → ℕ
@@ -108,8 +108,16 @@ module _ (os : List Numbered) (i : ℕ) (h : i < length os) (alone : (j : ℕ) �
   alone-used = used-alone (getD os i noNumbered) ∙ ap usedOf (sym group-alone)
 
 -- ---- in order
+-- these have these times, which stand in order
+pub record InOrder (os : List Numbered) (ts : List ℕ) (n : ℕ) : Type 0 where
+  pub long : length os ≡ n
+  pub at : (j : ℕ) → j < n → getD ts j 0 ≡ timeAt os j
+  pub rising : Rising ts n
+
 -- the groups of the first i places are in; those of the others follow, from a time on
 pub record OrderProgress (end : ℕ) (os : List Numbered) (ts : List ℕ) (n i : ℕ) (out : Sequence) : Type 0 where
+  pub within : i ≤ n
+  pub few : out .count ≤ i
   pub time : ℕ
   pub fuel : ℕ
   pub enough : n ≤ fuel + i
@@ -117,12 +125,13 @@ pub record OrderProgress (end : ℕ) (os : List Numbered) (ts : List ℕ) (n i :
   pub after : (j : ℕ) → i ≤ j → j < n → time ≤ getD ts j 0
   pub begun : Begun out (usedFrom end os fuel time) (used end os)
 
-module _ (end : ℕ) (os : List Numbered) (ts : List ℕ) (n : ℕ) (long : length os ≡ n) (at : (j : ℕ) → j < n → getD ts j 0 ≡ timeAt os j)
-    (rising : Rising ts n) where
-  pub reached-none : OrderProgress end os ts n 0 (sequenceOf [])
+module _ {os : List Numbered} {ts : List ℕ} {n : ℕ} (g : InOrder os ts n) where
+  pub order-none : (end : ℕ) → OrderProgress end os ts n 0 (sequenceOf [])
   unfolding used
-  reached-none =
+  order-none end =
       record {
+        within = omega arith;
+        few = omega arith;
         time = 0;
         fuel = length os;
         enough = omega arith;
@@ -131,80 +140,74 @@ module _ (end : ℕ) (os : List Numbered) (ts : List ℕ) (n : ℕ) (long : leng
         begun = begun-none (usedFrom end os (length os) 0);
       }
 
-  module _ (i : ℕ) (out : Sequence) (r : OrderProgress end os ts n i out) where
+  module _ {end i : ℕ} {out : Sequence} (r : OrderProgress end os ts n i out) where
     -- none before the place i is from the time on
     from-here : (j : ℕ) → j < n → r .time ≤ timeAt os j → i ≤ j
     from-here j l h = elim (decLe i j) [
       | yes p ↦ p
-      | no p ↦ absurd (omega (arith, r .before j (omega arith), at j l))
+      | no p ↦ absurd (omega (arith, r .before j (omega arith), g .at j l))
     ]
 
-    pub reached-late : i < n → end ≤ getD ts i 0 → Begun out [] (used end os)
-    reached-late h late =
-        let e : end ≤ nextTime end os (r .time) =
-        next-least end (r .time) end os (omega arith)
-        (λ j l p. omega (arith, at j (omega arith), rising i j (from-here j (omega arith) p) (omega arith))) in
+    -- each from the time on is at least as late as that at the place i
+    least-here : i < n → (j : ℕ) → j < length os → r .time ≤ timeAt os j → getD ts i 0 ≤ timeAt os j
+    least-here h j l p = omega (arith, g .at j (omega arith), g .rising i j (from-here j (omega arith) p) (omega arith))
+
+    pub order-late : i < n → end ≤ getD ts i 0 → Begun out [] (used end os)
+    order-late h late =
+        let e = next-least end (r .time) end os (omega arith) (λ j l p. omega (arith, least-here h j l p)) in
         rw (used-stop end os (r .fuel) (r .time) e) at (r .begun)
 
-    pub reached-all : n ≤ i → Begun out [] (used end os)
-    reached-all h =
-        let e : end ≤ nextTime end os (r .time) =
-        next-least end (r .time) end os (omega arith) (λ j l p. absurd (omega (arith, from-here j (omega arith) p))) in
+    pub order-all : n ≤ i → Begun out [] (used end os)
+    order-all h =
+        let e = next-least end (r .time) end os (omega arith) (λ j l p. absurd (omega (arith, from-here j (omega arith) p))) in
         rw (used-stop end os (r .fuel) (r .time) e) at (r .begun)
 
-    next-here : i < n → getD ts i 0 < end → nextTime end os (r .time) ≡ getD ts i 0
+    next-here : i < n → getD ts i 0 < end → getD ts i 0 ≡ nextTime end os (r .time)
     next-here h early =
-        let a : getD ts i 0 ≤ nextTime end os (r .time) =
-        next-least end (r .time) (getD ts i 0) os (omega arith)
-        (λ j l p. omega (arith, at j (omega arith), rising i j (from-here j (omega arith) p) (omega arith))) in
-        let b : nextTime end os (r .time) ≤ timeAt os i =
-        next-reached end (r .time) os i (omega arith) (omega (arith, at i h, r .after i (omega arith) h)) in
-        omega (arith, at i h)
+        let a = next-least end (r .time) (getD ts i 0) os (omega arith) (least-here h) in
+        let b = next-reached end (r .time) os i (omega arith) (omega (arith, g .at i h, r .after i (omega arith) h)) in
+        omega (arith, g .at i h)
 
     -- one group more: those from the place i up to the place k
-    pub reached-more : (k : ℕ) (f : Picked) → out .count < instructionPlaces → i < n → getD ts i 0 < end → Run ts n (getD ts i 0) (i + 1) k →
+    pub order-more : (k : ℕ) (f : Picked) → out .count < instructionPlaces → i < n → getD ts i 0 < end → Run ts n (getD ts i 0) (i + 1) k →
         pickedList f ≡ usedOf (group os (getD ts i 0)) → OrderProgress end os ts n k (joined out f)
-    reached-more k f room h early run e =
-        let x : ℕ = getD ts i 0 in
-        let q : usedFrom end os (r .fuel) (r .time) ≡ pickedList f ++ usedFrom end os (r .fuel - 1) (x + 1) =
-        used-more end os (r .fuel) (r .time) (omega (arith, r .enough)) (omega (arith, next-here h early))
-        ∙ (ap (λ (t : ℕ). usedOf (group os t) ++ usedFrom end os (r .fuel - 1) (t + 1)) (next-here h early)
-        ∙ ap (λ (l : List Numbered). l ++ usedFrom end os (r .fuel - 1) (x + 1)) (sym e)) in
+    order-more k f room h early run e =
         record {
-          time = x + 1;
+          within = run .ends;
+          few = omega (arith, r .few, joined-count out f, run .starts);
+          time = getD ts i 0 + 1;
           fuel = r .fuel - 1;
           enough = omega (arith, r .enough, run .starts);
           before = λ j l. passed j l (decLe j i);
           after = λ j p l. omega (arith, above j p l);
-          begun = begun-picked f room (rw q at (r .begun));
+          begun =
+              begun-group end os (r .fuel) (r .fuel - 1) (r .time) (getD ts i 0) f (omega (arith, r .enough)) (next-here h early) early room e
+              (r .begun);
         }
       where
         passed : (j : ℕ) → j < k → Dec (j ≤ i) → getD ts j 0 < getD ts i 0 + 1
-        passed j l (yes p) = omega (arith, rising j i p h)
+        passed j l (yes p) = omega (arith, g .rising j i p h)
         passed j l (no p) = omega (arith, run .same j (omega arith) l)
 
         above : (j : ℕ) → k ≤ j → j < n → getD ts i 0 < getD ts j 0
-        above j p l = run-past (omega (arith, rising i k (omega (arith, run .starts)) (omega arith), run .other (omega arith))) (rising k j p l)
+        above j p l = run-past (omega (arith, g .rising i k (omega (arith, run .starts)) (omega arith), run .other (omega arith))) (g .rising k j p l)
           where
             run-past : getD ts i 0 < getD ts k 0 → getD ts k 0 ≤ getD ts j 0 → getD ts i 0 < getD ts j 0
             run-past a b = omega arith
 
     -- a run of one is used as it is
-    pub reached-alone : i < n → Run ts n (getD ts i 0) (i + 1) (i + 1) → getD os i noNumbered ∷ [] ≡ usedOf (group os (getD ts i 0))
-    reached-alone h run = rw (at i h) (alone-used os i (omega arith) other)
+    pub order-alone : i < n → Run ts n (getD ts i 0) (i + 1) (i + 1) → getD os i noNumbered ∷ [] ≡ usedOf (group os (getD ts i 0))
+    order-alone h run = rw (g .at i h) (alone-used os i (omega arith) other)
       where
         other : (j : ℕ) → j < length os → (j ≡ i → ⊥) → timeAt os j ≡ timeAt os i → ⊥
-        other j l ne q = elim (decLe i j) [
-          | yes p ↦ run .other (omega arith) (omega (
-            arith,
-            rising i (i + 1) (omega arith) (omega arith),
-            rising (i + 1) j (omega arith)
-                (omega arith),
-            at i h,
-            at j (omega arith),
-          ))
-          | no p ↦ absurd (omega (arith, r .before j (omega arith), r .after i (omega arith) h, at i h, at j (omega arith)))
-        ]
+        other j l ne q =
+            let a = g .at i h in
+            let b = g .at j (omega arith) in
+            elim (decLe i j) [
+              | yes p ↦ run .other (omega arith)
+                  (omega (arith, g .rising i (i + 1) (omega arith) (omega arith), g .rising (i + 1) j (omega arith) (omega arith)))
+              | no p ↦ absurd (omega (arith, r .before j (omega arith), r .after i (omega arith) h))
+            ]
 
 -- ---- the times in order
 -- any two of them
@@ -242,6 +245,12 @@ module _ (ts : List ℕ) (n : ℕ) (fits : n ≤ length ts) where
     pub rises-all : n ≤ i → true ≡ risingFrom before (drop i (take n ts))
     unfolding risingFrom
     rises-all h = rw (left-none ts n i h)
+
+-- the run of t from a place on reaches the place i
+pub record RunProgress (ts : List ℕ) (n t from i : ℕ) : Type 0 where
+  pub starts : from ≤ i
+  pub ends : i ≤ n
+  pub same : (j : ℕ) → from ≤ j → j < i → getD ts j 0 ≡ t
 
 pub same-more : (ts : List ℕ) (from i t : ℕ) → getD ts i 0 ≡ t → ((j : ℕ) → from ≤ j → j < i → getD ts j 0 ≡ t) → (j : ℕ) → from ≤ j → j < i + 1 →
     getD ts j 0 ≡ t

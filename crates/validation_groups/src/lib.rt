@@ -7,7 +7,7 @@ ghost use lib.ListN.{length, take, getD};
 ghost use Rattle.level.specs.Numbers.{instructionPlaces};
 ghost use Rattle.validation.specs.Kept.{numbered, group, usedOf, used};
 ghost use Rattle.validation_rank.specs.Picked.{pickedList};
-ghost use Rattle.validation_groups.specs.Working.{noNumbered, numberedAt, sequenceOf, pushed, joined, Timed, laterOf, latestAt, hasTimeAt, followsTime, aloneAt, risingFrom, earlierOf, nextTimeAmong, Rising, Run};
+ghost use Rattle.validation_groups.specs.Working.{noNumbered, numberedAt, sequenceOf, pushed, joined, Holds, Table, Entered, EnteredIn, Looked, laterOf, latestAt, hasTimeAt, followsTime, aloneAt, risingFrom, earlierOf, nextTimeAmong, Rising, Run};
 
 // Some of the instructions, in order: the first `count` places.
 pub struct Sequence {
@@ -100,7 +100,7 @@ fn latest_at(
     n: usize,
     t: u32,
 ) -> u32
-    requires { ⌜ (n ≤ instructionPlaces) × (n ≤ length (now times)) × (n ≤ length (now issues)) ⌝ }
+    requires { ⌜ Table (now times) (now issues) n ⌝ }
     ensures { λ r. ⌜ r ≡ latestAt (take n (now (times .entry))) (take n (now (issues .entry))) t ⌝ }
 {
     let mut best: u32 = 0;
@@ -160,8 +160,7 @@ pub fn latest_of(
     ordered: bool,
     before: u32,
 ) -> u32
-    requires { ⌜ (at < n) × (n ≤ instructionPlaces) × (n ≤ length (now times)) × (n ≤ length (now issues)) × (ordered ≡ risingFrom 0 (take n (now times))) ⌝ }
-    requires { ⌜ (0 < at → before ≡ latestAt (take n (now times)) (take n (now issues)) (getD (now times) (at - 1) 0)) ⌝ }
+    requires { ⌜ Looked (now times) (now issues) n at ordered before ⌝ }
     ensures { λ r. ⌜ r ≡ latestAt (take n (now (times .entry))) (take n (now (issues .entry))) (getD (now (times .entry)) at 0) ⌝ }
 {
     if stands_alone(times, n, at, ordered) {
@@ -184,7 +183,7 @@ fn used_at(
     n: usize,
     t: u32,
 ) -> validation_rank::Picked
-    requires { ⌜ (n ≤ instructionPlaces) × Timed (numbered 1 (take n instructions)) (take n (now times)) (take n (now issues)) ⌝ }
+    requires { ⌜ Entered instructions (now times) (now issues) n ⌝ }
     ensures { λ r. ⌜ pickedList r ≡ usedOf (group (numbered 1 (take n instructions)) t) ⌝ }
 {
     let latest = latest_at(times, issues, n, t);
@@ -280,8 +279,8 @@ fn used_ordered(
     n: usize,
     end: u32,
 ) -> Sequence
-    requires { ⌜ (n ≤ instructionPlaces) × Timed (numbered 1 (take n instructions)) (take n (now times)) (take n (now issues)) × Rising (now times) n ⌝ }
-    ensures { λ r. ⌜ (r ≡ sequenceOf (used end (numbered 1 (take n instructions)))) × (r .count ≤ instructionPlaces) ⌝ }
+    requires { ⌜ Entered instructions (now times) (now issues) n × Rising (now times) n ⌝ }
+    ensures { λ r. ⌜ Holds r (used end (numbered 1 (take n instructions))) ⌝ }
 {
     let mut out = empty();
     let mut i: usize = 0;
@@ -321,8 +320,8 @@ fn used_any(
     n: usize,
     end: u32,
 ) -> Sequence
-    requires { ⌜ (n ≤ instructionPlaces) × Timed (numbered 1 (take n instructions)) (take n (now times)) (take n (now issues)) ⌝ }
-    ensures { λ r. ⌜ (r ≡ sequenceOf (used end (numbered 1 (take n instructions)))) × (r .count ≤ instructionPlaces) ⌝ }
+    requires { ⌜ Entered instructions (now times) (now issues) n ⌝ }
+    ensures { λ r. ⌜ Holds r (used end (numbered 1 (take n instructions))) ⌝ }
 {
     let mut out = empty();
     let mut t: u32 = 0;
@@ -349,8 +348,8 @@ pub fn used_in(
     end: u32,
     ordered: bool,
 ) -> Sequence
-    requires { ⌜ (n ≤ instructionPlaces) × (n ≤ length (now times)) × Timed (numbered 1 (take n instructions)) (take n (now times)) (take n (now issues)) × (ordered ≡ risingFrom 0 (take n (now times))) ⌝ }
-    ensures { λ r. ⌜ (r ≡ sequenceOf (used end (numbered 1 (take n instructions)))) × (r .count ≤ instructionPlaces) ⌝ }
+    requires { ⌜ EnteredIn instructions (now times) (now issues) n ordered ⌝ }
+    ensures { λ r. ⌜ Holds r (used end (numbered 1 (take n instructions))) ⌝ }
 {
     if ordered {
         return used_ordered(instructions, times, issues, n, end);

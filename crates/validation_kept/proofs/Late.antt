@@ -4,11 +4,11 @@ use mathlib.Core.List.{List, [], _∷_, _++_, map}
 use mathlib.Core.Bool.{Bool, _||_}
 use Prim.Native.Nat.{ℕ, zero, suc, _+_, _-_, _≤_, _<_, min}
 use native.Mathlib.Numerals.{add-one}
-use native.Mathlib.Decide.{decLe}
+use native.Mathlib.Decide.{decLe, ℕ-discrete}
 use native.Mathlib.Omega.{arith}
 use lib.Dec.{leb}
 use lib.ListN.{length, take, drop, getD, set, length-append, List·getD-eq-default}
-use lib.Seq.{take-suc, take-suc-set, getD-take}
+use lib.Seq.{take-suc, take-suc-set, getD-take, getD-set-same, getD-set-other}
 use borrow.Author.Tests.{le-leb, lt-leb, eq-eqb, ne-eqb}
 use Rattle.level.specs.Choice.{pick}
 use Rattle.level.specs.Numbers.{instructionPlaces}
@@ -137,6 +137,25 @@ module _ (ks : List Numbered) (n : ℕ) (fits : n ≤ length ks) where
   settled-more end i fates next fate h e q =
       ap (λ (l : List ℕ). settled l (lateMarks end (drop (i + 1) (take n ks)))) (q ∙ ap (settleFate fates (getD ks i noNumbered .number)) e)
       ∙ sym (settled-next end i fates h)
+
+-- step 4's fates from the place i on, and the earliest acting time of those there
+pub record LateFrom (end : ℕ) (ks : List Numbered) (n i : ℕ) (fates : List ℕ) (earliest : ℕ) : Type 0 where
+  pub earliest-is : earliest ≡ earliestActing (drop i (take n ks))
+  pub fates-are : (j : ℕ) → i ≤ j → j < n → getD fates j 0 ≡ lateFate end (getD ks j noNumbered) (drop (j + 1) (take n ks))
+
+-- with the one at the place i, which acts at the time own
+pub late-more : {end n i own earliest fate least : ℕ} {ks : List Numbered} {fates : List ℕ} → n ≤ length ks → i < n → i < length fates →
+    own ≡ acting (getD ks i noNumbered) → own < never → fate ≡ lateFateBy end own earliest → least ≡ min earliest own →
+    LateFrom end ks n (i + 1) fates earliest → LateFrom end ks n i (set fates i fate) least
+late-more {end} {n} {i} {own} {earliest} {fate} {least} {ks} {fates} g h room e soon q m r = record {
+  earliest-is = m ∙ ((λ j. min (r .earliest-is j) (e j)) ∙ acting-more ks n g i h);
+  fates-are = λ j p l. elim (ℕ-discrete j i) [
+    | yes z ↦
+        rw z (getD-set-same fates i fate 0 room ∙ (q
+        ∙ late-is end own earliest (getD ks i noNumbered) (drop (i + 1) (take n ks)) e soon (r .earliest-is)))
+    | no z ↦ getD-set-other fates i j fate 0 z ∙ r .fates-are j (omega arith) l
+  ];
+}
 
 -- ---- the fates by number
 module _ (times issues later : List ℕ) where

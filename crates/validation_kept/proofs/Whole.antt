@@ -19,9 +19,9 @@ use Rattle.validation.specs.Kept.{numbered, Mark, superseded, Checked, check, u
 use Rattle.validation.proofs.Few.{numbered-length, Fated, fated-append, checked-fated, late-fated}
 use Rattle.validation_groups.specs.declared.Sequence.{Sequence}
 use Rattle.validation_kept.specs.declared.Validation.{Validation}
-use Rattle.validation_groups.specs.Working.{noNumbered, sequenceOf, Timed, supersededAmong}
+use Rattle.validation_groups.specs.Working.{noNumbered, Holds, Timed, supersededAmong}
 use Rattle.validation_kept.specs.Outcome.{outcomeOf, validationOf}
-use Rattle.validation_kept.specs.Late.{settleFate, settled, fatesTo}
+use Rattle.validation_kept.specs.Late.{settleFate, settled, actingWith, fatesTo}
 use Rattle.validation_sequence.specs.Working.{Checking, setFate, marked, noneChecked, Tracks}
 use Rattle.validation_groups.proofs.Laws.{held, superseded-at}
 use Rattle.validation_sequence.proofs.Stack.{stack-turned}
@@ -202,11 +202,9 @@ module _ (end : ℕ) (os : List Numbered) (s : Checking) (t : Tracks s (check no
 
 -- what the code puts together
 abbrev pub result : ℕ → List ℕ → List ℕ → Checking → ℕ → Validation
-result end times issues s n = record {
-  fates = filled instructionPlaces 0 (fatesTo times issues (settled (s .fates) (lateMarks end (take (s .height) (s .kept)))) n);
-  acts = filled instructionPlaces noNumbered (actors end (take (s .height) (s .kept)));
-  acting = length (actors end (take (s .height) (s .kept)));
-}
+result end times issues s n =
+    let ks = take (s .height) (s .kept) in
+    actingWith (filled instructionPlaces 0 (fatesTo times issues (settled (s .fates) (lateMarks end ks)) n)) (actors end ks)
 
 outcome-is : (end : ℕ) (is : List Instruction) → length is ≤ instructionPlaces → (times issues : List ℕ) → Timed (numbered 1 is) times issues →
     (s : Checking) → Tracks s (check noneChecked (used end (numbered 1 is))) → s .height ≤ length (s .kept) →
@@ -218,7 +216,7 @@ outcome-is end is few times issues timed s t fits =
     let f : fatesTo times issues later (length is) ≡ fatesOf os (validated end os .marks) os =
     fates-all is few times issues timed later (validated end os .marks) (marks-are end os s t fits) in
     let a : actors end (take (s .height) (s .kept)) ≡ validated end os .acts = acts-are end os s t fits in
-    λ j. record { fates = filled instructionPlaces 0 (f j); acts = filled instructionPlaces noNumbered (a j); acting = length (a j) }
+    λ j. actingWith (filled instructionPlaces 0 (f j)) (a j)
 
 -- of the numbered ones os, the first n of the instructions
 module _ (is : List Instruction) (count end n : ℕ) (all : length is ≡ instructionPlaces) (m : n ≡ min count instructionPlaces) where
@@ -231,14 +229,13 @@ module _ (is : List Instruction) (count end n : ℕ) (all : length is ≡ instru
   ]
 
   pub validation-is : (times issues : List ℕ) → Timed (numbered 1 (take n is)) times issues → (used-ones : Sequence) →
-      used-ones ≡ sequenceOf (used end (numbered 1 (take n is))) → used-ones .count ≤ instructionPlaces →
-      (s : Checking) → Tracks s (check noneChecked (take (used-ones .count) (used-ones .items))) → s .height ≤ length (s .kept) →
+      Holds used-ones (used end (numbered 1 (take n is))) → (s : Checking) → Tracks s (check noneChecked (take (used-ones .count) (used-ones .items))) → s .height ≤ length (s .kept) →
       result end times issues s n ≡ validationOf is count end
   unfolding validationOf
-  validation-is times issues timed u q c s t fits =
+  validation-is times issues timed u q s t fits =
       let k : n ≡ length (take n is) = omega (arith, length-take n is) in
       ap (result end times issues s) k
-      ∙ (outcome-is end (take n is) (omega arith) times issues timed s (rw (held q c) at t) fits
+      ∙ (outcome-is end (take n is) (omega arith) times issues timed s (rw (held q) at t) fits
       ∙ ap (λ (l : List Instruction). outcomeOf (numbered 1 l) end) entered)
 
 -- none entered

@@ -1,4 +1,4 @@
-// Which instructions are kept, steps 1 to 4: over up to forty instructions with their numbers. Steps 1 and 2 are in `choosing`.
+// Which instructions are kept, steps 1 to 4: over up to forty instructions with their numbers. Steps 1 and 2 are in `validation_groups`.
 ghost use mathlib.Core.Path.{_≡_};
 ghost use Prim.Native.Nat.{ℕ, _≤_};
 ghost use mathlib.Core.List.{List, []};
@@ -8,7 +8,7 @@ ghost use Rattle.level.specs.Choice.{pick};
 ghost use Rattle.level.specs.Numbers.{instructionPlaces};
 ghost use Rattle.validation.specs.declared.Numbered.{Numbered};
 ghost use Rattle.validation.specs.Kept.{numbered, acting, actors, lateMarks};
-ghost use Rattle.validation_groups.specs.Working.{Timed, risingFrom};
+ghost use Rattle.validation_groups.specs.Working.{Timed, Table, risingFrom};
 ghost use Rattle.validation_kept.specs.Outcome.{validationOf};
 ghost use Rattle.validation_kept.specs.Late.{lateFateBy, LateFates, settled, actingWith, fatesTo};
 ghost use Rattle.validation_sequence.specs.Working.{entryNumber, Noted, Soon};
@@ -148,7 +148,7 @@ fn fates_of(
     ordered: bool,
     later: [u8; level::INSTRUCTIONS],
 ) -> [u8; level::INSTRUCTIONS]
-    requires { ⌜ (n ≤ instructionPlaces) × (n ≤ length (now times)) × (n ≤ length (now issues)) × (ordered ≡ risingFrom 0 (take n (now times))) ⌝ }
+    requires { ⌜ Table (now times) (now issues) n × (ordered ≡ risingFrom 0 (take n (now times))) ⌝ }
     ensures { λ r. ⌜ r ≡ filled instructionPlaces 0 (fatesTo (take n (now (times .entry))) (take n (now (issues .entry))) later n) ⌝ }
 {
     let mut out = [0u8; level::INSTRUCTIONS];
@@ -172,8 +172,8 @@ fn time_all(
     times: &mut [u32; level::INSTRUCTIONS],
     issues: &mut [u32; level::INSTRUCTIONS],
 )
-    requires { ⌜ (n ≤ instructionPlaces) × (n ≤ length (now times)) × (n ≤ length (now issues)) ⌝ }
-    ensures { λ r. ⌜ (n ≤ length (now (times .exit))) × (n ≤ length (now (issues .exit))) × Timed (numbered 1 (take n instructions)) (take n (now (times .exit))) (take n (now (issues .exit))) ⌝ }
+    requires { ⌜ Table (now times) (now issues) n ⌝ }
+    ensures { λ r. ⌜ Table (now (times .exit)) (now (issues .exit)) n × Timed (numbered 1 (take n instructions)) (take n (now (times .exit))) (take n (now (issues .exit))) ⌝ }
 {
     let mut i: usize = 0;
     while i < n {
