@@ -17,8 +17,8 @@ use Rattle.records.specs.Codes.{same}
 use Rattle.validation.specs.declared.Numbered.{Numbered}
 use Rattle.validation.specs.Kept.{effectiveOf, effectOf, Mark, mark, repeats, syncWithinHour, fromSync, beforeSync, Checked, failed, checkOne, check, acting}
 use Rattle.validation_groups.specs.Working.{noNumbered}
-use Rattle.validation_sequence.specs.Working.{Checking, checking, entryNumber, Noted, Synced, never, Soon, StepThree, stackOf, stackFrom, syncPlace, setFate, marked, withFate, keeping, noneChecked, Tracks, Follows}
-use Rattle.validation_sequence.proofs.Stack.{stack-push, synced-push, hour-none, hour-some, before-sync, from-sync}
+use Rattle.validation_sequence.specs.Working.{Checking, checking, entryNumber, Noted, Synced, never, Soon, StepThree, stackOf, stackFrom, syncPlace, setFate, marked, withFate, keeping, noneChecked, Tracks, Follows, SetsOut}
+use Rattle.validation_sequence.proofs.Stack.{stack-push, synced-push, up-to-sync}
 
 -- ---- fates in an array
 module _ (fates : List ℕ) (number fate : ℕ) where
@@ -59,59 +59,36 @@ unfolding marked stackFrom
 voided-none fates ks a = refl
 
 -- ---- step 3
-failed-off : (m : Checked) (o : Numbered) → syncWithinHour (effectiveOf o) (m .kept) ≡ false →
-    failed m o ≡ record { kept = m .kept; marks = mark 5 o ∷ m .marks }
-unfolding failed
-failed-off m o e = rw e
-
-failed-on : (m : Checked) (o : Numbered) → syncWithinHour (effectiveOf o) (m .kept) ≡ true →
-    failed m o ≡ record { kept = beforeSync (m .kept); marks = mark 5 o ∷ (map (mark 4) (fromSync (m .kept)) ++ m .marks) }
-unfolding failed
-failed-on m o e = rw e
-
 module _ (s : Checking) (o : Numbered) where
   tracks-fate : (fate : ℕ) (m : Checked) → Tracks s m → Tracks (withFate s o fate) (record { kept = m .kept; marks = mark fate o ∷ m .marks })
   unfolding withFate marked
   tracks-fate fate m t = record { stack = t .stack; settled = ap (λ (l : List ℕ). setFate l (o .number) fate) (t .settled) }
 
-  pub failed-none : syncPlace (s .kept) (s .height) ≡ 0 → Follows s (withFate s o 5) (λ (m : Checked). failed m o)
-  failed-none p m t =
-      let e : syncWithinHour (effectiveOf o) (m .kept) ≡ false =
-      ap (syncWithinHour (effectiveOf o)) (sym (t .stack)) ∙ hour-none (s .kept) (effectiveOf o) (s .height) p in
-      rw (failed-off m o e) (tracks-fate 5 m t)
+  -- no kept SYNC is within the hour
+  pub failed-off : syncWithinHour (effectiveOf o) (stackOf (s .kept) (s .height)) ≡ false → Follows s (withFate s o 5) (λ (m : Checked). failed m o)
+  unfolding failed
+  failed-off w m t =
+      let q : failed m o ≡ record { kept = m .kept; marks = mark 5 o ∷ m .marks } = rw (rw (t .stack) at w) in
+      rw q (tracks-fate 5 m t)
 
-  pub failed-late : 0 < syncPlace (s .kept) (s .height) →
-      syncWithinHour (effectiveOf o) (getD (s .kept) (syncPlace (s .kept) (s .height) - 1) noNumbered ∷ []) ≡ false → Follows s (withFate s o 5)
-      (λ (m : Checked). failed m o)
-  failed-late p w m t =
-      let e : syncWithinHour (effectiveOf o) (m .kept) ≡ false =
-      ap (syncWithinHour (effectiveOf o)) (sym (t .stack)) ∙ (hour-some (s .kept) (effectiveOf o) (s .height) p ∙ w) in
-      rw (failed-off m o e) (tracks-fate 5 m t)
-
-  pub failed-void : 0 < syncPlace (s .kept) (s .height) →
-      syncWithinHour (effectiveOf o) (getD (s .kept) (syncPlace (s .kept) (s .height) - 1) noNumbered ∷ []) ≡ true →
+  -- the latest is, and a are kept before it
+  pub failed-void : (a : ℕ) → 0 < syncPlace (s .kept) (s .height) → a ≡ syncPlace (s .kept) (s .height) - 1 →
+      syncWithinHour (effectiveOf o) (stackOf (s .kept) (s .height)) ≡ true →
       Follows s
-      (record {
-        kept = s .kept;
-        height = syncPlace (s .kept) (s .height) - 1;
-        fates =
-            setFate (marked (s .fates) (map (mark 4) (stackFrom (s .kept) (syncPlace (s .kept) (s .height) - 1)
-            (s .height - (syncPlace (s .kept) (s .height) - 1))))) (o .number) 5;
-      })
+      (checking (s .kept) a (setFate (marked (s .fates) (map (mark 4) (stackFrom (s .kept) a (s .height - a)))) (o .number) 5))
       (λ (m : Checked). failed m o)
-  unfolding marked
-  failed-void p w m t =
-      let e : syncWithinHour (effectiveOf o) (m .kept) ≡ true =
-      ap (syncWithinHour (effectiveOf o)) (sym (t .stack)) ∙ (hour-some (s .kept) (effectiveOf o) (s .height) p ∙ w) in
-      let voids = stackFrom (s .kept) (syncPlace (s .kept) (s .height) - 1) (s .height - (syncPlace (s .kept) (s .height) - 1)) in
-      let f : fromSync (m .kept) ≡ voids = ap fromSync (sym (t .stack)) ∙ from-sync (s .kept) (s .height) p in
+  unfolding failed marked
+  failed-void a p d w m t =
+      let r = up-to-sync (s .kept) (s .height) in
+      let voids = stackFrom (s .kept) a (s .height - a) in
+      let f : fromSync (m .kept) ≡ voids = rw (t .stack, ← d) at (r .from p) in
       let g : marked (s .fates) (map (mark 4) voids) ≡ marked (replicate instructionPlaces 2) (map (mark 4) (fromSync (m .kept)) ++ m .marks) =
-      ap (λ (l : List ℕ). marked l (map (mark 4) voids)) (t .settled)
-      ∙ (sym (marked-append (replicate instructionPlaces 2) (map (mark 4) voids) (m .marks))
-      ∙ ap (λ (l : List Numbered). marked (replicate instructionPlaces 2) (map (mark 4) l ++ m .marks)) (sym f)) in
-      rw (failed-on m o e)
+      rw (f, t .settled) (sym (marked-append (replicate instructionPlaces 2) (map (mark 4) voids) (m .marks))) in
+      let q : failed m o ≡ record { kept = beforeSync (m .kept); marks = mark 5 o ∷ (map (mark 4) (fromSync (m .kept)) ++ m .marks) } =
+      rw (rw (t .stack) at w) in
+      rw q
       (record {
-        stack = sym (before-sync (s .kept) (s .height)) ∙ ap beforeSync (t .stack);
+        stack = sym (rw (t .stack, ← d) at (r .before));
         settled = ap (λ (l : List ℕ). setFate l (o .number) 5) g;
       })
 
@@ -124,16 +101,14 @@ module _ (s : Checking) (o : Numbered) where
       Follows s (withFate s o 3) (λ (m : Checked). checkOne m o)
   unfolding checkOne
   check-repeat n r m t =
-      let e : repeats o (m .kept) ≡ true = ap (repeats o) (sym (t .stack)) ∙ r in
-      let q : checkOne m o ≡ record { kept = m .kept; marks = mark 3 o ∷ m .marks } = rw (n, e) in
+      let q : checkOne m o ≡ record { kept = m .kept; marks = mark 3 o ∷ m .marks } = rw (n, rw (t .stack) at r) in
       rw q (tracks-fate 3 m t)
 
   pub check-keep : s .height < length (s .kept) → same (effectOf o) Fail ≡ false → repeats o (stackOf (s .kept) (s .height)) ≡ false →
       Follows s (keeping s o) (λ (m : Checked). checkOne m o)
   unfolding checkOne keeping
   check-keep h n r m t =
-      let e : repeats o (m .kept) ≡ false = ap (repeats o) (sym (t .stack)) ∙ r in
-      let q : checkOne m o ≡ record { kept = o ∷ m .kept; marks = m .marks } = rw (n, e) in
+      let q : checkOne m o ≡ record { kept = o ∷ m .kept; marks = m .marks } = rw (n, rw (t .stack) at r) in
       rw q (record { stack = stack-push (s .kept) (s .height) o h ∙ ap (λ (l : List Numbered). o ∷ l) (t .stack); settled = t .settled })
 
 check-last : (m : Checked) (xs : List Numbered) (x : Numbered) → check m (xs ++ (x ∷ [])) ≡ checkOne (check m xs) x
@@ -205,25 +180,24 @@ pub record Checks (n i count : ℕ) (first items : List Numbered) (places fates 
   pub stepped : StepThree items count fates numbers times (check noneChecked (take i first))
 
 -- none yet
-pub checks-none : (n : ℕ) (first : List Numbered) (places fates numbers times : List ℕ) → n ≤ instructionPlaces → length first ≡ instructionPlaces →
-    length places ≡ instructionPlaces → fates ≡ replicate instructionPlaces 2 →
-    length numbers ≡ instructionPlaces → length times ≡ instructionPlaces → Checks n 0 0 first first places fates numbers times
-checks-none n first places fates numbers times few a b e c d = record {
-  few = few;
+pub checks-none : {n : ℕ} {fates numbers times : List ℕ} (first : List Numbered) (places : List ℕ) → SetsOut n fates numbers times →
+    length first ≡ instructionPlaces → length places ≡ instructionPlaces → Checks n 0 0 first first places fates numbers times
+checks-none first places s a b = record {
+  few = s .few;
   on = omega arith;
   fewer = omega arith;
   first-long = a;
   items-long = a;
   places-long = b;
-  fates-long = ap length e;
-  numbers-long = c;
-  times-long = d;
+  fates-long = ap length (s .unsettled);
+  numbers-long = s .numbers-long;
+  times-long = s .times-long;
   ahead = λ j p. refl;
   synced = λ j l. absurd (omega arith);
   stepped =
       record {
         few = omega arith;
-        tracks = rw e (check-none first);
+        tracks = rw (s .unsettled) (check-none first);
         named = λ j l. absurd (omega arith);
         timed = λ j l. absurd (omega arith);
         soon = λ j l. absurd (omega arith);

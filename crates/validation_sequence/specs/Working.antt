@@ -3,13 +3,13 @@ use Prim.Native.Nat.{ℕ, zero, suc, _+_, _-_, _<_, _≤_}
 use mathlib.Core.Path.{_≡_}
 use mathlib.Core.List.{List, [], _∷_}
 use lib.Dec.{eqb}
-use lib.ListN.{set, getD, replicate}
+use lib.ListN.{length, set, getD, replicate}
 use Rattle.level.specs.Choice.{pick}
 use Rattle.level.specs.Numbers.{instructionPlaces}
 use Rattle.records.specs.declared.Effect.the-variants.{Sync}
 use Rattle.records.specs.Codes.{same}
 use Rattle.validation.specs.declared.Numbered.{Numbered}
-use Rattle.validation.specs.Kept.{effectOf, Mark, Checked, acting}
+use Rattle.validation.specs.Kept.{effectOf, Mark, Checked, failed, acting}
 use Rattle.validation_groups.specs.Working.{noNumbered}
 
 -- ---- step 3: the kept ones stand in an array, the latest last; fates by number in another, 2 where none is settled
@@ -73,6 +73,26 @@ pub record Tracks (s : Checking) (m : Checked) : Type 0 where
 
 abbrev pub Follows : Checking → Checking → (Checked → Checked) → Type 0
 Follows s r f = (m : Checked) → Tracks s m → Tracks r (f m)
+
+-- a place among the kept ones, of which there are at most forty, as there are fates
+pub record PlaceKept (place height : ℕ) (fates : List ℕ) : Type 0 where
+  pub low : place ≤ height
+  pub few : height ≤ instructionPlaces
+  pub long : length fates ≡ instructionPlaces
+
+-- after a FAIL: r of the kept ones stay, and the fates are those of the definition
+pub record FailedOne (numbers fates : List ℕ) (height place : ℕ) (sync o : Numbered) (next : List ℕ) (r : ℕ) : Type 0 where
+  pub low : r ≤ height
+  pub long : length next ≡ instructionPlaces
+  pub follows : (ks : List Numbered) → Noted entryNumber numbers ks height → place ≡ syncPlace ks height → sync ≡ getD ks (place - 1) noNumbered →
+      Follows (checking ks height fates) (checking ks r next) (λ (m : Checked). failed m o)
+
+-- step 3 sets out: no fate is settled, and there is room beside the kept ones
+pub record SetsOut (count : ℕ) (fates numbers times : List ℕ) : Type 0 where
+  pub few : count ≤ instructionPlaces
+  pub unsettled : fates ≡ replicate instructionPlaces 2
+  pub numbers-long : length numbers ≡ instructionPlaces
+  pub times-long : length times ≡ instructionPlaces
 
 -- later than any acting time: what two numbers of 32 bits cannot add up to
 abbrev pub never : ℕ

@@ -3,15 +3,15 @@ ghost use mathlib.Core.Path.{_≡_};
 ghost use Prim.Native.Nat.{_+_, _-_, _<_, _≤_};
 ghost use mathlib.Core.Bool.{true};
 ghost use mathlib.Core.List.{List, [], _∷_, map};
-ghost use lib.ListN.{length, take, getD, replicate};
+ghost use lib.ListN.{length, take, getD};
 ghost use Rattle.level.specs.Choice.{pick};
 ghost use Rattle.level.specs.Numbers.{instructionPlaces};
 ghost use Rattle.records.specs.declared.Effect.the-variants.{Sync};
 ghost use Rattle.records.specs.Codes.{same};
 ghost use Rattle.validation.specs.declared.Numbered.{Numbered};
-ghost use Rattle.validation.specs.Kept.{effectOf, effectiveOf, mark, repeats, syncWithinHour, Checked, failed, check, acting};
+ghost use Rattle.validation.specs.Kept.{effectOf, effectiveOf, mark, repeats, syncWithinHour, check, acting};
 ghost use Rattle.validation_groups.specs.Working.{noNumbered};
-ghost use Rattle.validation_sequence.specs.Working.{entryNumber, Noted, stackOf, stackFrom, syncPlace, Synced, setFate, marked, checking, noneChecked, Follows, never, StepThree};
+ghost use Rattle.validation_sequence.specs.Working.{entryNumber, Noted, stackOf, stackFrom, syncPlace, Synced, setFate, marked, noneChecked, PlaceKept, FailedOne, SetsOut, never, StepThree};
 
 // ---- step 3: in time order, against the last kept one
 
@@ -112,7 +112,7 @@ fn void_from(
     height: usize,
     fates: &mut [u8; level::INSTRUCTIONS],
 )
-    requires { ⌜ (from ≤ height) × (height ≤ instructionPlaces) × (length (now fates) ≡ instructionPlaces) ⌝ }
+    requires { ⌜ PlaceKept from height (now fates) ⌝ }
     ensures { λ r. ⌜ (length (now (fates .exit)) ≡ instructionPlaces) × ((ks : List Numbered) → Noted entryNumber (now (numbers .entry)) ks height → now (fates .exit) ≡ marked (now (fates .entry)) (map (mark 4) (stackFrom ks from (height - from)))) ⌝ }
 {
     let mut i = from;
@@ -132,8 +132,8 @@ fn fail_one(
     o: validation::Numbered,
     fates: &mut [u8; level::INSTRUCTIONS],
 ) -> usize
-    requires { ⌜ (place ≤ height) × (height ≤ instructionPlaces) × (length (now fates) ≡ instructionPlaces) ⌝ }
-    ensures { λ r. ⌜ (r ≤ height) × (length (now (fates .exit)) ≡ instructionPlaces) × ((ks : List Numbered) → Noted entryNumber (now (numbers .entry)) ks height → place ≡ syncPlace ks height → sync ≡ getD ks (place - 1) noNumbered → Follows (checking ks height (now (fates .entry))) (checking ks r (now (fates .exit))) (λ (m : Checked). failed m o)) ⌝ }
+    requires { ⌜ PlaceKept place height (now fates) ⌝ }
+    ensures { λ r. ⌜ FailedOne (now (numbers .entry)) (now (fates .entry)) height place sync o (now (fates .exit)) r ⌝ }
 {
     if place == 0 {
         put_fate(fates, o.number, 5);
@@ -156,7 +156,7 @@ pub fn check_all(
     numbers: &mut [u32; level::INSTRUCTIONS],
     times: &mut [u64; level::INSTRUCTIONS],
 ) -> validation_groups::Sequence
-    requires { ⌜ (used .count ≤ instructionPlaces) × (now fates ≡ replicate instructionPlaces 2) × (length (now numbers) ≡ instructionPlaces) × (length (now times) ≡ instructionPlaces) ⌝ }
+    requires { ⌜ SetsOut (used .count) (now fates) (now numbers) (now times) ⌝ }
     ensures { λ r. ⌜ StepThree (r .items) (r .count) (now (fates .exit)) (now (numbers .exit)) (now (times .exit)) (check noneChecked (take (used .count) (used .items))) ⌝ }
 {
     let n = used.count;
