@@ -2,26 +2,26 @@
 use mathlib.Core.Path.{_≡_, refl, sym, ap, _∙_}
 use mathlib.Core.List.{List, [], _∷_, _++_, map, append-assoc, append-nil}
 use mathlib.Core.Bool.{Bool, true, false, _&&_, _||_, not}
-use Prim.Native.Nat.{ℕ, zero, suc, _+_, _-_, _≤_, _<_, min, max}
+use Prim.Native.Nat.{ℕ, zero, suc, _+_, _≤_, _<_, min, max}
 use native.Mathlib.Numerals.{add-one}
 use native.Mathlib.Decide.{decLe}
 use native.Mathlib.Omega.{arith}
 use lib.Dec.{leb, ltb, eqb}
-use lib.ListN.{length, take, drop, getD, set, length-take, length-append}
+use lib.ListN.{length, take, drop, getD, set, length-take, length-append, List·getD-map}
 use lib.Seq.{getD-take, length-take-le, take-all}
-use borrow.Author.Tests.{lt-ltb, le-ltb, le-leb, lt-leb, eq-eqb, ne-eqb}
+use borrow.Author.Tests.{lt-ltb, le-ltb, eq-eqb, ne-eqb}
 use Rattle.level.specs.Choice.{pick}
 use Rattle.level.specs.Numbers.{instructionPlaces}
 use Rattle.level.specs.Lists.{some, those}
 use Rattle.level.proofs.Arrays.{filled-listed, filled-push}
-use Rattle.level.proofs.Lists.{map-length, left-cons}
+use Rattle.level.proofs.Lists.{by-bool, map-length, left-cons}
 use Rattle.records.specs.declared.Effect.{Effect}
 use Rattle.records.specs.declared.Effect.the-variants.{Sync, Desy}
 use Rattle.records.specs.Codes.{same}
 use Rattle.validation.specs.declared.Numbered.{Numbered}
 use Rattle.records.specs.declared.Instruction.{Instruction}
 use Rattle.validation.proofs.Few.{numbered-length}
-use Rattle.validation.specs.Kept.{numbered, effectiveOf, effectOf, superseded, group, highest, firstOne, orElse, present, usedOf, nextTime, usedFrom, used}
+use Rattle.validation.specs.Kept.{numbered, effectiveOf, effectOf, superseded, group, highest, firstOne, orElse, present, usedOf, nextTime, usedFrom}
 use Rattle.validation_rank.specs.Picked.{pickedList, bestFrom}
 use Rattle.validation_groups.specs.Working.{noNumbered, numberedAt, sequenceOf, pushed, joined, Holds, issueTimeOf, Timed, laterOf, latestAt, supersededAmong, earlierOf, nextTimeAmong}
 use Rattle.validation_groups.specs.declared.Sequence.{Sequence}
@@ -93,32 +93,6 @@ joined-count s (One o) = omega arith
 joined-count s Nothing = omega arith
 
 -- ---- the effective times and the issue times
-module _ (x j t best : ℕ) where
-  pub later-other : (x ≡ t → ⊥) → best ≡ laterOf x j t best
-  unfolding laterOf
-  later-other h = simp (ne-eqb _ _ h)
-
-  pub later-same : x ≡ t → max j best ≡ laterOf x j t best
-  unfolding laterOf
-  later-same h = rw (eq-eqb _ _ h)
-
-module _ (x t best : ℕ) where
-  pub earlier-past : x < t → best ≡ earlierOf x t best
-  unfolding earlierOf
-  earlier-past h = simp (lt-leb _ _ h)
-
-  pub earlier-from : t ≤ x → min x best ≡ earlierOf x t best
-  unfolding earlierOf
-  earlier-from h = rw (le-leb _ _ h)
-
-pub next-none : {ts : List ℕ} (end t : ℕ) → ts ≡ [] → nextTimeAmong end ts t ≡ end
-unfolding nextTimeAmong
-next-none end t e = rw e
-
-pub latest-none : {ts : List ℕ} (js : List ℕ) (t : ℕ) → ts ≡ [] → latestAt ts js t ≡ 0
-unfolding latestAt
-latest-none js t e = rw e
-
 module _ (ts : List ℕ) (n : ℕ) (fits : n ≤ length ts) where
   pub next-more : (end t i : ℕ) → i < n →
       earlierOf (getD ts i 0) t (nextTimeAmong end (drop (i + 1) (take n ts)) t) ≡ nextTimeAmong end (drop i (take n ts)) t
@@ -126,8 +100,8 @@ module _ (ts : List ℕ) (n : ℕ) (fits : n ≤ length ts) where
   next-more end t i h = rw (left-cons ts n i 0 h fits)
 
   pub latest-more : (js : List ℕ) → n ≤ length js → (t i : ℕ) → i < n →
-      laterOf (getD ts i 0) (getD js i 0) t (latestAt (drop (i + 1) (take n ts)) (drop (i + 1) (take n js)) t) ≡ latestAt (drop i (take n ts))
-      (drop i (take n js)) t
+      laterOf (getD ts i 0) (getD js i 0) t (latestAt (drop (i + 1) (take n ts)) (drop (i + 1) (take n js)) t)
+      ≡ latestAt (drop i (take n ts)) (drop i (take n js)) t
   unfolding latestAt
   latest-more js room t i h = rw (left-cons ts n i 0 h fits, left-cons js n i 0 h room)
 
@@ -138,8 +112,7 @@ later-either true issue j best = elim (decLe (suc issue) j) [
   | yes h ↦ rw (lt-ltb issue j h, lt-ltb issue (max j best) (omega arith))
   | no h ↦ rw (le-ltb issue j (omega arith)) (elim (decLe (suc issue) best) [
     | yes k ↦ rw (lt-ltb issue best k, lt-ltb issue (max j best) (omega arith))
-    | no k ↦ rw
-        (le-ltb issue best (omega arith), le-ltb issue (max j best) (omega arith))
+    | no k ↦ rw (le-ltb issue best (omega arith), le-ltb issue (max j best) (omega arith))
   ])
 ]
 
@@ -164,11 +137,6 @@ module _ {os : List Numbered} {ts js : List ℕ} (timed : Timed os ts js) where
   pub next-is : (end t : ℕ) → nextTimeAmong end ts t ≡ nextTime end os t
   next-is end t = rw (timed .effective) (next-times end os t)
 
-map-at : (f : Numbered → ℕ) (xs : List Numbered) (i : ℕ) → getD (map f xs) i (f noNumbered) ≡ f (getD xs i noNumbered)
-map-at f [] i = refl
-map-at f (x ∷ xs) zero = refl
-map-at f (x ∷ xs) (suc i) = map-at f xs i
-
 -- as many as there are
 pub time-fits : (f : Numbered → ℕ) (os : List Numbered) (ts : List ℕ) (n : ℕ) → take n ts ≡ map f (take n os) → n ≤ length os → n ≤ length ts
 time-fits f os ts n e h = omega (arith, length-take n ts, ap length e, map-length f (take n os), length-take-le n os h)
@@ -177,14 +145,14 @@ pub time-at : (f : Numbered → ℕ) (os : List Numbered) (ts : List ℕ) (n i :
     getD ts i (f noNumbered) ≡ f (getD os i noNumbered)
 time-at f os ts n i e h =
     sym (getD-take n ts i (f noNumbered) h) ∙ (ap (λ (l : List ℕ). getD l i (f noNumbered)) e
-    ∙ (map-at f (take n os) i ∙ ap f (getD-take n os i noNumbered h)))
+    ∙ (List·getD-map f (take n os) i noNumbered ∙ ap f (getD-take n os i noNumbered h)))
 
 pub superseded-at : {os : List Numbered} {ts js : List ℕ} → Timed os ts js → (i : ℕ) →
     supersededAmong ts js (getD ts i 0) (getD js i 0) ≡ superseded os (getD os i noNumbered)
 superseded-at {os} {ts} {js} timed i =
     superseded-is timed (getD os i noNumbered) (getD ts i 0) (getD js i 0)
-    (ap (λ (l : List ℕ). getD l i 0) (timed .effective) ∙ map-at effectiveOf os i)
-    (ap (λ (l : List ℕ). getD l i 0) (timed .issued) ∙ map-at issueTimeOf os i)
+    (ap (λ (l : List ℕ). getD l i 0) (timed .effective) ∙ List·getD-map effectiveOf os i noNumbered)
+    (ap (λ (l : List ℕ). getD l i 0) (timed .issued) ∙ List·getD-map issueTimeOf os i noNumbered)
 
 -- left at the effective time t
 unfoldable pub inGroup : List Numbered → ℕ → Numbered → Bool
@@ -197,11 +165,7 @@ module _ (os : List Numbered) (t : ℕ) (o : Numbered) where
 
   pub group-gone : superseded os o ≡ true → inGroup os t o ≡ false
   unfolding inGroup
-  group-gone e = rw e (go (eqb (effectiveOf o) t))
-    where
-      go : (b : Bool) → (b && false) ≡ false
-      go true = refl
-      go false = refl
+  group-gone e = rw e (by-bool (eqb (effectiveOf o) t) (λ q. rw q) (λ q. rw q))
 
   pub group-left : effectiveOf o ≡ t → superseded os o ≡ false → inGroup os t o ≡ true
   unfolding inGroup
@@ -227,17 +191,17 @@ unfolding present those
 present-more code (One b) o rest = refl
 present-more code Nothing o rest = go (same (effectOf o) code)
   where
-    go : (b : Bool) →
-        orElse (firstOne (pick b (o ∷ []) [])) (firstOne (those (λ (x : Numbered). same (effectOf x) code) rest))
-        ≡ firstOne (pick b (o ∷ those (λ (x : Numbered). same (effectOf x) code) rest) (those (λ (x : Numbered). same (effectOf x) code) rest))
+    others : List Numbered
+    others = those (λ (x : Numbered). same (effectOf x) code) rest
+
+    go : (b : Bool) → orElse (firstOne (pick b (o ∷ []) [])) (firstOne others) ≡ firstOne (pick b (o ∷ others) others)
     go true = refl
     go false = refl
 
 -- with o looked at
 pub walked-more : {best sync desy better s d : Picked} {rest whole : List Numbered} (o : Numbered) →
-    pickedList better ≡ bestFrom (pickedList best) (o ∷ []) →
-    pickedList s ≡ orElse (pickedList sync) (present Sync (o ∷ [])) → pickedList d ≡ orElse (pickedList desy) (present Desy (o ∷ [])) → Walked best sync
-    desy (o ∷ rest) whole → Walked better s d rest whole
+    pickedList better ≡ bestFrom (pickedList best) (o ∷ []) → pickedList s ≡ orElse (pickedList sync) (present Sync (o ∷ [])) →
+    pickedList d ≡ orElse (pickedList desy) (present Desy (o ∷ [])) → Walked best sync desy (o ∷ rest) whole → Walked better s d rest whole
 walked-more {best} {sync} {desy} {better} {s} {d} {rest} o p q r w = record {
   highest-is = ap (λ (l : List Numbered). bestFrom l rest) p ∙ (best-more best o rest ∙ w .highest-is);
   sync-is = ap (λ (l : List Numbered). orElse l (present Sync rest)) q ∙ (present-more Sync sync o rest ∙ w .sync-is);
@@ -255,19 +219,10 @@ present-all code (One b) = refl
 present-all code Nothing = refl
 
 -- all of it
-module _ {best sync desy : Picked} {whole : List Numbered} (w : Walked best sync desy [] whole) where
-  pub walked-best : pickedList best ≡ bestFrom [] whole
-  walked-best = best-all best ∙ w .highest-is
-
-  pub walked-sync : pickedList sync ≡ present Sync whole
-  walked-sync = present-all Sync sync ∙ w .sync-is
-
-  pub walked-desy : pickedList desy ≡ present Desy whole
-  walked-desy = present-all Desy desy ∙ w .desy-is
-
-pub those-none : {A : Type 0} {xs : List A} (f : A → Bool) → xs ≡ [] → those f xs ≡ []
-unfolding those
-those-none f e = rw e
+pub walked-all : {best sync desy : Picked} {whole : List Numbered} → Walked best sync desy [] whole →
+    (pickedList best ≡ bestFrom [] whole) × (pickedList sync ≡ present Sync whole) × (pickedList desy ≡ present Desy whole)
+walked-all {best} {sync} {desy} w =
+    (best-all best ∙ w .highest-is, present-all Sync sync ∙ w .sync-is, present-all Desy desy ∙ w .desy-is)
 
 -- ---- those used
 pub used-stop : (end : ℕ) (os : List Numbered) (m t : ℕ) → end ≤ nextTime end os t → usedFrom end os m t ≡ []
@@ -289,18 +244,8 @@ begun-group end os m k t next f d q h room g b =
     let more : usedFrom end os m t ≡ pickedList f ++ usedFrom end os k (next + 1) = rw (e, g, q, add-one) (used-step end os k t (omega arith)) in
     begun-picked f room (rw more at b)
 
-pub used-zero : (end : ℕ) (os : List Numbered) (t : ℕ) → usedFrom end os 0 t ≡ []
-unfolding usedFrom
-used-zero end os t = refl
-
-pub used-begins : (end : ℕ) (os : List Numbered) (n : ℕ) → length os ≡ n → usedFrom end os (n - 0) 0 ≡ used end os
-unfolding used
-used-begins end os n h =
-    let e : n - 0 ≡ length os = omega arith in
-    ap (λ (k : ℕ). usedFrom end os k 0) e
-
 -- ---- the instructions as entered
-number-from : (k : ℕ) (is : List Instruction) (i : ℕ) → i < length is →
+pub number-from : (k : ℕ) (is : List Instruction) (i : ℕ) → i < length is →
     getD (numbered k is) i noNumbered ≡ record { number = k + i; instruction = getD is i (noNumbered .instruction) }
 unfolding numbered
 number-from k [] i h = absurd (omega arith)

@@ -264,14 +264,6 @@ follows-is ts at t e =
     (ltb-true 0 at (a .0), eqb-true (getD ts (at - 1) 0) t (a .1))
 
 module _ (ts : List ℕ) (n at : ℕ) where
-  pub alone-no-next : hasTimeAt ts n (at + 1) (getD ts at 0) ≡ true → false ≡ aloneAt ts n at
-  unfolding aloneAt
-  alone-no-next e = rw e
-
-  pub alone-before : hasTimeAt ts n (at + 1) (getD ts at 0) ≡ false → not (followsTime ts at (getD ts at 0)) ≡ aloneAt ts n at
-  unfolding aloneAt
-  alone-before e = rw e
-
   -- no other of the first n times is that at this place
   alone-only : Rising ts n → at < n → aloneAt ts n at ≡ true → (j : ℕ) → j < n → (j ≡ at → ⊥) → getD ts j 0 ≡ getD ts at 0 → ⊥
   unfolding aloneAt hasTimeAt followsTime

@@ -47,15 +47,13 @@ module _ (is : List Instruction) (i : ℕ) (h : i < length is) where
   one-more = rw (add-one, take-suc is i (noNumbered .instruction) h) (number-last 1 (take i is) (getD is i (noNumbered .instruction)))
 
   time-more : (f : Numbered → ℕ) (ts : List ℕ) (v : ℕ) → i < length ts →
-      v ≡ f (record { number = 1 + length (take i is); instruction = getD is i (noNumbered .instruction) }) → take i ts ≡ map f
-      (numbered 1 (take i is)) →
-      take (i + 1) (set ts i v) ≡ map f (numbered 1 (take (i + 1) is))
+      v ≡ f (record { number = 1 + length (take i is); instruction = getD is i (noNumbered .instruction) }) →
+      take i ts ≡ map f (numbered 1 (take i is)) → take (i + 1) (set ts i v) ≡ map f (numbered 1 (take (i + 1) is))
   time-more f ts v k e q = rw (one-more, map-last f (numbered 1 (take i is)), add-one, take-suc-set ts i v k, q, e)
 
   pub timed-more : (times issues : List ℕ) → i < length times → i < length issues → Timed (numbered 1 (take i is)) (take i times) (take i issues) →
-      let x : Instruction =
-      getD is i (noNumbered .instruction) in Timed (numbered 1 (take (i + 1) is)) (take (i + 1) (set times i (x .effective)))
-      (take (i + 1) (set issues i (x .issue)))
+      let x : Instruction = getD is i (noNumbered .instruction) in
+      Timed (numbered 1 (take (i + 1) is)) (take (i + 1) (set times i (x .effective))) (take (i + 1) (set issues i (x .issue)))
   timed-more times issues p q t = record {
     effective = time-more effectiveOf times _ p refl (t .effective);
     issued = time-more issueTimeOf issues _ q refl (t .issued);
@@ -102,10 +100,6 @@ pub late-is : (end own earliest : ℕ) (o : Numbered) (os : List Numbered) → o
     lateFateBy end own earliest ≡ lateFate end o os
 unfolding lateFateBy lateFate
 late-is end own earliest o os e h k = rw (k, e, overtaken-is o os (rw e at h))
-
-pub acting-none : {os : List Numbered} → os ≡ [] → earliestActing os ≡ never
-unfolding earliestActing
-acting-none e = rw e
 
 module _ (ks : List Numbered) (n : ℕ) (fits : n ≤ length ks) where
   pub acting-more : (i : ℕ) → i < n →
@@ -184,11 +178,3 @@ fates-more ts js n i later h k =
     let b : getD js i 0 ≡ getD (take n js) i 0 = sym (getD-take n js i 0 h) in
     p ∙ ap (filled instructionPlaces 0) ((λ q. xs ++ (pick (supersededAmong (take n ts) (take n js) (a q) (b q)) 1 (getD later i 0) ∷ []))
     ∙ sym (fates-step (take n ts) (take n js) later i))
-
-pub actors-none : {os : List Numbered} (end : ℕ) → os ≡ [] → actors end os ≡ []
-unfolding actors
-actors-none end e = rw e
-
-pub settled-none : {os : List Numbered} (end : ℕ) (fates : List ℕ) → os ≡ [] → settled fates (lateMarks end os) ≡ fates
-unfolding settled lateMarks
-settled-none end fates e = rw e

@@ -1,9 +1,9 @@
 use Prim.Native.Nat.{_≤_, _+_, _-_}
-use mathlib.Core.Path.{_≡_, sym, _∙_}
+use mathlib.Core.Path.{_≡_, _∙_}
 use lib.ListN.{take, drop}
 use Rattle.validation_groups.specs.Working.{latestAt}
 use Rattle.level.proofs.Lists.{left-none}
-use Rattle.validation_groups.proofs.Laws.{latest-none, latest-more}
+use Rattle.validation_groups.proofs.Laws.{latest-more}
 use native.Mathlib.Omega.{arith}
 use borrow.Author.Needs.{needs}
 use Rattle.validation_groups.proofs.latest_at.Statement.{statement}
@@ -16,12 +16,14 @@ abbrev μ-loop : tie.MeasureT-loop
 μ-loop times issues n t best₀ i₀ best i = i
 
 loop-holds : tie.Need-loop-holds Inv-loop μ-loop
-loop-holds c = (omega arith, sym (latest-none _ _ (left-none (c .args .times .now) (c .args .n) (c .args .n) (omega arith))))
+unfolding latestAt
+loop-holds c = (omega arith, rw (left-none (c .args .times .now) (c .args .n) (c .args .n) (omega arith)))
 
 loop-again : tie.Need-loop-again Inv-loop μ-loop
 loop-again c =
-    let s = c .before .before .before .before .before in
-    let l = c .before .before .before .before .loop in
+    let k = c .before .before .before .before in
+    let s = k .before in
+    let l = k .loop in
     let e : l .i - 1 + 1 ≡ l .i = omega arith in (
       omega arith,
       c .later .ensures ∙ (rw (l .inv .1)

@@ -1,9 +1,9 @@
 use Prim.Native.Nat.{_≤_, _+_, _-_}
-use mathlib.Core.Path.{_≡_, sym, _∙_}
+use mathlib.Core.Path.{_≡_, _∙_}
 use lib.ListN.{take, drop}
 use Rattle.validation_groups.specs.Working.{nextTimeAmong}
 use Rattle.level.proofs.Lists.{left-none}
-use Rattle.validation_groups.proofs.Laws.{next-none, next-more}
+use Rattle.validation_groups.proofs.Laws.{next-more}
 use native.Mathlib.Omega.{arith}
 use borrow.Author.Needs.{needs}
 use Rattle.validation_groups.proofs.next_time.Statement.{statement}
@@ -16,7 +16,8 @@ abbrev μ-loop : tie.MeasureT-loop
 μ-loop times n t end best₀ i₀ best i = i
 
 loop-holds : tie.Need-loop-holds Inv-loop μ-loop
-loop-holds c = (omega arith, sym (next-none _ _ (left-none (c .args .times .now) (c .args .n) (c .args .n) (omega arith))))
+unfolding nextTimeAmong
+loop-holds c = (omega arith, rw (left-none (c .args .times .now) (c .args .n) (c .args .n) (omega arith)))
 
 loop-again : tie.Need-loop-again Inv-loop μ-loop
 loop-again c =

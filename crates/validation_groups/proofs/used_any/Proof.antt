@@ -1,5 +1,5 @@
 use Prim.Native.Nat.{ℕ, _≤_, _+_, _-_}
-use mathlib.Core.Path.{_≡_, ap, _∙_}
+use mathlib.Core.Path.{_≡_, _∙_, subst}
 use mathlib.Core.List.{List, []}
 use lib.ListN.{length, take}
 use native.Mathlib.Omega.{arith}
@@ -7,7 +7,8 @@ use borrow.Author.Needs.{needs}
 use Rattle.validation.specs.declared.Numbered.{Numbered}
 use Rattle.validation.specs.Kept.{numbered, effectiveOf, used, usedFrom, nextTime}
 use Rattle.validation_groups.specs.declared.Sequence.{Sequence}
-use Rattle.validation_groups.proofs.Laws.{Begun, begun-none, begun-group, begun-all, joined-count, next-is, time-fits, used-stop, used-zero, used-begins, as-many, timed-all}
+use Rattle.validation_groups.specs.Working.{sequenceOf}
+use Rattle.validation_groups.proofs.Laws.{Begun, begun-none, begun-group, begun-all, joined-count, next-is, time-fits, used-stop, as-many, timed-all}
 use Rattle.validation_groups.proofs.used_any.Statement.{statement}
 use Rattle.validation_groups.proofs.used_any.Tie as tie
 
@@ -37,12 +38,15 @@ many : (s : tie.Start Inv-loop μ-loop) → length (numbers s) ≡ s .args .n
 many s = as-many (s .args .instructions) (s .args .n) (room s)
 
 loop-holds : tie.Need-loop-holds Inv-loop μ-loop
+unfolding used
 loop-holds c =
     let s = c .before in
+    let os = numbers s in
+    let z : length os ≡ s .args .n - 0 = omega (arith, many s) in
     rw (c .empty .ensures) (record {
       within = omega arith;
       few = omega arith;
-      begun = rw (used-begins (s .args .end) (numbers s) (s .args .n) (many s)) (begun-none (used (s .args .end) (numbers s)));
+      begun = subst (λ (k : ℕ). Begun (sequenceOf []) (usedFrom (s .args .end) os k 0) (used (s .args .end) os)) z (begun-none (used (s .args .end) os));
     })
 
 next-time-requires : tie.Need-next-time-requires Inv-loop μ-loop
@@ -82,13 +86,11 @@ loop-again c =
     })
 
 returns-2 : tie.Need-returns-2 Inv-loop μ-loop
+unfolding usedFrom
 returns-2 c =
     let k = c .before in
-    let a = start k .args in
-    let z : a .n - k .loop .i ≡ 0 = omega arith in
-    let none : usedFrom (a .end) (numbers (start k)) (a .n - k .loop .i) (k .loop .t) ≡ [] =
-    ap (λ (m : ℕ). usedFrom (a .end) (numbers (start k)) m (k .loop .t)) z ∙ used-zero (a .end) (numbers (start k)) (k .loop .t) in
-    record { exactly = begun-all (rw none at (k .loop .inv .begun)); few = omega arith }
+    let z : start k .args .n - k .loop .i ≡ 0 = omega arith in
+    record { exactly = begun-all (rw z at (k .loop .inv .begun)); few = omega arith }
 
 pub used-any-spec : {M : Type 1} → statement M
 used-any-spec =

@@ -13,7 +13,7 @@ use Rattle.validation.specs.Kept.{numbered, effectiveOf, superseded, group, orE
 use Rattle.validation_rank.specs.declared.Picked.{Picked}
 use Rattle.validation_rank.specs.Picked.{pickedList}
 use Rattle.validation_groups.specs.Working.{noNumbered, issueTimeOf, Timed, supersededAmong}
-use Rattle.validation_groups.proofs.Laws.{Walked, inGroup, those-none, those-skip, those-keep, walked-none, walked-more, walked-best, walked-sync, walked-desy, time-fits, time-at, superseded-is, group-other, group-gone, group-left, as-many, all-numbered, number-here, timed-all}
+use Rattle.validation_groups.proofs.Laws.{Walked, inGroup, those-skip, those-keep, walked-none, walked-more, walked-all, time-fits, time-at, superseded-is, group-other, group-gone, group-left, as-many, all-numbered, number-here, timed-all}
 use Rattle.validation_groups.proofs.used_at.Statement.{statement}
 use Rattle.validation_groups.proofs.used_at.Tie as tie
 
@@ -77,15 +77,16 @@ pass : (x : tie.In-loop Inv-loop μ-loop) → inIt x (one x) ≡ false →
     GroupProgress (numbers s) (s .args .n) (s .args .t) (l .i + 1) (l .best) (l .sync) (l .desy)
 pass x e =
     let s = start x in
-    (omega arith, rw (those-skip (numbers s) (s .args .n) (inIt x) (x .before .loop .i) noNumbered (omega arith) (fits s) e) at (x .before .loop .inv .1))
+    let l = x .before .loop in
+    (omega arith, rw (those-skip (numbers s) (s .args .n) (inIt x) (l .i) noNumbered (omega arith) (fits s) e) at (l .inv .1))
 
 -- of one at the time t
 left-is : (x : tie.In-loop Inv-loop μ-loop) →
-    let s = start x in
+    let a = start x .args in
     let i = x .before .loop .i in
-    getD (s .args .times .now) i 0 ≡ s .args .t →
-    supersededAmong (take (s .args .n) (s .args .times .now)) (take (s .args .n) (s .args .issues .now)) (s .args .t) (getD (s .args .issues .now) i 0)
-    ≡ superseded (take (s .args .n) (numbers s)) (one x)
+    getD (a .times .now) i 0 ≡ a .t →
+    supersededAmong (take (a .n) (a .times .now)) (take (a .n) (a .issues .now)) (a .t) (getD (a .issues .now) i 0)
+    ≡ superseded (take (a .n) (numbers (start x))) (one x)
 left-is x q =
     let s = start x in
     superseded-is (timed s) (one x) (s .args .t) _ (sym q ∙ time-is x)
@@ -130,14 +131,14 @@ loop-again-3 c =
     )
 
 returns : tie.Need-returns Inv-loop μ-loop
-unfolding group inGroup
+unfolding group inGroup those
 returns c =
     let k = c .before .before in
     let s = k .before .before in
     let n = s .args .n in
     let all = take n (numbers s) in
-    let w = rw (those-none (inGroup all (s .args .t)) (left-none (numbers s) n (k .loop .i) (omega arith))) at (k .loop .inv .1) in
-    c .used-of .ensures (group all (s .args .t)) (walked-best w) (walked-sync w) (walked-desy w)
+    let w = walked-all (rw (left-none (numbers s) n (k .loop .i) (omega arith)) at (k .loop .inv .1)) in
+    c .used-of .ensures (group all (s .args .t)) (w .0) (w .1) (w .2)
     ∙ ap (λ (os : List Numbered). usedOf (group os (s .args .t))) (all-numbered (s .args .t1) n (room s))
 
 pub used-at-spec : {M : Type 1} → statement M

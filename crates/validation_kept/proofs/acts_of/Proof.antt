@@ -11,7 +11,7 @@ use Rattle.validation_kept.specs.declared.Validation.{Validation}
 use Rattle.validation_kept.specs.Late.{LateFates}
 use Rattle.level.proofs.Lists.{map-length, left-none}
 use Rattle.validation_groups.proofs.Laws.{Begun, begun-none, begun-store, begun-all}
-use Rattle.validation_kept.proofs.Late.{actors-skip, actors-keep, actors-none}
+use Rattle.validation_kept.proofs.Late.{actors-skip, actors-keep}
 use native.Mathlib.Omega.{arith}
 use borrow.Author.Needs.{needs}
 use Rattle.validation_kept.proofs.acts_of.Statement.{statement}
@@ -82,10 +82,11 @@ loop-again-2 c =
     }
 
 returns : tie.Need-returns Inv-loop μ-loop
+unfolding actors
 returns c =
     let k = c .before in
     let l = k .loop in
-    λ end f. let e = begun-all (rw (actors-none end (left-none (kept k .items) (kept k .count) (l .i) (omega arith))) at (l .inv .begun end f)) in
+    λ end f. let e = begun-all (rw (left-none (kept k .items) (kept k .count) (l .i) (omega arith)) at (l .inv .begun end f)) in
     λ j. record { fates = l .inv .stay j; acts = e j .items; acting = e j .count }
 
 pub acts-of-spec : {M : Type 1} → statement M

@@ -1,5 +1,5 @@
 use Prim.Native.Nat.{ℕ, _≤_, _-_, _+_}
-use mathlib.Core.Path.{_≡_, refl, sym}
+use mathlib.Core.Path.{_≡_, refl}
 use mathlib.Core.List.{List}
 use lib.ListN.{length, length-set}
 use native.Mathlib.Omega.{arith}
@@ -9,7 +9,8 @@ use Rattle.level.proofs.Lists.{left-none}
 use Rattle.validation.specs.declared.Numbered.{Numbered}
 use Rattle.validation.specs.Kept.{acting}
 use Rattle.validation_sequence.specs.Working.{Noted}
-use Rattle.validation_kept.proofs.Late.{acting-none, LateFrom, late-more}
+use Rattle.validation_kept.specs.Late.{earliestActing}
+use Rattle.validation_kept.proofs.Late.{LateFrom, late-more}
 use Rattle.validation_kept.proofs.late_fates.Statement.{statement}
 use Rattle.validation_kept.proofs.late_fates.Tie as tie
 
@@ -26,13 +27,13 @@ abbrev μ-loop : tie.MeasureT-loop
 μ-loop times n end out₀ earliest₀ i₀ out earliest i = i
 
 loop-holds : tie.Need-loop-holds Inv-loop μ-loop
+unfolding earliestActing
 loop-holds c =
     let n = c .args .n in
     record {
       within = omega arith;
       long = refl;
-      from = λ ks g t.
-          record { earliest-is = sym (acting-none (left-none ks n n (omega arith))); fates-are = λ j p q. absurd (omega arith) };
+      from = λ ks g t. record { earliest-is = rw (left-none ks n n (omega arith)); fates-are = λ j p q. absurd (omega arith) };
     }
 
 loop-again : tie.Need-loop-again Inv-loop μ-loop
@@ -47,8 +48,8 @@ loop-again c =
       within = omega arith;
       long = simp length-set (omega arith);
       from = λ ks g t.
-          late-more {fates = l .out} g (omega arith) (omega arith) (t i (omega arith)) (s .pre .1 i (omega arith)) (f .ensures) (c .smaller-long .ensures)
-          (rw e (l .inv .from ks g t));
+          late-more {fates = l .out} g (omega arith) (omega arith) (t i (omega arith)) (s .pre .1 i (omega arith)) (f .ensures)
+          (c .smaller-long .ensures) (rw e (l .inv .from ks g t));
     }
 
 returns : tie.Need-returns Inv-loop μ-loop

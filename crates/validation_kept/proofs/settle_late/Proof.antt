@@ -1,5 +1,5 @@
 use Prim.Native.Nat.{ℕ, _≤_, _-_, _+_}
-use mathlib.Core.Path.{_≡_, refl, sym, ap, _∙_}
+use mathlib.Core.Path.{_≡_, refl, ap, _∙_}
 use mathlib.Core.List.{List}
 use lib.ListN.{length, take, drop, getD, length-set}
 use Rattle.level.specs.Numbers.{instructionPlaces}
@@ -8,7 +8,7 @@ use Rattle.validation.specs.Kept.{lateMarks}
 use Rattle.validation_kept.specs.Late.{settleFate, settled, LateFates}
 use Rattle.validation_sequence.specs.Working.{entryNumber, Noted}
 use Rattle.level.proofs.Lists.{left-none}
-use Rattle.validation_kept.proofs.Late.{settle-zero, settle-large, settle-done, settle-some, settled-more, settled-none}
+use Rattle.validation_kept.proofs.Late.{settle-zero, settle-large, settle-done, settle-some, settled-more}
 use native.Mathlib.Omega.{arith}
 use borrow.Author.Needs.{needs}
 use Rattle.validation_kept.proofs.settle_late.Statement.{statement}
@@ -77,10 +77,10 @@ loop-again-4 c =
     more x _ (simp length-set (omega arith)) (rw place (settle-some _ _ _ (omega arith) (rw place at (c .if3 .left))))
 
 returns : tie.Need-returns Inv-loop μ-loop
+unfolding settled lateMarks
 returns c =
-    let n = c .before .before .args .n in
     let l = c .before .loop in
-    λ end ks g k f. sym (settled-none end (l .out) (left-none ks n (l .i) (omega arith))) ∙ l .inv .settles end ks g k f
+    λ end ks g k f. rw (left-none ks (c .before .before .args .n) (l .i) (omega arith)) at (l .inv .settles end ks g k f)
 
 pub settle-late-spec : {M : Type 1} → statement M
 settle-late-spec =

@@ -21,8 +21,11 @@ returns c =
     c .none-entered .ensures ∙ nothing-entered (a .instructions) (a .count) (a .end) (c .before .if1 .taken)
 
 -- back from the end: step 3, those used, the order, the times, the count
-abbrev checked : tie.After-acts-of → tie.After-check-all
-checked c = c .before .before .before .before .before .before .before .before
+abbrev checked : tie.After-late-fates → tie.After-check-all
+checked c = c .before .before
+
+abbrev fated : tie.After-issues3 → tie.After-late-fates
+fated c = c .before .before .before .before
 
 abbrev usedThere : tie.After-check-all → tie.After-used-in
 usedThere c = c .before .before .before .before
@@ -35,12 +38,13 @@ counted c = c .before .before .before
 
 fates-of-requires : tie.Need-fates-of-requires
 fates-of-requires c κs =
-    let u = usedThere (c .before .before .before .before .before .before) in
+    let u = usedThere (checked (fated c)) in
     (timed u .time-all .ensures .0, u .before .before .before .in-order .ensures)
 
 returns-2 : tie.Need-returns-2
 returns-2 c =
-    let k = checked c in
+    let e = fated (c .before .before) in
+    let k = checked e in
     let u = usedThere k in
     let q = timed u in
     let n = counted q .smaller-count in
@@ -52,7 +56,7 @@ returns-2 c =
     let step = k .check-all .ensures in
     let g : length (kept .items) ≡ instructionPlaces = simp map-length at (k .check-all .ok .1 .1 .0 .1 .0 .1) in
     let fits : kept .count ≤ length (kept .items) = omega (arith, step .few) in
-    let late = c .before .before .before .before .before .before .late-fates .ensures (kept .items) fits (step .timed) in
+    let late = e .late-fates .ensures (kept .items) fits (step .timed) in
     let later = c .before .before .before .before .settle-late .ensures end (kept .items) fits (step .named) late in
     let f =
     c .before .fates-of .ensures

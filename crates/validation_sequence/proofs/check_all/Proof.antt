@@ -70,8 +70,9 @@ loop-again c =
     let l = head x .loop in
     let r = c .fail-one .ensures in
     let sync = ap (λ (k : ℕ). getD (l .items) k noNumbered) (b .place-before .ensures) in
-    let f = check-fail (state x) (one x) (sym (x .has-code .ensures) ∙ b .before .if1 .taken) (r .follows (l .items) (l .inv .stepped .named) (place-is x) sync) in
-    checks-on (l .inv) (omega arith) (c .fail-one .result) _ (r .low) (r .long) f
+    checks-on (l .inv) (omega arith) (c .fail-one .result) _ (r .low) (r .long)
+    (check-fail (state x) (one x) (sym (x .has-code .ensures) ∙ b .before .if1 .taken)
+    (r .follows (l .items) (l .inv .stepped .named) (place-is x) sync))
 
 -- ---- another: whether it repeats the last kept one
 abbrev other : tie.After-is-repeat Inv-loop μ-loop → tie.After-has-code Inv-loop μ-loop
