@@ -21,7 +21,7 @@ use Rattle.records.specs.Codes.{same}
 use Rattle.validation.specs.declared.Numbered.{Numbered}
 use Rattle.records.specs.declared.Instruction.{Instruction}
 use Rattle.validation.proofs.Few.{numbered-length}
-use Rattle.validation.specs.Kept.{numbered, effectiveOf, effectOf, superseded, group, highest, firstOne, orElse, present, usedOf, nextTime, usedFrom}
+use Rattle.validation.specs.Kept.{numbered, effectiveOf, effectOf, superseded, group, highest, orElse, present, usedOf, nextTime, usedFrom}
 use Rattle.validation_rank.specs.Picked.{pickedList, bestFrom}
 use Rattle.validation_groups.specs.Working.{noNumbered, numberedAt, sequenceOf, pushed, joined, Holds, issueTimeOf, Timed, laterOf, latestAt, supersededAmong, earlierOf, nextTimeAmong}
 use Rattle.validation_groups.specs.declared.Sequence.{Sequence}
@@ -189,14 +189,7 @@ present-more : (code : Effect) (f : Picked) (o : Numbered) (rest : List Numbered
     orElse (orElse (pickedList f) (present code (o ∷ []))) (present code rest) ≡ orElse (pickedList f) (present code (o ∷ rest))
 unfolding present those
 present-more code (One b) o rest = refl
-present-more code Nothing o rest = go (same (effectOf o) code)
-  where
-    others : List Numbered
-    others = those (λ (x : Numbered). same (effectOf x) code) rest
-
-    go : (b : Bool) → orElse (firstOne (pick b (o ∷ []) [])) (firstOne others) ≡ firstOne (pick b (o ∷ others) others)
-    go true = refl
-    go false = refl
+present-more code Nothing o rest = by-bool (same (effectOf o) code) (λ e. rw e) (λ e. rw e)
 
 -- with o looked at
 pub walked-more : {best sync desy better s d : Picked} {rest whole : List Numbered} (o : Numbered) →

@@ -2,17 +2,16 @@
 use mathlib.Core.Path.{_≡_, refl, sym, ap, _∙_}
 use mathlib.Core.List.{List, [], _∷_}
 use mathlib.Core.Bool.{Bool, true, false, _&&_, not, true≢false}
-use Prim.Native.Nat.{ℕ, zero, suc, _+_, _-_, _≤_, _<_, min, max}
+use Prim.Native.Nat.{ℕ, zero, suc, _+_, _-_, _≤_, _<_}
 use native.Mathlib.Decide.{ℕ-discrete, decLe}
 use native.Mathlib.Omega.{arith}
 use lib.Dec.{leb, ltb, eqb}
 use lib.ListN.{length, take, drop, getD, length-take}
 use lib.Seq.{getD-take}
 use borrow.Author.Tests.{ltb-true, leb-true, eqb-true, not-true, lt-ltb, le-ltb, le-leb, lt-leb, eq-eqb, ne-eqb}
-use Rattle.level.specs.Choice.{pick}
 use Rattle.level.specs.Numbers.{instructionPlaces}
 use Rattle.level.specs.Lists.{some, those}
-use Rattle.level.proofs.Lists.{and-true, left-cons, left-none}
+use Rattle.level.proofs.Lists.{by-bool, and-true, left-cons, left-none}
 use Rattle.records.specs.declared.Effect.the-variants.{Mwof, Sync, Desy}
 use Rattle.records.specs.Codes.{codeNumber}
 use Rattle.validation.specs.declared.Numbered.{Numbered}
@@ -30,22 +29,20 @@ timeAt os j = effectiveOf (getD os j noNumbered)
 next-least : (end t m : ℕ) (os : List Numbered) → m ≤ end → ((j : ℕ) → j < length os → t ≤ timeAt os j → m ≤ timeAt os j) → m ≤ nextTime end os t
 unfolding nextTime
 next-least end t m [] e h = e
-next-least end t m (o ∷ os) e h = go (decLe t (effectiveOf o)) (next-least end t m os e (λ j l. h (suc j) (omega arith)))
-  where
-    go : Dec (t ≤ effectiveOf o) → m ≤ nextTime end os t →
-        m ≤ pick (leb t (effectiveOf o)) (min (effectiveOf o) (nextTime end os t)) (nextTime end os t)
-    go (yes p) ih = rw (le-leb t (effectiveOf o) p) (omega (arith, h 0 (omega arith) p))
-    go (no p) ih = rw (lt-leb t (effectiveOf o) (omega arith)) ih
+next-least end t m (o ∷ os) e h =
+    let ih = next-least end t m os e (λ j l. h (suc j) (omega arith)) in
+    elim (decLe t (effectiveOf o)) [
+      | yes p ↦ rw (le-leb t (effectiveOf o) p) (omega (arith, h 0 (omega arith) p))
+      | no p ↦ rw (lt-leb t (effectiveOf o) (omega arith)) ih
+    ]
 
 next-reached : (end t : ℕ) (os : List Numbered) (j : ℕ) → j < length os → t ≤ timeAt os j → nextTime end os t ≤ timeAt os j
 unfolding nextTime
 next-reached end t [] j l h = absurd (omega arith)
 next-reached end t (o ∷ os) zero l h = rw (le-leb t (effectiveOf o) h) (omega arith)
-next-reached end t (o ∷ os) (suc j) l h = go (leb t (effectiveOf o)) (next-reached end t os j (omega arith) h)
-  where
-    go : (b : Bool) → nextTime end os t ≤ timeAt os j → pick b (min (effectiveOf o) (nextTime end os t)) (nextTime end os t) ≤ timeAt os j
-    go true ih = omega arith
-    go false ih = ih
+next-reached end t (o ∷ os) (suc j) l h =
+    let ih = next-reached end t os j (omega arith) h in
+    by-bool (leb t (effectiveOf o)) (λ e. rw e (omega arith)) (λ e. rw e ih)
 
 -- ---- a group of one
 module _ {A : Type 0} (d : A) (f : A → Bool) where
@@ -78,31 +75,24 @@ used-alone o = elim (ℕ-discrete (codeNumber (effectOf o)) (codeNumber Mwof)) [
 ]
 
 module _ (os : List Numbered) (i : ℕ) (h : i < length os) (alone : (j : ℕ) → j < length os → (j ≡ i → ⊥) → timeAt os j ≡ timeAt os i → ⊥) where
-  stays : superseded os (getD os i noNumbered) ≡ false
+  abbrev own : Numbered
+  own = getD os i noNumbered
+
+  stays : superseded os own ≡ false
   unfolding superseded
-  stays = some-no noNumbered (λ (x : Numbered). eqb (effectiveOf x) (timeAt os i) && ltb (issueTimeOf (getD os i noNumbered)) (issueTimeOf x)) os each
+  stays = some-no noNumbered (λ (x : Numbered). eqb (effectiveOf x) (timeAt os i) && ltb (issueTimeOf own) (issueTimeOf x)) os each
     where
-      each : (j : ℕ) → j < length os →
-          (eqb (timeAt os j) (timeAt os i) && ltb (issueTimeOf (getD os i noNumbered)) (issueTimeOf (getD os j noNumbered))) ≡ false
+      each : (j : ℕ) → j < length os → (eqb (timeAt os j) (timeAt os i) && ltb (issueTimeOf own) (issueTimeOf (getD os j noNumbered))) ≡ false
       each j l = elim (ℕ-discrete j i) [
         | no n ↦ rw (ne-eqb (timeAt os j) (timeAt os i) (alone j l n))
-        | yes e ↦ rw (
-          e,
-          eq-eqb (timeAt os i) (timeAt os i) refl,
-          le-ltb (issueTimeOf (getD os i noNumbered)) (issueTimeOf (getD os i noNumbered))
-              (omega arith),
-        )
+        | yes e ↦ rw (e, eq-eqb (timeAt os i) (timeAt os i) refl, le-ltb (issueTimeOf own) (issueTimeOf own) (omega arith))
       ]
 
-  group-alone : group os (timeAt os i) ≡ getD os i noNumbered ∷ []
+  group-alone : group os (timeAt os i) ≡ own ∷ []
   unfolding group
-  group-alone = those-one noNumbered (λ (o : Numbered). eqb (effectiveOf o) (timeAt os i) && not (superseded os o)) os i h own other
-    where
-      own : (eqb (timeAt os i) (timeAt os i) && not (superseded os (getD os i noNumbered))) ≡ true
-      own = rw (eq-eqb (timeAt os i) (timeAt os i) refl, stays)
-
-      other : (j : ℕ) → j < length os → (j ≡ i → ⊥) → (eqb (timeAt os j) (timeAt os i) && not (superseded os (getD os j noNumbered))) ≡ false
-      other j l n = rw (ne-eqb (timeAt os j) (timeAt os i) (alone j l n))
+  group-alone =
+      those-one noNumbered (λ (o : Numbered). eqb (effectiveOf o) (timeAt os i) && not (superseded os o)) os i h
+      (rw (eq-eqb (timeAt os i) (timeAt os i) refl, stays)) (λ j l n. rw (ne-eqb (timeAt os j) (timeAt os i) (alone j l n)))
 
   pub alone-used : getD os i noNumbered ∷ [] ≡ usedOf (group os (timeAt os i))
   alone-used = used-alone (getD os i noNumbered) ∙ ap usedOf (sym group-alone)
@@ -285,22 +275,18 @@ latest-low : (ts js : List ℕ) (t most : ℕ) → ((j : ℕ) → j < length ts 
 unfolding latestAt laterOf
 latest-low [] js t most h = omega arith
 latest-low (x ∷ xs) [] t most h = omega arith
-latest-low (x ∷ xs) (j ∷ js) t most h = go (ℕ-discrete x t) (latest-low xs js t most (λ k l. h (suc k) (omega arith)))
-  where
-    go : Dec (x ≡ t) → latestAt xs js t ≤ most → pick (eqb x t) (max j (latestAt xs js t)) (latestAt xs js t) ≤ most
-    go (yes e) ih = rw (eq-eqb x t e) (omega (arith, h 0 (omega arith) e))
-    go (no n) ih = rw (ne-eqb x t n) ih
+latest-low (x ∷ xs) (j ∷ js) t most h =
+    let ih = latest-low xs js t most (λ k l. h (suc k) (omega arith)) in
+    elim (ℕ-discrete x t) [ yes e ↦ rw (eq-eqb x t e) (omega (arith, h 0 (omega arith) e)) | no n ↦ rw (ne-eqb x t n) ih ]
 
 latest-high : (ts js : List ℕ) (t j : ℕ) → j < length ts → j < length js → getD ts j 0 ≡ t → getD js j 0 ≤ latestAt ts js t
 unfolding latestAt laterOf
 latest-high [] js t j h k e = absurd (omega arith)
 latest-high (x ∷ xs) [] t j h k e = absurd (omega arith)
 latest-high (x ∷ xs) (y ∷ js) t zero h k e = rw (eq-eqb x t e) (omega arith)
-latest-high (x ∷ xs) (y ∷ js) t (suc j) h k e = go (eqb x t) (latest-high xs js t j (omega arith) (omega arith) e)
-  where
-    go : (b : Bool) → getD js j 0 ≤ latestAt xs js t → getD js j 0 ≤ pick b (max y (latestAt xs js t)) (latestAt xs js t)
-    go true ih = omega arith
-    go false ih = ih
+latest-high (x ∷ xs) (y ∷ js) t (suc j) h k e =
+    let ih = latest-high xs js t j (omega arith) (omega arith) e in
+    by-bool (eqb x t) (λ q. rw q (omega arith)) (λ q. rw q ih)
 
 -- one alone has the latest issue time itself
 pub alone-latest : (ts js : List ℕ) (n at : ℕ) → at < n → n ≤ length ts → n ≤ length js → (risingFrom 0 (take n ts) && aloneAt ts n at) ≡ true →

@@ -10,6 +10,7 @@ use lib.ListN.{length, take, getD, set, replicate, getD-replicate, length-take}
 use lib.Seq.{take-suc, take-all, getD-set-same, getD-set-other}
 use borrow.Author.Tests.{eq-eqb, ne-eqb}
 use Rattle.level.specs.Choice.{pick}
+use Rattle.level.proofs.Lists.{by-bool}
 use Rattle.level.specs.Numbers.{instructionPlaces}
 use Rattle.level.specs.Lists.{filled}
 use Rattle.records.specs.declared.Instruction.{Instruction}
@@ -73,13 +74,9 @@ among-last : (k : ℕ) (ms : List Mark) (m : Mark) → NoTwo ms →
     fateAmong k (ms ++ (m ∷ [])) ≡ pick (eqb (fateAmong k ms) 2) (pick (eqb (m .number) k) (m .fate) 2) (fateAmong k ms)
 unfolding fateAmong
 among-last k [] m n = refl
-among-last k (x ∷ xs) m n = go (eqb (x .number) k) (among-last k xs m (n .1))
-  where
-    go : (b : Bool) → fateAmong k (xs ++ (m ∷ [])) ≡ pick (eqb (fateAmong k xs) 2) (pick (eqb (m .number) k) (m .fate) 2) (fateAmong k xs) →
-        pick b (x .fate) (fateAmong k (xs ++ (m ∷ []))) ≡ pick (eqb (pick b (x .fate) (fateAmong k xs)) 2) (pick (eqb (m .number) k) (m .fate) 2)
-        (pick b (x .fate) (fateAmong k xs))
-    go true ih = rw (ne-eqb (x .fate) 2 (n .0))
-    go false ih = ih
+among-last k (x ∷ xs) m n =
+    let ih = among-last k xs m (n .1) in
+    by-bool (eqb (x .number) k) (λ e. rw (e, ne-eqb (x .fate) 2 (n .0))) (λ e. rw e ih)
 
 two-stays : (k : ℕ) → k ≡ pick (eqb k 2) 2 k
 two-stays k = elim (ℕ-discrete k 2) [ yes e ↦ rw (eq-eqb k 2 e) e | no n ↦ rw (ne-eqb k 2 n) ]
@@ -99,11 +96,9 @@ module _ (fates : List ℕ) (long : length fates ≡ instructionPlaces) (m : Mar
       go false b = refl
 
   settle-long : length (settleFate fates (m .number) (m .fate)) ≡ instructionPlaces
-  settle-long = rw settle-is (go (eqb (getD fates (m .number - 1) 0) 2))
-    where
-      go : (b : Bool) → length (pick b (setFate fates (m .number) (m .fate)) fates) ≡ instructionPlaces
-      go true = set-length fates (m .number) (m .fate) ∙ long
-      go false = long
+  settle-long =
+      by-bool (eqb (getD fates (m .number - 1) 0) 2) (λ e. rw (settle-is, e) (set-length fates (m .number) (m .fate) ∙ long))
+      (λ e. rw (settle-is, e) long)
 
   settle-at : (i : ℕ) → i < instructionPlaces →
       getD (settleFate fates (m .number) (m .fate)) i 0 ≡ pick (eqb (getD fates i 0) 2) (pick (eqb (m .number) (i + 1)) (m .fate) 2) (getD fates i 0)

@@ -1,7 +1,7 @@
 -- The cases of step 3, each with its conditions as plain facts.
 use mathlib.Core.Path.{_≡_, refl, sym, ap, _∙_}
 use mathlib.Core.List.{List, [], _∷_, _++_, map}
-use mathlib.Core.Bool.{Bool, true, false}
+use mathlib.Core.Bool.{true, false}
 use Prim.Native.Nat.{ℕ, suc, _+_, _-_, _≤_, _<_}
 use native.Mathlib.Numerals.{add-one}
 use native.Mathlib.Decide.{ℕ-discrete}
@@ -11,6 +11,7 @@ use lib.ListN.{length, take, getD, set, replicate, length-set}
 use lib.Seq.{take-suc, set-out, getD-set-same, getD-set-other}
 use borrow.Author.Tests.{eq-eqb, ne-eqb}
 use Rattle.level.specs.Choice.{pick}
+use Rattle.level.proofs.Lists.{by-bool}
 use Rattle.level.specs.Numbers.{instructionPlaces}
 use Rattle.records.specs.declared.Effect.the-variants.{Sync, Fail}
 use Rattle.records.specs.Codes.{same}
@@ -36,11 +37,7 @@ module _ (fates : List ℕ) (number fate : ℕ) where
 
   pub set-length : length (setFate fates number fate) ≡ length fates
   unfolding setFate
-  set-length = go (eqb number 0)
-    where
-      go : (b : Bool) → length (pick b fates (set fates (number - 1) fate)) ≡ length fates
-      go true = refl
-      go false = length-set fates (number - 1) fate
+  set-length = by-bool (eqb number 0) (λ e. rw e) (λ e. rw e (length-set fates (number - 1) fate))
 
 pub marked-append : (fates : List ℕ) (xs ys : List Mark) → marked fates (xs ++ ys) ≡ marked (marked fates ys) xs
 unfolding marked
