@@ -1,15 +1,13 @@
 -- The cases of ranks and carriers, each with its conditions as plain facts.
 use mathlib.Core.Path.{_≡_, refl, sym, ap, _∙_}
 use mathlib.Core.List.{List, [], _∷_}
-use mathlib.Core.Bool.{true, false}
+use mathlib.Core.Bool.{true, false, _&&_}
 use Prim.Native.Nat.{_≤_, _<_}
 use native.Mathlib.Omega.{arith}
 use lib.Dec.{ltb}
 use lib.ListN.{length, getD}
 use borrow.Author.Tests.{lt-ltb, le-ltb}
 use Rattle.level.specs.Choice.{pick}
-use Rattle.level.specs.Lists.{those}
-use Rattle.records.specs.declared.Effect.{Effect}
 use Rattle.records.specs.declared.Effect.the-variants.{Mwof, Sync, Desy}
 use Rattle.records.specs.Codes.{same}
 use Rattle.validation.specs.declared.Numbered.{Numbered}
@@ -23,41 +21,25 @@ module _ (x o : Numbered) where
   unfolding goesBefore
   goes-rank h = simp (lt-ltb _ _ h)
 
-  pub goes-other : o .instruction .meaning .rank ≤ x .instruction .meaning .rank → same (effectOf x) Mwof ≡ false → false ≡ goesBefore x o
-  unfolding goesBefore
-  goes-other h k = rw (le-ltb _ _ h, k)
+  module _ (h : o .instruction .meaning .rank ≤ x .instruction .meaning .rank) where
+    pub goes-other : same (effectOf x) Mwof ≡ false → false ≡ goesBefore x o
+    unfolding goesBefore
+    goes-other k = rw (le-ltb _ _ h, k)
 
-  pub goes-second : o .instruction .meaning .rank ≤ x .instruction .meaning .rank → same (effectOf x) Mwof ≡ true → same (effectOf o) Mwof ≡ false →
-      false ≡ goesBefore x o
-  unfolding goesBefore
-  goes-second h k j = rw (le-ltb _ _ h, k, j)
-
-  pub goes-level : o .instruction .meaning .rank ≤ x .instruction .meaning .rank → same (effectOf x) Mwof ≡ true → same (effectOf o) Mwof ≡ true →
-      ltb (levelOf o) (levelOf x) ≡ goesBefore x o
-  unfolding goesBefore
-  goes-level h k j = rw (le-ltb _ _ h, k, j)
-
-  pub higher-yes : goesBefore x o ≡ true → x ≡ pick (goesBefore x o) x o
-  higher-yes e = rw e
-
-  pub higher-no : goesBefore x o ≡ false → o ≡ pick (goesBefore x o) x o
-  higher-no e = rw e
+    pub goes-mwof : same (effectOf x) Mwof ≡ true → (same (effectOf o) Mwof && ltb (levelOf o) (levelOf x)) ≡ goesBefore x o
+    unfolding goesBefore
+    goes-mwof k = rw (le-ltb _ _ h, k)
 
 -- ---- the carrier, and the one that is used
-module _ (g : List Numbered) where
-  pub merged-other : (o : Numbered) → same (effectOf o) Mwof ≡ false → o ∷ [] ≡ merged g o
+module _ (g : List Numbered) (o : Numbered) (f : Picked) (h : same (effectOf o) Mwof ≡ true)
+    (p : pickedList f ≡ orElse (present Sync g) (present Desy g)) where
+  pub merged-into : (c : Numbered) → f ≡ One c → carrying o c ∷ [] ≡ merged g o
   unfolding merged
-  merged-other o h = rw h
+  merged-into c q = let e : orElse (present Sync g) (present Desy g) ≡ c ∷ [] = sym p ∙ ap pickedList q in rw (h, e)
 
-  pub merged-into : (o : Numbered) (f : Picked) (c : Numbered) → same (effectOf o) Mwof ≡ true →
-      pickedList f ≡ orElse (present Sync g) (present Desy g) → f ≡ One c → carrying o c ∷ [] ≡ merged g o
+  pub merged-alone : f ≡ Nothing → o ∷ [] ≡ merged g o
   unfolding merged
-  merged-into o f c h p q = let e : orElse (present Sync g) (present Desy g) ≡ c ∷ [] = sym p ∙ ap pickedList q in rw (h, e)
-
-  pub merged-alone : (o : Numbered) (f : Picked) → same (effectOf o) Mwof ≡ true → pickedList f ≡ orElse (present Sync g) (present Desy g) →
-      f ≡ Nothing → o ∷ [] ≡ merged g o
-  unfolding merged
-  merged-alone o f h p q = let e : orElse (present Sync g) (present Desy g) ≡ [] = sym p ∙ ap pickedList q in rw (h, e)
+  merged-alone q = let e : orElse (present Sync g) (present Desy g) ≡ [] = sym p ∙ ap pickedList q in rw (h, e)
 
 pub used-best : (g : List Numbered) (o : Numbered) → o ∷ [] ≡ bestFrom [] g → merged g o ≡ usedOf g
 unfolding usedOf bestFrom
@@ -77,12 +59,3 @@ better-one f b o h e k = rw (e, k)
 pub better-none : (f : Picked) (o : Numbered) → f ≡ Nothing → o ∷ [] ≡ bestFrom (pickedList f) (o ∷ [])
 unfolding bestFrom highest
 better-none f o e = rw e
-
-module _ (o : Numbered) (code : Effect) where
-  pub code-same : same (effectOf o) code ≡ true → o ∷ [] ≡ present code (o ∷ [])
-  unfolding present those
-  code-same e = rw e
-
-  pub code-other : same (effectOf o) code ≡ false → [] ≡ present code (o ∷ [])
-  unfolding present those
-  code-other e = rw e

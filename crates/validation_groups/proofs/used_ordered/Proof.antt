@@ -80,9 +80,6 @@ loop-again-2 : tie.Need-loop-again-2 Inv-loop μ-loop
 unfolding pushed joined
 loop-again-2 c = rw (c .before .u .given .1) at (further (c .before .before .before))
 
-enum-told : tie.Need-enum-told Inv-loop μ-loop
-enum-told c = search needs
-
 loop-again-3 : tie.Need-loop-again-3 Inv-loop μ-loop
 unfolding joined
 loop-again-3 c = rw (c .enum-told .given .1) at (further (c .before .before))
@@ -98,4 +95,4 @@ used-ordered-spec =
     (tie.spec Inv-loop μ-loop (λ c κs. search needs) loop-holds (λ c. omega arith) (λ c. omega arith) returns (λ c. omega arith)
     (λ c κs. search needs) (λ c. omega arith) (λ c. omega arith) (λ c. omega arith) (λ c κs. search needs) (λ c. omega arith) (λ c. omega arith)
     (λ c. omega arith) (λ c. omega arith) loop-again (λ c κs. search needs) (λ c. search needs) (λ c. omega arith) (λ c. omega arith)
-    (λ c. omega arith) loop-less-2 loop-again-2 enum-told (λ c. omega arith) loop-again-3 returns-2)
+    (λ c. omega arith) loop-less-2 loop-again-2 (λ c. search needs) (λ c. omega arith) loop-again-3 returns-2)
