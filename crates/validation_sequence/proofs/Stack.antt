@@ -9,10 +9,10 @@ use native.Mathlib.Omega.{arith}
 use lib.ListN.{length, take, getD, set}
 use lib.Seq.{take-suc, getD-set-same, getD-set-other}
 use Rattle.level.specs.Choice.{pick}
-use Rattle.records.specs.declared.Effect.the-variants.{Trip, Sync, Desy}
+use Rattle.records.specs.declared.Effect.the-variants.{Sync}
 use Rattle.records.specs.Codes.{same}
 use Rattle.validation.specs.declared.Numbered.{Numbered}
-use Rattle.validation.specs.Kept.{effectOf, repeats, syncWithinHour, fromSync, beforeSync, turned}
+use Rattle.validation.specs.Kept.{effectOf, syncWithinHour, fromSync, beforeSync, turned}
 use Rattle.validation_groups.specs.Working.{noNumbered}
 use Rattle.validation_sequence.specs.Working.{stackOf, stackFrom, syncPlace, Synced}
 
@@ -43,37 +43,12 @@ pub stack-turned : (ks : List Numbered) (h : ℕ) → h ≤ length ks → turned
 stack-turned ks h p = stack-before ks h [] p ∙ append-nil (take h ks)
 
 -- ---- against the last kept one
-stack-top : (ks : List Numbered) (h : ℕ) (last : Numbered) → 0 < h → last ≡ getD ks (h - 1) noNumbered → last ∷ stackOf ks (h - 1) ≡ stackOf ks h
+pub stack-top : (ks : List Numbered) (h : ℕ) (last : Numbered) → 0 < h → last ≡ getD ks (h - 1) noNumbered → last ∷ stackOf ks (h - 1) ≡ stackOf ks h
 unfolding stackOf
 stack-top ks zero last p e = absurd (omega arith)
 stack-top ks (suc h) last p e =
     let q : suc h - 1 ≡ h = omega arith in
     rw (e, q)
-
-module _ (o last : Numbered) (ks : List Numbered) (h : ℕ) (e : last ≡ getD ks (h - 1) noNumbered) where
-  pub repeats-none : h ≡ 0 → false ≡ repeats o (stackOf ks h)
-  unfolding repeats stackOf
-  repeats-none z = rw z
-
-  repeats-last : 0 < h → repeats o (last ∷ stackOf ks (h - 1)) ≡ repeats o (stackOf ks h)
-  repeats-last p = ap (repeats o) (stack-top ks h last p e)
-
-  pub repeats-other : 0 < h → same (effectOf o) (effectOf last) ≡ false → false ≡ repeats o (stackOf ks h)
-  unfolding repeats
-  repeats-other p n = rw n at (repeats-last p)
-
-  module _ (p : 0 < h) (l : same (effectOf o) (effectOf last) ≡ true) where
-    pub repeats-sync : same (effectOf o) Sync ≡ true → true ≡ repeats o (stackOf ks h)
-    unfolding repeats
-    repeats-sync s = rw (l, s) at (repeats-last p)
-
-    pub repeats-desy : same (effectOf o) Sync ≡ false → same (effectOf o) Desy ≡ true → true ≡ repeats o (stackOf ks h)
-    unfolding repeats
-    repeats-desy s d = rw (l, s, d) at (repeats-last p)
-
-    pub repeats-trip : same (effectOf o) Sync ≡ false → same (effectOf o) Desy ≡ false → same (effectOf o) Trip ≡ repeats o (stackOf ks h)
-    unfolding repeats
-    repeats-trip s d = rw (l, s, d) at (repeats-last p)
 
 -- ---- the latest kept SYNC
 -- a place above is another matter

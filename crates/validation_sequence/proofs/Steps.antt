@@ -2,7 +2,7 @@
 use mathlib.Core.Path.{_≡_, refl, sym, ap, _∙_}
 use mathlib.Core.List.{List, [], _∷_, _++_, map}
 use mathlib.Core.Bool.{true, false}
-use Prim.Native.Nat.{ℕ, suc, _+_, _-_, _≤_, _<_}
+use Prim.Native.Nat.{ℕ, _+_, _-_, _≤_, _<_}
 use native.Mathlib.Numerals.{add-one}
 use native.Mathlib.Decide.{ℕ-discrete}
 use native.Mathlib.Omega.{arith}
@@ -43,17 +43,6 @@ pub marked-append : (fates : List ℕ) (xs ys : List Mark) → marked fates (xs 
 unfolding marked
 marked-append fates [] ys = refl
 marked-append fates (x ∷ xs) ys = ap (λ (l : List ℕ). setFate l (x .number) (x .fate)) (marked-append fates xs ys)
-
--- one more of those from the place a on
-pub voided-more : (fates : List ℕ) (ks : List Numbered) (a d : ℕ) →
-    setFate (marked fates (map (mark 4) (stackFrom ks a d))) (getD ks (a + d) noNumbered .number) 4 ≡ marked fates
-    (map (mark 4) (stackFrom ks a (suc d)))
-unfolding marked stackFrom
-voided-more fates ks a d = refl
-
-pub voided-none : (fates : List ℕ) (ks : List Numbered) (a : ℕ) → marked fates (map (mark 4) (stackFrom ks a 0)) ≡ fates
-unfolding marked stackFrom
-voided-none fates ks a = refl
 
 -- ---- step 3
 module _ (s : Checking) (o : Numbered) where
@@ -135,32 +124,6 @@ soon-push times h v b p r j l = elim (ℕ-discrete j h) [
   | no i ↦ rw (getD-set-other times h j v 0 i) (r j (omega arith))
 ]
 
-module _ {ks : List Numbered} {h : ℕ} {fates numbers times : List ℕ} {m : Checked} (r : StepThree ks h fates numbers times m) (o : Numbered) where
-  -- none is added
-  pub stepped-on : (k : ℕ) (next : List ℕ) → k ≤ h → Follows (checking ks h fates) (checking ks k next) (λ (c : Checked). checkOne c o) →
-      StepThree ks k next numbers times (checkOne m o)
-  stepped-on k next p f = record {
-    few = omega (arith, r .few);
-    tracks = f m (r .tracks);
-    named = λ j l. r .named j (omega arith);
-    timed = λ j l. r .timed j (omega arith);
-    soon = λ j l. r .soon j (omega arith);
-  }
-
-  -- o is added, and acts at the time v
-  pub stepped-keep : (v : ℕ) → v ≡ acting o → v < never → h < instructionPlaces → length ks ≡ instructionPlaces → length numbers ≡ instructionPlaces →
-      length times ≡ instructionPlaces →
-      Follows (checking ks h fates) (keeping (checking ks h fates) o) (λ (c : Checked). checkOne c o) →
-      StepThree (set ks h o) (h + 1) fates (set numbers h (o .number)) (set times h v) (checkOne m o)
-  unfolding keeping
-  stepped-keep v e b p a1 a2 a3 f = record {
-    few = omega arith;
-    tracks = f m (r .tracks);
-    named = noted-push entryNumber numbers ks h (o .number) o refl (omega arith) (omega arith) (r .named);
-    timed = noted-push acting times ks h v o e (omega arith) (omega arith) (r .timed);
-    soon = soon-push times h v b (omega arith) (r .soon);
-  }
-
 -- ---- step 3 over the first i of those used, which stood in `first`: the kept ones are in the first places, the others still where they were
 pub record Checks (n i count : ℕ) (first items : List Numbered) (places fates numbers times : List ℕ) : Type 0 where
   pub few : n ≤ instructionPlaces
@@ -225,7 +188,13 @@ module _ {n i count : ℕ} {first items : List Numbered} {places fates numbers t
     times-long = r .times-long;
     ahead = λ j q. r .ahead j (omega arith);
     synced = λ j q. r .synced j (omega arith);
-    stepped = rw checks-next (stepped-on (r .stepped) (getD items i noNumbered) k next p f);
+    stepped = rw checks-next (record {
+      few = omega (arith, r .stepped .few);
+      tracks = f (check noneChecked (take i first)) (r .stepped .tracks);
+      named = λ j q. r .stepped .named j (omega arith);
+      timed = λ j q. r .stepped .timed j (omega arith);
+      soon = λ j q. r .stepped .soon j (omega arith);
+    });
   }
 
   -- the one looked at is added; it acts at the time v, and `place` are kept up to the latest SYNC
@@ -235,9 +204,11 @@ module _ {n i count : ℕ} {first items : List Numbered} {places fates numbers t
       (λ (m : Checked). checkOne m (getD items i noNumbered)) →
       Checks n (i + 1) (count + 1) first (set items count (getD items i noNumbered)) (set places count place) fates
       (set numbers count (getD items i noNumbered .number)) (set times count v)
+  unfolding keeping
   checks-keep v place before e b p q f =
       let o = getD items i noNumbered in
-      let room : count < instructionPlaces = omega (arith, r .few, r .fewer) in
+      let few : count < instructionPlaces = omega (arith, r .few, r .fewer) in
+      let room : count < length items = omega (arith, r .items-long) in
       record {
         few = r .few;
         on = omega arith;
@@ -249,6 +220,12 @@ module _ {n i count : ℕ} {first items : List Numbered} {places fates numbers t
         numbers-long = length-set numbers count (o .number) ∙ r .numbers-long;
         times-long = length-set times count v ∙ r .times-long;
         ahead = λ j l. getD-set-other items count j o noNumbered (λ k. omega (arith, r .fewer)) ∙ r .ahead j (omega arith);
-        synced = synced-push places items count place before o p q (omega (arith, r .places-long)) (omega (arith, r .items-long)) (r .synced);
-        stepped = rw checks-next (stepped-keep (r .stepped) o v e b room (r .items-long) (r .numbers-long) (r .times-long) f);
+        synced = synced-push places items count place before o p q (omega (arith, r .places-long)) room (r .synced);
+        stepped = rw checks-next (record {
+          few = omega arith;
+          tracks = f (check noneChecked (take i first)) (r .stepped .tracks);
+          named = noted-push entryNumber numbers items count (o .number) o refl (omega (arith, r .numbers-long)) room (r .stepped .named);
+          timed = noted-push acting times items count v o e (omega (arith, r .times-long)) room (r .stepped .timed);
+          soon = soon-push times count v b (omega (arith, r .times-long)) (r .stepped .soon);
+        });
       }

@@ -10,8 +10,15 @@ unfolding meaningOf
 returns-8 c =
     let r = c .match .rest in
     let few = r .0 .0 .0 in
-    simp (ne-eqb _ _ (few .0 .0 .0 .1), ne-eqb _ _ (few .0 .0 .1), ne-eqb _ _ (few .0 .1), ne-eqb _ _ (few .1),
-    ne-eqb _ _ (r .0 .0 .1), ne-eqb _ _ (r .0 .1), ne-eqb _ _ (r .1))
+    simp (
+      ne-eqb _ _ (few .0 .0 .0 .1),
+      ne-eqb _ _ (few .0 .0 .1),
+      ne-eqb _ _ (few .0 .1),
+      ne-eqb _ _ (few .1),
+      ne-eqb _ _ (r .0 .0 .1),
+      ne-eqb _ _ (r .0 .1),
+      ne-eqb _ _ (r .1),
+    )
 
 pub decode-spec : {M : Type 1} → statement M
 decode-spec =

@@ -1,4 +1,4 @@
-use mathlib.Core.Path.{_≡_, sym, ap, _∙_}
+use mathlib.Core.Path.{_≡_, _∙_}
 use mathlib.Core.List.{List, map}
 use native.Mathlib.Omega.{arith}
 use Prim.Native.Nat.{ℕ, suc, _≤_, _-_, _+_}
@@ -7,7 +7,7 @@ use Rattle.level.specs.Numbers.{instructionPlaces}
 use Rattle.validation.specs.declared.Numbered.{Numbered}
 use Rattle.validation.specs.Kept.{mark}
 use Rattle.validation_sequence.specs.Working.{entryNumber, Noted, setFate, marked, stackFrom}
-use Rattle.validation_sequence.proofs.Steps.{set-length, voided-more, voided-none}
+use Rattle.validation_sequence.proofs.Steps.{set-length}
 use borrow.Author.Needs.{needs}
 use Rattle.validation_sequence.proofs.void_from.Statement.{statement}
 use Rattle.validation_sequence.proofs.void_from.Tie as tie
@@ -26,6 +26,7 @@ abbrev μ-loop : tie.MeasureT-loop
 μ-loop numbers from height fates₀ i₀ fates i = height - i
 
 loop-holds : tie.Need-loop-holds Inv-loop μ-loop
+unfolding marked stackFrom
 loop-holds c =
     let a = c .args in
     let z : a .from - a .from ≡ 0 = omega arith in
@@ -33,10 +34,11 @@ loop-holds c =
       begun = omega arith;
       within = omega arith;
       long = omega arith;
-      voided = λ ks e. rw z (sym (voided-none (a .fates .now) ks (a .from)));
+      voided = λ ks e. rw z;
     }
 
 loop-again : tie.Need-loop-again Inv-loop μ-loop
+unfolding marked stackFrom
 loop-again c =
     let k = c .before .before .before .before in
     let a = k .before .args in
@@ -50,9 +52,7 @@ loop-again c =
       within = omega arith;
       long = rw (p, set-length) (l .inv .long);
       voided = λ ks e.
-          p ∙ ((λ j. setFate (l .inv .voided ks e j) (e (l .i) (omega arith) j) 4)
-          ∙ (rw f at (voided-more (a .fates .now) ks (a .from) d)
-          ∙ ap (λ (m : ℕ). marked (a .fates .now) (map (mark 4) (stackFrom ks (a .from) m))) (sym q)));
+          p ∙ ((λ j. setFate (l .inv .voided ks e j) (e (l .i) (omega arith) j) 4) ∙ rw (q, f));
     }
 
 returns : tie.Need-returns Inv-loop μ-loop
