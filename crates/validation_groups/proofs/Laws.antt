@@ -93,18 +93,6 @@ joined-count s (One o) = omega arith
 joined-count s Nothing = omega arith
 
 -- ---- the effective times and the issue times
-module _ (ts : List ℕ) (n : ℕ) (fits : n ≤ length ts) where
-  pub next-more : (end t i : ℕ) → i < n →
-      earlierOf (getD ts i 0) t (nextTimeAmong end (drop (i + 1) (take n ts)) t) ≡ nextTimeAmong end (drop i (take n ts)) t
-  unfolding nextTimeAmong
-  next-more end t i h = rw (left-cons ts n i 0 h fits)
-
-  pub latest-more : (js : List ℕ) → n ≤ length js → (t i : ℕ) → i < n →
-      laterOf (getD ts i 0) (getD js i 0) t (latestAt (drop (i + 1) (take n ts)) (drop (i + 1) (take n js)) t)
-      ≡ latestAt (drop i (take n ts)) (drop i (take n js)) t
-  unfolding latestAt
-  latest-more js room t i h = rw (left-cons ts n i 0 h fits, left-cons js n i 0 h room)
-
 -- they say of the times what the definitions say of the instructions
 later-either : (e : Bool) (issue j best : ℕ) → ltb issue (pick e (max j best) best) ≡ ((e && ltb issue j) || ltb issue best)
 later-either false issue j best = refl
@@ -223,18 +211,14 @@ unfolding usedFrom
 used-stop end os zero t h = refl
 used-stop end os (suc m) t h = rw (le-ltb (nextTime end os t) end h, usedFrom)
 
-used-step : (end : ℕ) (os : List Numbered) (m t : ℕ) → nextTime end os t < end →
-    usedFrom end os (suc m) t ≡ usedOf (group os (nextTime end os t)) ++ usedFrom end os m (suc (nextTime end os t))
-unfolding usedFrom
-used-step end os m t h = rw (lt-ltb (nextTime end os t) end h, usedFrom)
-
 -- one group more is in: that of the next time
 pub begun-group : {s : Sequence} {whole : List Numbered} (end : ℕ) (os : List Numbered) (m k t next : ℕ) (f : Picked) → m ≡ k + 1 →
     next ≡ nextTime end os t → next < end → s .count < instructionPlaces → pickedList f ≡ usedOf (group os next) →
     Begun s (usedFrom end os m t) whole → Begun (joined s f) (usedFrom end os k (next + 1)) whole
+unfolding usedFrom
 begun-group end os m k t next f d q h room g b =
     let e : m ≡ suc k = omega arith in
-    let more : usedFrom end os m t ≡ pickedList f ++ usedFrom end os k (next + 1) = rw (e, g, q, add-one) (used-step end os k t (omega arith)) in
+    let more : usedFrom end os m t ≡ pickedList f ++ usedFrom end os k (next + 1) = rw (e, g, q, add-one, lt-ltb (nextTime end os t) end (omega arith), usedFrom) in
     begun-picked f room (rw more at b)
 
 -- ---- the instructions as entered

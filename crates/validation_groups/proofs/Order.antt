@@ -6,12 +6,12 @@ use Prim.Native.Nat.{ℕ, zero, suc, _+_, _-_, _≤_, _<_}
 use native.Mathlib.Decide.{ℕ-discrete, decLe}
 use native.Mathlib.Omega.{arith}
 use lib.Dec.{leb, ltb, eqb}
-use lib.ListN.{length, take, drop, getD, length-take}
+use lib.ListN.{length, take, getD, length-take}
 use lib.Seq.{getD-take}
 use borrow.Author.Tests.{ltb-true, leb-true, eqb-true, not-true, lt-ltb, le-ltb, le-leb, lt-leb, eq-eqb, ne-eqb}
 use Rattle.level.specs.Numbers.{instructionPlaces}
 use Rattle.level.specs.Lists.{some, those}
-use Rattle.level.proofs.Lists.{by-bool, and-true, left-cons, left-none}
+use Rattle.level.proofs.Lists.{by-bool, and-true}
 use Rattle.records.specs.declared.Effect.the-variants.{Mwof, Sync, Desy}
 use Rattle.records.specs.Codes.{codeNumber}
 use Rattle.validation.specs.declared.Numbered.{Numbered}
@@ -217,24 +217,9 @@ rising-any before (t ∷ ts) e i j p l =
     go (suc i) zero p l b ih = absurd (omega arith)
     go (suc i) (suc j) p l b ih = omega (arith, ih i j (omega arith) (omega arith))
 
-module _ (ts : List ℕ) (n : ℕ) (fits : n ≤ length ts) where
-  pub rises-rising : risingFrom 0 (take n ts) ≡ true → Rising ts n
-  rises-rising e i j p l =
-      rw (getD-take n ts i 0 (omega arith), getD-take n ts j 0 l) at (rising-any 0 (take n ts) e i j p (omega (arith, length-take n ts)) .1)
-
-  -- from the place i on: it is not earlier; it is earlier; none is left
-  module _ (before i : ℕ) where
-    pub rises-next : i < n → before ≤ getD ts i 0 → risingFrom (getD ts i 0) (drop (i + 1) (take n ts)) ≡ risingFrom before (drop i (take n ts))
-    unfolding risingFrom
-    rises-next h e = rw (left-cons ts n i 0 h fits, le-leb before (getD ts i 0) e)
-
-    pub rises-not : i < n → getD ts i 0 < before → false ≡ risingFrom before (drop i (take n ts))
-    unfolding risingFrom
-    rises-not h e = rw (left-cons ts n i 0 h fits, lt-leb before (getD ts i 0) e)
-
-    pub rises-all : n ≤ i → true ≡ risingFrom before (drop i (take n ts))
-    unfolding risingFrom
-    rises-all h = rw (left-none ts n i h)
+pub from-rising : (ts : List ℕ) (n : ℕ) → n ≤ length ts → risingFrom 0 (take n ts) ≡ true → Rising ts n
+from-rising ts n fits e i j p l =
+    rw (getD-take n ts i 0 (omega arith), getD-take n ts j 0 l) at (rising-any 0 (take n ts) e i j p (omega (arith, length-take n ts)) .1)
 
 -- the run of t from a place on reaches the place i
 pub record RunProgress (ts : List ℕ) (n t from i : ℕ) : Type 0 where
@@ -293,16 +278,15 @@ pub alone-latest : (ts js : List ℕ) (n at : ℕ) → at < n → n ≤ length t
     getD js at 0 ≡ latestAt (take n ts) (take n js) (getD ts at 0)
 alone-latest ts js n at h fits room alone =
     let low = latest-low (take n ts) (take n js) (getD ts at 0) (getD js at 0) (λ j l. each j (omega (arith, length-take n ts))) in
-    let high =
-    latest-high (take n ts) (take n js) (getD ts at 0) at (omega (arith, length-take n ts)) (omega (arith, length-take n js)) (getD-take n ts at 0 h)
-    in
+    let long : (at < length (take n ts)) × (at < length (take n js)) = omega (arith, length-take n ts, length-take n js) in
+    let high = latest-high (take n ts) (take n js) (getD ts at 0) at (long .0) (long .1) (getD-take n ts at 0 h) in
     omega (arith, getD-take n js at 0 h)
   where
     both : (risingFrom 0 (take n ts) ≡ true) × (aloneAt ts n at ≡ true)
     both = and-true (risingFrom 0 (take n ts)) (aloneAt ts n at) alone
 
     only : (j : ℕ) → j < n → (j ≡ at → ⊥) → getD ts j 0 ≡ getD ts at 0 → ⊥
-    only = alone-only ts n at (rises-rising ts n fits (both .0)) h (both .1)
+    only = alone-only ts n at (from-rising ts n fits (both .0)) h (both .1)
 
     each : (j : ℕ) → j < n → getD (take n ts) j 0 ≡ getD ts at 0 → getD (take n js) j 0 ≤ getD js at 0
     each j l =
