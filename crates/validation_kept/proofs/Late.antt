@@ -117,20 +117,12 @@ module _ (ks : List Numbered) (n : ℕ) (fits : n ≤ length ks) where
   unfolding actors
   actors-keep end i h e = rw (left-cons ks n i noNumbered h fits) (simp (eq-eqb _ _ e))
 
-  settled-next : (end i : ℕ) (fates : List ℕ) → i < n →
-      settled fates (lateMarks end (drop i (take n ks)))
-      ≡ settled (settleFate fates (getD ks i noNumbered .number) (lateFate end (getD ks i noNumbered) (drop (i + 1) (take n ks))))
-      (lateMarks end (drop (i + 1) (take n ks)))
-  unfolding settled lateMarks
-  settled-next end i fates h = rw (left-cons ks n i noNumbered h fits)
-
   -- with the fate of the one at the place i
   pub settled-more : (end i : ℕ) (fates next : List ℕ) (fate : ℕ) → i < n → fate ≡ lateFate end (getD ks i noNumbered) (drop (i + 1) (take n ks)) →
       next ≡ settleFate fates (getD ks i noNumbered .number) fate →
       settled next (lateMarks end (drop (i + 1) (take n ks))) ≡ settled fates (lateMarks end (drop i (take n ks)))
-  settled-more end i fates next fate h e q =
-      ap (λ (l : List ℕ). settled l (lateMarks end (drop (i + 1) (take n ks)))) (q ∙ ap (settleFate fates (getD ks i noNumbered .number)) e)
-      ∙ sym (settled-next end i fates h)
+  unfolding settled lateMarks
+  settled-more end i fates next fate h e q = rw (q, e, left-cons ks n i noNumbered h fits)
 
 -- step 4's fates from the place i on, and the earliest acting time of those there
 pub record LateFrom (end : ℕ) (ks : List Numbered) (n i : ℕ) (fates : List ℕ) (earliest : ℕ) : Type 0 where
