@@ -1,6 +1,6 @@
 -- The cases of step 4 and of the fates by number, each with its conditions as plain facts.
 use mathlib.Core.Path.{_≡_, refl, sym, ap, _∙_}
-use mathlib.Core.List.{List, [], _∷_, _++_, map}
+use mathlib.Core.List.{List, [], _∷_, _++_, map, map-append}
 use mathlib.Core.Bool.{Bool, _||_}
 use Prim.Native.Nat.{ℕ, zero, suc, _+_, _-_, _≤_, _<_, min}
 use native.Mathlib.Numerals.{add-one}
@@ -32,10 +32,6 @@ number-last k (y ∷ ys) x =
     ap (λ (l : List Numbered). record { number = k; instruction = y } ∷ l)
     (number-last (suc k) ys x ∙ (λ j. numbered (suc k) ys ++ (record { number = e j; instruction = x } ∷ [])))
 
-map-last : (f : Numbered → ℕ) (xs : List Numbered) (x : Numbered) → map f (xs ++ (x ∷ [])) ≡ map f xs ++ (f x ∷ [])
-map-last f [] x = refl
-map-last f (y ∷ ys) x = ap (λ (l : List ℕ). f y ∷ l) (map-last f ys x)
-
 pub timed-none : (is : List Instruction) (times issues : List ℕ) → Timed (numbered 1 (take 0 is)) (take 0 times) (take 0 issues)
 unfolding numbered
 timed-none is times issues = record { effective = refl; issued = refl }
@@ -49,7 +45,7 @@ module _ (is : List Instruction) (i : ℕ) (h : i < length is) where
   time-more : (f : Numbered → ℕ) (ts : List ℕ) (v : ℕ) → i < length ts →
       v ≡ f (record { number = 1 + length (take i is); instruction = getD is i (noNumbered .instruction) }) →
       take i ts ≡ map f (numbered 1 (take i is)) → take (i + 1) (set ts i v) ≡ map f (numbered 1 (take (i + 1) is))
-  time-more f ts v k e q = rw (one-more, map-last f (numbered 1 (take i is)), add-one, take-suc-set ts i v k, q, e)
+  time-more f ts v k e q = rw (one-more, map-append f (numbered 1 (take i is)), add-one, take-suc-set ts i v k, q, e)
 
   pub timed-more : (times issues : List ℕ) → i < length times → i < length issues → Timed (numbered 1 (take i is)) (take i times) (take i issues) →
       let x : Instruction = getD is i (noNumbered .instruction) in

@@ -7,11 +7,11 @@ ghost use Rattle.level.specs.Lists.{filled};
 ghost use Rattle.level.specs.Choice.{pick};
 ghost use Rattle.level.specs.Numbers.{instructionPlaces};
 ghost use Rattle.validation.specs.declared.Numbered.{Numbered};
-ghost use Rattle.validation.specs.Kept.{numbered, acting, actors, lateMarks};
+ghost use Rattle.validation.specs.Kept.{numbered, acting, actors};
 ghost use Rattle.validation_groups.specs.Working.{Timed, Table, risingFrom};
 ghost use Rattle.validation_kept.specs.Outcome.{validationOf};
-ghost use Rattle.validation_kept.specs.Late.{lateFateBy, LateFates, settled, actingWith, fatesTo};
-ghost use Rattle.validation_sequence.specs.Working.{entryNumber, Noted, Soon};
+ghost use Rattle.validation_kept.specs.Late.{lateFateBy, LateFates, SettledBy, actingWith, fatesTo};
+ghost use Rattle.validation_sequence.specs.Working.{Noted, Soon};
 
 // What steps 1 to 4 come to: the fates by number, those that act in time order, and how many these are.
 pub struct Validation {
@@ -73,7 +73,7 @@ fn settle_late(
     before: [u8; level::INSTRUCTIONS],
 ) -> [u8; level::INSTRUCTIONS]
     requires { ⌜ n ≤ instructionPlaces ⌝ }
-    ensures { λ r. ⌜ ((end : ℕ) (ks : List Numbered) → n ≤ length ks → Noted entryNumber (now (numbers .entry)) ks n → LateFates end ks n late → r ≡ settled before (lateMarks end (take n ks))) ⌝ }
+    ensures { λ r. ⌜ SettledBy (now (numbers .entry)) late n before r ⌝ }
 {
     let mut out = before;
     let mut i: usize = 0;

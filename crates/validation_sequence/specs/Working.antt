@@ -1,7 +1,7 @@
 -- Working. What the code of step 3 works with, beside the definitions.
 use Prim.Native.Nat.{ℕ, zero, suc, _+_, _-_, _<_, _≤_}
 use mathlib.Core.Path.{_≡_}
-use mathlib.Core.List.{List, [], _∷_}
+use mathlib.Core.List.{List, [], _∷_, map}
 use lib.Dec.{eqb}
 use lib.ListN.{length, set, getD, replicate}
 use Rattle.level.specs.Choice.{pick}
@@ -9,7 +9,7 @@ use Rattle.level.specs.Numbers.{instructionPlaces}
 use Rattle.records.specs.declared.Effect.the-variants.{Sync}
 use Rattle.records.specs.Codes.{same}
 use Rattle.validation.specs.declared.Numbered.{Numbered}
-use Rattle.validation.specs.Kept.{effectOf, Mark, Checked, failed, acting}
+use Rattle.validation.specs.Kept.{effectOf, Mark, mark, Checked, failed, acting}
 use Rattle.validation_groups.specs.Working.{noNumbered}
 
 -- ---- step 3: the kept ones stand in an array, the latest last; fates by number in another, 2 where none is settled
@@ -79,6 +79,11 @@ pub record PlaceKept (place height : ℕ) (fates : List ℕ) : Type 0 where
   pub low : place ≤ height
   pub few : height ≤ instructionPlaces
   pub long : length fates ≡ instructionPlaces
+
+-- those kept from one place on have fate 4
+pub record Voided (numbers fates : List ℕ) (from height : ℕ) (next : List ℕ) : Type 0 where
+  pub long : length next ≡ instructionPlaces
+  pub voids : (ks : List Numbered) → Noted entryNumber numbers ks height → next ≡ marked fates (map (mark 4) (stackFrom ks from (height - from)))
 
 -- after a FAIL: r of the kept ones stay, and the fates are those of the definition
 pub record FailedOne (numbers fates : List ℕ) (height place : ℕ) (sync o : Numbered) (next : List ℕ) (r : ℕ) : Type 0 where

@@ -2,16 +2,16 @@
 ghost use mathlib.Core.Path.{_≡_};
 ghost use Prim.Native.Nat.{_+_, _-_, _<_, _≤_};
 ghost use mathlib.Core.Bool.{true};
-ghost use mathlib.Core.List.{List, [], _∷_, map};
+ghost use mathlib.Core.List.{List, [], _∷_};
 ghost use lib.ListN.{length, take, getD};
 ghost use Rattle.level.specs.Choice.{pick};
 ghost use Rattle.level.specs.Numbers.{instructionPlaces};
 ghost use Rattle.records.specs.declared.Effect.the-variants.{Sync};
 ghost use Rattle.records.specs.Codes.{same};
 ghost use Rattle.validation.specs.declared.Numbered.{Numbered};
-ghost use Rattle.validation.specs.Kept.{effectOf, effectiveOf, mark, repeats, syncWithinHour, check, acting};
+ghost use Rattle.validation.specs.Kept.{effectOf, effectiveOf, repeats, syncWithinHour, check, acting};
 ghost use Rattle.validation_groups.specs.Working.{noNumbered};
-ghost use Rattle.validation_sequence.specs.Working.{entryNumber, Noted, stackOf, stackFrom, syncPlace, Synced, setFate, marked, noneChecked, PlaceKept, FailedOne, SetsOut, never, StepThree};
+ghost use Rattle.validation_sequence.specs.Working.{stackOf, syncPlace, Synced, setFate, noneChecked, PlaceKept, Voided, FailedOne, SetsOut, never, StepThree};
 
 // ---- step 3: in time order, against the last kept one
 
@@ -113,7 +113,7 @@ fn void_from(
     fates: &mut [u8; level::INSTRUCTIONS],
 )
     requires { ⌜ PlaceKept from height (now fates) ⌝ }
-    ensures { λ r. ⌜ (length (now (fates .exit)) ≡ instructionPlaces) × ((ks : List Numbered) → Noted entryNumber (now (numbers .entry)) ks height → now (fates .exit) ≡ marked (now (fates .entry)) (map (mark 4) (stackFrom ks from (height - from)))) ⌝ }
+    ensures { λ r. ⌜ Voided (now (numbers .entry)) (now (fates .entry)) from height (now (fates .exit)) ⌝ }
 {
     let mut i = from;
     while i < height {

@@ -57,7 +57,7 @@ returns-2 c =
     }
 
 put-fate-requires-3 : tie.Need-put-fate-requires-3
-put-fate-requires-3 c κs = c .before .void-from .ensures .0
+put-fate-requires-3 c κs = c .before .void-from .ensures .long
 
 returns-3 : tie.Need-returns-3
 returns-3 c =
@@ -67,9 +67,9 @@ returns-3 c =
     let e = c .put-fate3 .ensures in
     record {
       low = omega arith;
-      long = rw (e, set-length) (v .void-from .ensures .0);
+      long = rw (e, set-length) (v .void-from .ensures .long);
       follows = λ ks t p q.
-          rw (e, v .void-from .ensures .1 ks t) (failed-void (checking ks (a .height) (a .fates .now)) (a .o) (a .place - 1) (omega arith)
+          rw (e, v .void-from .ensures .voids ks t) (failed-void (checking ks (a .height) (a .fates .now)) (a .o) (a .place - 1) (omega arith)
           (omega arith) (sym (hour-told h ks p q) ∙ not-false _ (v .before .before .if2 .left)));
     }
 

@@ -59,7 +59,7 @@ returns : tie.Need-returns Inv-loop μ-loop
 returns c =
     let l = c .before .loop in
     let z : l .i ≡ c .before .before .args .height = omega arith in
-    (l .inv .long, λ ks e. rw z at (l .inv .voided ks e))
+    record { long = l .inv .long; voids = λ ks e. rw z at (l .inv .voided ks e) }
 
 pub void-from-spec : {M : Type 1} → statement M
 void-from-spec =
