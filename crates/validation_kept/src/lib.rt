@@ -38,7 +38,8 @@ fn first_fate(first: bool, fate: u8, second: bool, other: u8) -> u8
     0
 }
 
-// The fate that step 4 gives one that acts at the time own: 6 where the earliest of those after it acts no later, else 8 where it acts at the day's end or later; 0 where it acts.
+// The fate that step 4 gives one that acts at the time own: 6 where the earliest of those after it acts no later, else 8 where it
+// acts at the day's end or later; 0 where it acts.
 fn late_fate(earliest: u64, own: u64, end: u32) -> u8
     ensures { λ r. ⌜ r ≡ lateFateBy end own earliest ⌝ }
 {
@@ -198,7 +199,8 @@ fn none_entered() -> Validation
     }
 }
 
-// Which of the first `count` instructions are kept, in a day of `end` seconds. A count above forty reads like forty; where there is none, nothing is looked at.
+// Which of the first `count` instructions are kept, in a day of `end` seconds. A count above forty reads like forty; where there
+// is none, nothing is looked at.
 pub fn validate(
     instructions: [records::Instruction; level::INSTRUCTIONS],
     count: usize,

@@ -123,7 +123,8 @@ fn void_from(
     }
 }
 
-// A FAIL: fate 5. Where the latest kept SYNC, the one before this place, is within the hour, that SYNC and all kept after it get fate 4 and leave the list.
+// A FAIL: fate 5. Where the latest kept SYNC, the one before this place, is within the hour, that SYNC and all kept after it get
+// fate 4 and leave the list.
 fn fail_one(
     numbers: &[u32; level::INSTRUCTIONS],
     height: usize,
@@ -149,7 +150,8 @@ fn fail_one(
     below
 }
 
-// Step 3 over those used: each against the last kept one. The kept ones move up to the first places; their numbers and acting times go beside them, and the fates to their numbers.
+// Step 3 over those used: each against the last kept one. The kept ones move up to the first places; their numbers and acting
+// times go beside them, and the fates to their numbers.
 pub fn check_all(
     used: validation_groups::Sequence,
     fates: &mut [u8; level::INSTRUCTIONS],

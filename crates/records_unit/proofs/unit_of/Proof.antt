@@ -25,9 +25,9 @@ returns c =
       hot = getD ns 3 0;
       warm = getD ns 4 0;
       columns = hot-column i ∷ warm-column i ∷ cold-column i ∷ [];
-      up = record { rates = (ramp-up .0) i; breaks = (ramp-up .1) i };
+      up = record { rates = ramp-up .rates i; breaks = ramp-up .breaks i };
       dwells = first i ∷ second i ∷ third i ∷ [];
-      down = record { rates = (ramp-down .0) i; breaks = (ramp-down .1) i };
+      down = record { rates = ramp-down .rates i; breaks = ramp-down .breaks i };
       deload = record { rates = getD ns 59 0 ∷ getD ns 60 0 ∷ []; breaks = getD ns 61 0 ∷ [] };
     }
 
