@@ -2,12 +2,12 @@
 use mathlib.Core.Path.{_≡_, refl, sym, ap, _∙_}
 use mathlib.Core.List.{List, [], _∷_, _++_, map, map-append}
 use mathlib.Core.Bool.{Bool, _||_}
-use Prim.Native.Nat.{ℕ, zero, suc, _+_, _-_, _≤_, _<_, min}
+use Prim.Native.Nat.{ℕ, zero, suc, _+_, _≤_, _<_, min}
 use native.Mathlib.Numerals.{add-one}
 use native.Mathlib.Decide.{decLe, ℕ-discrete}
 use native.Mathlib.Omega.{arith}
 use lib.Dec.{leb}
-use lib.ListN.{length, take, drop, getD, set, length-append, List·getD-eq-default}
+use lib.ListN.{length, take, drop, getD, set, length-append}
 use lib.Seq.{take-suc, take-suc-set, getD-take, getD-set-same, getD-set-other}
 use borrow.Author.Tests.{le-leb, lt-leb, eq-eqb, ne-eqb}
 use Rattle.level.specs.Choice.{pick}
@@ -54,26 +54,6 @@ module _ (is : List Instruction) (i : ℕ) (h : i < length is) where
     effective = time-more effectiveOf times _ p refl (t .effective);
     issued = time-more issueTimeOf issues _ q refl (t .issued);
   }
-
--- ---- fates in an array
-module _ (fates : List ℕ) (number fate : ℕ) where
-  pub settle-zero : number ≡ 0 → fates ≡ settleFate fates number fate
-  unfolding settleFate
-  settle-zero e = simp (eq-eqb _ _ e)
-
-  pub settle-large : length fates ≡ instructionPlaces → instructionPlaces ≤ number - 1 → fates ≡ settleFate fates number fate
-  unfolding settleFate
-  settle-large l h =
-      let n : number ≡ 0 → ⊥ = omega arith in
-      simp (ne-eqb _ _ n, List·getD-eq-default fates 0 {n = number - 1} (omega arith))
-
-  pub settle-done : (number ≡ 0 → ⊥) → (getD fates (number - 1) 0 ≡ 2 → ⊥) → fates ≡ settleFate fates number fate
-  unfolding settleFate
-  settle-done n d = simp (ne-eqb _ _ n, ne-eqb _ _ d)
-
-  pub settle-some : (number ≡ 0 → ⊥) → getD fates (number - 1) 0 ≡ 2 → set fates (number - 1) fate ≡ settleFate fates number fate
-  unfolding settleFate
-  settle-some n d = simp (ne-eqb _ _ n, eq-eqb _ _ d)
 
 -- ---- step 4
 leb-min : (e a own : ℕ) → (leb a own || leb e own) ≡ leb (min e a) own

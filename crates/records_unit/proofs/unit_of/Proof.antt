@@ -10,24 +10,18 @@ unfolding unitOf
 returns c =
     let s = c .before .before .before .before in
     let ns = s .before .before .before .before .args .t1 in
-    let hot-column = s .before .before .before .column-of .ensures in
-    let warm-column = s .before .before .column-of2 .ensures in
-    let cold-column = s .before .column-of3 .ensures in
-    let first = c .before .before .before .trigger-of .ensures in
-    let second = c .before .before .trigger-of2 .ensures in
-    let third = c .before .trigger-of3 .ensures in
-    let ramp-up = s .ramp-at .ensures in
-    let ramp-down = c .ramp-at2 .ensures in
     λ i. record {
       capacity = getD ns 0 0;
       maximum = getD ns 1 0;
       msg = getD ns 2 0;
       hot = getD ns 3 0;
       warm = getD ns 4 0;
-      columns = hot-column i ∷ warm-column i ∷ cold-column i ∷ [];
-      up = record { rates = ramp-up .rates i; breaks = ramp-up .breaks i };
-      dwells = first i ∷ second i ∷ third i ∷ [];
-      down = record { rates = ramp-down .rates i; breaks = ramp-down .breaks i };
+      columns =
+          s .before .before .before .column-of .ensures i ∷ s .before .before .column-of2 .ensures i ∷ s .before .column-of3 .ensures i ∷ [];
+      up = record { rates = s .ramp-at .ensures .rates i; breaks = s .ramp-at .ensures .breaks i };
+      dwells =
+          c .before .before .before .trigger-of .ensures i ∷ c .before .before .trigger-of2 .ensures i ∷ c .before .trigger-of3 .ensures i ∷ [];
+      down = record { rates = c .ramp-at2 .ensures .rates i; breaks = c .ramp-at2 .ensures .breaks i };
       deload = record { rates = getD ns 59 0 ∷ getD ns 60 0 ∷ []; breaks = getD ns 61 0 ∷ [] };
     }
 

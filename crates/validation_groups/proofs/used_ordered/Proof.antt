@@ -74,7 +74,7 @@ further u =
     (r .run-end .ensures) (u .used-at .ensures)
 
 loop-less-2 : tie.Need-loop-less-2 Inv-loop μ-loop
-loop-less-2 c = let r = c .before .before .before .before .before in omega (arith, r .run-end .ensures .starts)
+loop-less-2 c = let u = c .before .before .before in omega (arith, u .before .before .run-end .ensures .starts)
 
 loop-again-2 : tie.Need-loop-again-2 Inv-loop μ-loop
 unfolding pushed joined

@@ -1,16 +1,17 @@
 use Prim.Native.Nat.{ℕ, _≤_, _-_, _+_}
 use mathlib.Core.Path.{_≡_, refl, ap, _∙_}
 use mathlib.Core.List.{List}
-use lib.ListN.{length, take, drop, getD, length-set}
+use lib.ListN.{length, take, drop, getD, length-set, List·getD-eq-default}
 use Rattle.level.specs.Numbers.{instructionPlaces}
 use Rattle.validation.specs.declared.Numbered.{Numbered}
 use Rattle.validation.specs.Kept.{lateMarks}
 use Rattle.validation_kept.specs.Late.{settleFate, settled, LateFates}
 use Rattle.validation_sequence.specs.Working.{entryNumber, Noted}
 use Rattle.level.proofs.Lists.{left-none}
-use Rattle.validation_kept.proofs.Late.{settle-zero, settle-large, settle-done, settle-some, settled-more}
+use Rattle.validation_kept.proofs.Late.{settled-more}
 use native.Mathlib.Omega.{arith}
 use borrow.Author.Needs.{needs}
+use borrow.Author.Tests.{eq-eqb, ne-eqb}
 use Rattle.validation_kept.proofs.settle_late.Statement.{statement}
 use Rattle.validation_kept.proofs.settle_late.Tie as tie
 
@@ -52,29 +53,35 @@ more x next long q =
     }
 
 loop-again : tie.Need-loop-again Inv-loop μ-loop
-loop-again c = let x = c .before .before in more x _ (x .before .loop .inv .long) (settle-zero _ _ _ (c .if1 .taken))
+unfolding settleFate
+loop-again c = let x = c .before .before in more x _ (x .before .loop .inv .long) (simp (eq-eqb _ _ (c .if1 .taken)))
 
 -- where the number is not 0
 abbrev inside : tie.Else1 Inv-loop μ-loop → tie.In-loop Inv-loop μ-loop
 inside e = e .before .before
 
 loop-again-2 : tie.Need-loop-again-2 Inv-loop μ-loop
+unfolding settleFate
 loop-again-2 c =
-    let x = inside (c .before .before) in
-    let long = x .before .loop .inv .long in
-    more x _ long (settle-large _ _ _ long (omega arith))
+    let e = c .before .before in
+    let k = inside e .before in
+    let l = k .loop in
+    let none = List·getD-eq-default (l .out) 0 {n = getD (k .before .args .numbers .now) (l .i) 0 - 1} (omega arith) in
+    more (inside e) _ (l .inv .long) (simp (ne-eqb _ _ (e .if1 .left), none))
 
 loop-again-3 : tie.Need-loop-again-3 Inv-loop μ-loop
+unfolding settleFate
 loop-again-3 c =
-    let x = inside (c .before .before .before) in
+    let e = c .before .before .before in
     let place = c .before .before .place-of .ensures in
-    more x _ (x .before .loop .inv .long) (settle-done _ _ _ (omega arith) (rw place at (c .if3 .taken)))
+    more (inside e) _ (inside e .before .loop .inv .long) (simp (ne-eqb _ _ (e .if1 .left), ne-eqb _ _ (rw place at (c .if3 .taken))))
 
 loop-again-4 : tie.Need-loop-again-4 Inv-loop μ-loop
+unfolding settleFate
 loop-again-4 c =
-    let x = inside (c .before .before .before) in
+    let e = c .before .before .before in
     let place = c .before .before .place-of .ensures in
-    more x _ (simp length-set (omega arith)) (rw place (settle-some _ _ _ (omega arith) (rw place at (c .if3 .left))))
+    more (inside e) _ (simp length-set (omega arith)) (rw place (simp (ne-eqb _ _ (e .if1 .left), eq-eqb _ _ (rw place at (c .if3 .left)))))
 
 returns : tie.Need-returns Inv-loop μ-loop
 unfolding settled lateMarks
