@@ -1,13 +1,11 @@
 // A unit's body: its 62 numbers, the unit that they make, their ranges, and whether the figures agree (refusals 3 and 4).
 ghost use mathlib.Core.Path.{_≡_};
 ghost use Prim.Native.Nat.{_+_, _<_, _≤_};
-ghost use mathlib.Core.List.{[], _∷_};
-ghost use lib.ListN.{getD};
 ghost use Rattle.records.specs.Records.{numbers, triggerOf, columnOf, unitOf};
 ghost use lib.Dec.{ltb};
 ghost use Rattle.level.specs.Lists.{some};
 ghost use Rattle.records.specs.Fields.{unitRanges, fitFrom, falls, disagrees};
-ghost use Rattle.records_unit.specs.Decoded.{unitRead, unitAnswerFor};
+ghost use Rattle.records_unit.specs.Decoded.{unitRead, unitAnswerFor, RampAt};
 use records::Answer;
 use records::Column;
 use records::Deload;
@@ -61,7 +59,7 @@ fn column_of(ns: [u32; 62], at: usize) -> Column
 // The ramp list whose nine numbers begin at a place.
 fn ramp_at(ns: [u32; 62], at: usize) -> Ramp
     requires { ⌜ at + 9 ≤ 62 ⌝ }
-    ensures { λ r. ⌜ (r .rates ≡ getD ns at 0 ∷ getD ns (at + 1) 0 ∷ getD ns (at + 2) 0 ∷ getD ns (at + 3) 0 ∷ getD ns (at + 4) 0 ∷ []) × (r .breaks ≡ getD ns (at + 5) 0 ∷ getD ns (at + 6) 0 ∷ getD ns (at + 7) 0 ∷ getD ns (at + 8) 0 ∷ []) ⌝ }
+    ensures { λ r. ⌜ RampAt ns at r ⌝ }
 {
     let rates = [ns[at], ns[at + 1], ns[at + 2], ns[at + 3], ns[at + 4]];
     let breaks = [ns[at + 5], ns[at + 6], ns[at + 7], ns[at + 8]];

@@ -6,7 +6,7 @@ use Prim.Native.Nat.{ℕ, _<_}
 use lib.Dec.{leb, eqb, nleb→lt}
 use Rattle.level.specs.Choice.{pick}
 use Rattle.level.specs.Lists.{All, some}
-use Rattle.level.proofs.Lists.{or-false}
+use Rattle.level.proofs.Lists.{by-bool, or-false}
 use Rattle.validation.specs.declared.Numbered.{Numbered}
 use Rattle.validation.specs.Kept.{acting, overtaken, lateFate, actors, keptOf, validated}
 
@@ -36,30 +36,24 @@ module _ (end : ℕ) where
   actors-all : (P : Numbered → Type 0) (os : List Numbered) → All P os → All P (actors end os)
   unfolding actors
   actors-all P [] h = tt
-  actors-all P (o ∷ os) h = go (eqb (lateFate end o os) 0) (actors-all P os (h .1))
-    where
-      go : (b : Bool) → All P (actors end os) → All P (pick b (o ∷ actors end os) (actors end os))
-      go true ih = (h .0, ih)
-      go false ih = ih
+  actors-all P (o ∷ os) h =
+      let ih = actors-all P os (h .1) in
+      by-bool (eqb (lateFate end o os) 0) (λ e. rw e (h .0, ih)) (λ e. rw e ih)
 
   pub actors-before : (os : List Numbered) → All (λ o. acting o < end) (actors end os)
   unfolding actors
   actors-before [] = tt
-  actors-before (o ∷ os) = go (eqb (lateFate end o os) 0) refl (actors-before os)
-    where
-      go : (b : Bool) → eqb (lateFate end o os) 0 ≡ b → All (λ o. acting o < end) (actors end os) →
-          All (λ o. acting o < end) (pick b (o ∷ actors end os) (actors end os))
-      go true e ih = (acts end o os e .1, ih)
-      go false e ih = ih
+  actors-before (o ∷ os) =
+      let ih = actors-before os in
+      by-bool (eqb (lateFate end o os) 0) (λ e. rw e (acts end o os e .1, ih)) (λ e. rw e ih)
 
   pub actors-rise : (os : List Numbered) → Rises (actors end os)
   unfolding actors
   actors-rise [] = tt
-  actors-rise (o ∷ os) = go (eqb (lateFate end o os) 0) refl (actors-rise os)
-    where
-      go : (b : Bool) → eqb (lateFate end o os) 0 ≡ b → Rises (actors end os) → Rises (pick b (o ∷ actors end os) (actors end os))
-      go true e ih = (actors-all (λ l. acting o < acting l) os (not-overtaken o os (acts end o os e .0)), ih)
-      go false e ih = ih
+  actors-rise (o ∷ os) =
+      let ih = actors-rise os in
+      by-bool (eqb (lateFate end o os) 0)
+      (λ e. rw e (actors-all (λ l. acting o < acting l) os (not-overtaken o os (acts end o os e .0)), ih)) (λ e. rw e ih)
 
   -- of any instructions at all
   pub acting-rise : (os : List Numbered) → Rises (validated end os .acts) × All (λ o. acting o < end) (validated end os .acts)

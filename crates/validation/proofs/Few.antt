@@ -1,12 +1,10 @@
 -- No more act than were entered, and every fate is a digit.
 use mathlib.Core.Path.{_≡_, refl, ap}
 use mathlib.Core.List.{List, [], _∷_, _++_, map}
-use mathlib.Core.Bool.{Bool, true, false}
 use Prim.Native.Nat.{ℕ, zero, suc, _+_, _≤_}
 use native.Mathlib.Omega.{arith}
 use lib.Dec.{leb, ltb, eqb}
 use lib.ListN.{length, length-append}
-use Rattle.level.specs.Choice.{pick}
 use Rattle.level.specs.Lists.{All, those}
 use Rattle.level.proofs.Lists.{by-bool, map-length, all-append}
 use Rattle.records.specs.declared.Effect.{Effect}
@@ -36,17 +34,12 @@ present-one c g = first-one (those (λ (o : Numbered). same (effectOf o) c) g)
 
 merged-one : (g : List Numbered) (o : Numbered) → length (merged g o) ≤ 1
 unfolding merged
-merged-one g o = go (same (effectOf o) Mwof)
-  where
-    carrier : List Numbered
-    carrier = orElse (present Sync g) (present Desy g)
-
-    go : (b : Bool) → length (pick b (orElse (map (carrying o) carrier) (o ∷ [])) (o ∷ [])) ≤ 1
-    go true =
-        or-else (map (carrying o) carrier) (o ∷ []) (omega
-        (arith, map-length (carrying o) carrier, or-else (present Sync g) (present Desy g) (present-one Sync g) (present-one Desy g)))
-        (omega arith)
-    go false = omega arith
+merged-one g o =
+    let carrier : List Numbered = orElse (present Sync g) (present Desy g) in
+    let one = or-else (present Sync g) (present Desy g) (present-one Sync g) (present-one Desy g) in
+    by-bool (same (effectOf o) Mwof)
+    (λ e. rw e (or-else (map (carrying o) carrier) (o ∷ []) (omega (arith, map-length (carrying o) carrier)) (omega arith)))
+    (λ e. rw e (omega arith))
 
 used-one : (g : List Numbered) → length (usedOf g) ≤ 1
 unfolding usedOf
@@ -56,23 +49,19 @@ used-one (o ∷ os) = merged-one (o ∷ os) (highest o os)
 used-few : (end : ℕ) (os : List Numbered) (n t : ℕ) → length (usedFrom end os n t) ≤ n
 unfolding usedFrom
 used-few end os zero t = omega arith
-used-few end os (suc n) t = go (ltb (nextTime end os t) end) (used-few end os n (suc (nextTime end os t)))
-  where
-    go : (b : Bool) → length (usedFrom end os n (suc (nextTime end os t))) ≤ n →
-        (let l : List Numbered = elim b [ true ↦ usedOf (group os (nextTime end os t)) ++ usedFrom end os n (suc (nextTime end os t)) | false ↦ [] ]
-        in length l) ≤ suc n
-    go true ih = simp length-append (omega (arith, used-one (group os (nextTime end os t))))
-    go false ih = omega arith
+used-few end os (suc n) t =
+    let next = nextTime end os t in
+    by-bool (ltb next end)
+    (λ e. rw (e, usedFrom) (simp length-append (omega (arith, used-one (group os next), used-few end os n (suc next)))))
+    (λ e. rw (e, usedFrom) (omega arith))
 
 -- ---- kept
 before-fewer : (ks : List Numbered) → length (beforeSync ks) ≤ length ks
 unfolding beforeSync
 before-fewer [] = omega arith
-before-fewer (k ∷ ks) = go (same (effectOf k) Sync) (before-fewer ks)
-  where
-    go : (b : Bool) → length (beforeSync ks) ≤ length ks → length (pick b ks (beforeSync ks)) ≤ suc (length ks)
-    go true ih = omega arith
-    go false ih = omega arith
+before-fewer (k ∷ ks) =
+    let ih = before-fewer ks in
+    by-bool (same (effectOf k) Sync) (λ e. rw e (omega arith)) (λ e. rw e (omega arith))
 
 check-one : (s : Checked) (o : Numbered) → length (checkOne s o .kept) ≤ suc (length (s .kept))
 unfolding checkOne failed
@@ -94,11 +83,9 @@ turned-length (x ∷ xs) ys = omega (arith, turned-length xs (x ∷ ys))
 actors-fewer : (end : ℕ) (os : List Numbered) → length (actors end os) ≤ length os
 unfolding actors
 actors-fewer end [] = omega arith
-actors-fewer end (o ∷ os) = go (eqb (lateFate end o os) 0) (actors-fewer end os)
-  where
-    go : (b : Bool) → length (actors end os) ≤ length os → length (pick b (o ∷ actors end os) (actors end os)) ≤ suc (length os)
-    go true ih = omega arith
-    go false ih = omega arith
+actors-fewer end (o ∷ os) =
+    let ih = actors-fewer end os in
+    by-bool (eqb (lateFate end o os) 0) (λ e. rw e (omega arith)) (λ e. rw e (omega arith))
 
 pub acts-few : (end : ℕ) (os : List Numbered) → length (validated end os .acts) ≤ length os
 unfolding validated keptOf used
@@ -143,12 +130,8 @@ module _ (P : ℕ → Type 0) where
     pub late-fated : (end : ℕ) (os : List Numbered) → Fated P (lateMarks end os)
     unfolding lateMarks lateFate
     late-fated end [] = tt
-    late-fated end (o ∷ os) = (go (overtaken o os) (leb end (acting o)), late-fated end os)
-      where
-        go : (a b : Bool) → P (pick a 6 (pick b 8 0))
-        go true b = p6
-        go false true = p8
-        go false false = p0
+    late-fated end (o ∷ os) =
+        (by-bool (overtaken o os) (λ e. rw e p6) (λ e. by-bool (leb end (acting o)) (λ f. rw (e, f) p8) (λ f. rw (e, f) p0)), late-fated end os)
 
 -- ---- fates
 abbrev pub Digits : List Mark → Type 0
@@ -169,20 +152,13 @@ marks-digits end os =
 among-digit : (n : ℕ) (ms : List Mark) → Digits ms → fateAmong n ms ≤ 8
 unfolding fateAmong
 among-digit n [] d = omega arith
-among-digit n (m ∷ ms) d = go (eqb (m .number) n) (among-digit n ms (d .1))
-  where
-    go : (b : Bool) → fateAmong n ms ≤ 8 → pick b (m .fate) (fateAmong n ms) ≤ 8
-    go true ih = d .0
-    go false ih = ih
+among-digit n (m ∷ ms) d = by-bool (eqb (m .number) n) (λ e. rw e (d .0)) (λ e. rw e (among-digit n ms (d .1)))
 
 pub fates-digits : (all : List Numbered) (ms : List Mark) (os : List Numbered) → Digits ms → All (λ (f : ℕ). f ≤ 8) (fatesOf all ms os)
 unfolding fatesOf
 fates-digits all ms [] d = tt
-fates-digits all ms (o ∷ os) d = (go (superseded all o), fates-digits all ms os d)
-  where
-    go : (b : Bool) → pick b 1 (fateAmong (o .number) ms) ≤ 8
-    go true = omega arith
-    go false = among-digit (o .number) ms d
+fates-digits all ms (o ∷ os) d =
+    (by-bool (superseded all o) (λ e. rw e (omega arith)) (λ e. rw e (among-digit (o .number) ms d)), fates-digits all ms os d)
 
 pub fates-length : (all : List Numbered) (ms : List Mark) (os : List Numbered) → length (fatesOf all ms os) ≡ length os
 unfolding fatesOf

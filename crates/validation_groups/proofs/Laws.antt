@@ -2,31 +2,31 @@
 use mathlib.Core.Path.{_≡_, refl, sym, ap, _∙_}
 use mathlib.Core.List.{List, [], _∷_, _++_, map, append-assoc, append-nil}
 use mathlib.Core.Bool.{Bool, true, false, _&&_, _||_, not}
-use Prim.Native.Nat.{ℕ, zero, suc, _+_, _-_, _≤_, _<_, min, max}
+use Prim.Native.Nat.{ℕ, zero, suc, _+_, _≤_, _<_, min, max}
 use native.Mathlib.Numerals.{add-one}
 use native.Mathlib.Decide.{decLe}
 use native.Mathlib.Omega.{arith}
 use lib.Dec.{leb, ltb, eqb}
-use lib.ListN.{length, take, drop, getD, set, length-take, length-append}
+use lib.ListN.{length, take, drop, getD, set, length-take, length-append, List·getD-map}
 use lib.Seq.{getD-take, length-take-le, take-all}
-use borrow.Author.Tests.{lt-ltb, le-ltb, le-leb, lt-leb, eq-eqb, ne-eqb}
+use borrow.Author.Tests.{lt-ltb, le-ltb, eq-eqb, ne-eqb}
 use Rattle.level.specs.Choice.{pick}
 use Rattle.level.specs.Numbers.{instructionPlaces}
 use Rattle.level.specs.Lists.{some, those}
 use Rattle.level.proofs.Arrays.{filled-listed, filled-push}
-use Rattle.level.proofs.Lists.{map-length, left-cons}
+use Rattle.level.proofs.Lists.{by-bool, map-length, left-cons}
 use Rattle.records.specs.declared.Effect.{Effect}
 use Rattle.records.specs.declared.Effect.the-variants.{Sync, Desy}
 use Rattle.records.specs.Codes.{same}
 use Rattle.validation.specs.declared.Numbered.{Numbered}
 use Rattle.records.specs.declared.Instruction.{Instruction}
 use Rattle.validation.proofs.Few.{numbered-length}
-use Rattle.validation.specs.Kept.{numbered, effectiveOf, effectOf, superseded, group, highest, firstOne, orElse, present, usedOf, nextTime, usedFrom, used}
-use Rattle.validation_rank.specs.Found.{foundList, bestFrom}
-use Rattle.validation_groups.specs.Working.{noNumbered, numberedAt, sequenceOf, pushed, joined, issueTimeOf, Timed, laterOf, latestAt, supersededAmong, earlierOf, nextTimeAmong}
+use Rattle.validation.specs.Kept.{numbered, effectiveOf, effectOf, superseded, group, highest, orElse, present, usedOf, nextTime, usedFrom}
+use Rattle.validation_rank.specs.Picked.{pickedList, bestFrom}
+use Rattle.validation_groups.specs.Working.{noNumbered, numberedAt, sequenceOf, pushed, joined, Holds, issueTimeOf, Timed, laterOf, latestAt, supersededAmong, earlierOf, nextTimeAmong}
 use Rattle.validation_groups.specs.declared.Sequence.{Sequence}
-use Rattle.validation_rank.specs.declared.Found.{Found}
-use Rattle.validation_rank.specs.declared.Found.the-variants.{One, Nothing}
+use Rattle.validation_rank.specs.declared.Picked.{Picked}
+use Rattle.validation_rank.specs.declared.Picked.the-variants.{One, Nothing}
 
 -- ---- what is left of the first n places, from the place i on
 module _ {A : Type 0} (xs : List A) (n : ℕ) where
@@ -76,61 +76,23 @@ module _ {s : Sequence} {rest whole : List Numbered} where
   unfolding pushed
   begun-store k o e h b = rw e at (begun-push o (omega arith) b)
 
-  pub begun-found : (f : Found) → s .count < instructionPlaces → Begun s (foundList f ++ rest) whole → Begun (joined s f) rest whole
+  pub begun-picked : (f : Picked) → s .count < instructionPlaces → Begun s (pickedList f ++ rest) whole → Begun (joined s f) rest whole
   unfolding joined
-  begun-found (One o) h b = begun-push o h b
-  begun-found Nothing h b = b
+  begun-picked (One o) h b = begun-push o h b
+  begun-picked Nothing h b = b
 
 -- the list that a sequence holds
-pub held : {s : Sequence} {xs : List Numbered} → s ≡ sequenceOf xs → s .count ≤ instructionPlaces → take (s .count) (s .items) ≡ xs
-held {s} {xs} e h =
-    ap (λ (q : Sequence). take (q .count) (q .items)) e
-    ∙ filled-listed noNumbered instructionPlaces xs (omega (arith, ap (λ (q : Sequence). q .count) e))
+pub held : {s : Sequence} {xs : List Numbered} → Holds s xs → take (s .count) (s .items) ≡ xs
+held {s} {xs} h =
+    ap (λ (q : Sequence). take (q .count) (q .items)) (h .exactly)
+    ∙ filled-listed noNumbered instructionPlaces xs (omega (arith, ap (λ (q : Sequence). q .count) (h .exactly)))
 
-pub joined-count : (s : Sequence) (f : Found) → joined s f .count ≤ s .count + 1
+pub joined-count : (s : Sequence) (f : Picked) → joined s f .count ≤ s .count + 1
 unfolding joined pushed
 joined-count s (One o) = omega arith
 joined-count s Nothing = omega arith
 
 -- ---- the effective times and the issue times
-module _ (x j t best : ℕ) where
-  pub later-other : (x ≡ t → ⊥) → best ≡ laterOf x j t best
-  unfolding laterOf
-  later-other h = simp (ne-eqb _ _ h)
-
-  pub later-same : x ≡ t → max j best ≡ laterOf x j t best
-  unfolding laterOf
-  later-same h = rw (eq-eqb _ _ h)
-
-module _ (x t best : ℕ) where
-  pub earlier-past : x < t → best ≡ earlierOf x t best
-  unfolding earlierOf
-  earlier-past h = simp (lt-leb _ _ h)
-
-  pub earlier-from : t ≤ x → min x best ≡ earlierOf x t best
-  unfolding earlierOf
-  earlier-from h = rw (le-leb _ _ h)
-
-pub next-none : {ts : List ℕ} (end t : ℕ) → ts ≡ [] → nextTimeAmong end ts t ≡ end
-unfolding nextTimeAmong
-next-none end t e = rw e
-
-pub latest-none : {ts : List ℕ} (js : List ℕ) (t : ℕ) → ts ≡ [] → latestAt ts js t ≡ 0
-unfolding latestAt
-latest-none js t e = rw e
-
-module _ (ts : List ℕ) (n : ℕ) (fits : n ≤ length ts) where
-  pub next-more : (end t i : ℕ) → i < n →
-      earlierOf (getD ts i 0) t (nextTimeAmong end (drop (i + 1) (take n ts)) t) ≡ nextTimeAmong end (drop i (take n ts)) t
-  unfolding nextTimeAmong
-  next-more end t i h = rw (left-cons ts n i 0 h fits)
-
-  pub latest-more : (js : List ℕ) → n ≤ length js → (t i : ℕ) → i < n →
-      laterOf (getD ts i 0) (getD js i 0) t (latestAt (drop (i + 1) (take n ts)) (drop (i + 1) (take n js)) t) ≡ latestAt (drop i (take n ts))
-      (drop i (take n js)) t
-  unfolding latestAt
-  latest-more js room t i h = rw (left-cons ts n i 0 h fits, left-cons js n i 0 h room)
-
 -- they say of the times what the definitions say of the instructions
 later-either : (e : Bool) (issue j best : ℕ) → ltb issue (pick e (max j best) best) ≡ ((e && ltb issue j) || ltb issue best)
 later-either false issue j best = refl
@@ -138,8 +100,7 @@ later-either true issue j best = elim (decLe (suc issue) j) [
   | yes h ↦ rw (lt-ltb issue j h, lt-ltb issue (max j best) (omega arith))
   | no h ↦ rw (le-ltb issue j (omega arith)) (elim (decLe (suc issue) best) [
     | yes k ↦ rw (lt-ltb issue best k, lt-ltb issue (max j best) (omega arith))
-    | no k ↦ rw
-        (le-ltb issue best (omega arith), le-ltb issue (max j best) (omega arith))
+    | no k ↦ rw (le-ltb issue best (omega arith), le-ltb issue (max j best) (omega arith))
   ])
 ]
 
@@ -164,11 +125,6 @@ module _ {os : List Numbered} {ts js : List ℕ} (timed : Timed os ts js) where
   pub next-is : (end t : ℕ) → nextTimeAmong end ts t ≡ nextTime end os t
   next-is end t = rw (timed .effective) (next-times end os t)
 
-map-at : (f : Numbered → ℕ) (xs : List Numbered) (i : ℕ) → getD (map f xs) i (f noNumbered) ≡ f (getD xs i noNumbered)
-map-at f [] i = refl
-map-at f (x ∷ xs) zero = refl
-map-at f (x ∷ xs) (suc i) = map-at f xs i
-
 -- as many as there are
 pub time-fits : (f : Numbered → ℕ) (os : List Numbered) (ts : List ℕ) (n : ℕ) → take n ts ≡ map f (take n os) → n ≤ length os → n ≤ length ts
 time-fits f os ts n e h = omega (arith, length-take n ts, ap length e, map-length f (take n os), length-take-le n os h)
@@ -177,14 +133,14 @@ pub time-at : (f : Numbered → ℕ) (os : List Numbered) (ts : List ℕ) (n i :
     getD ts i (f noNumbered) ≡ f (getD os i noNumbered)
 time-at f os ts n i e h =
     sym (getD-take n ts i (f noNumbered) h) ∙ (ap (λ (l : List ℕ). getD l i (f noNumbered)) e
-    ∙ (map-at f (take n os) i ∙ ap f (getD-take n os i noNumbered h)))
+    ∙ (List·getD-map f (take n os) i noNumbered ∙ ap f (getD-take n os i noNumbered h)))
 
 pub superseded-at : {os : List Numbered} {ts js : List ℕ} → Timed os ts js → (i : ℕ) →
     supersededAmong ts js (getD ts i 0) (getD js i 0) ≡ superseded os (getD os i noNumbered)
 superseded-at {os} {ts} {js} timed i =
     superseded-is timed (getD os i noNumbered) (getD ts i 0) (getD js i 0)
-    (ap (λ (l : List ℕ). getD l i 0) (timed .effective) ∙ map-at effectiveOf os i)
-    (ap (λ (l : List ℕ). getD l i 0) (timed .issued) ∙ map-at issueTimeOf os i)
+    (ap (λ (l : List ℕ). getD l i 0) (timed .effective) ∙ List·getD-map effectiveOf os i noNumbered)
+    (ap (λ (l : List ℕ). getD l i 0) (timed .issued) ∙ List·getD-map issueTimeOf os i noNumbered)
 
 -- left at the effective time t
 unfoldable pub inGroup : List Numbered → ℕ → Numbered → Bool
@@ -197,77 +153,57 @@ module _ (os : List Numbered) (t : ℕ) (o : Numbered) where
 
   pub group-gone : superseded os o ≡ true → inGroup os t o ≡ false
   unfolding inGroup
-  group-gone e = rw e (go (eqb (effectiveOf o) t))
-    where
-      go : (b : Bool) → (b && false) ≡ false
-      go true = refl
-      go false = refl
+  group-gone e = rw e (by-bool (eqb (effectiveOf o) t) (λ q. rw q) (λ q. rw q))
 
   pub group-left : effectiveOf o ≡ t → superseded os o ≡ false → inGroup os t o ≡ true
   unfolding inGroup
   group-left h e = simp (eq-eqb _ _ h, e)
 
 -- ---- a group walked: of those before, the highest ranked, the earliest SYNC and the earliest DESY; the rest is still to come
-pub record Walked (best sync desy : Found) (rest whole : List Numbered) : Type 0 where
-  pub highest-so : bestFrom (foundList best) rest ≡ bestFrom [] whole
-  pub sync-so : orElse (foundList sync) (present Sync rest) ≡ present Sync whole
-  pub desy-so : orElse (foundList desy) (present Desy rest) ≡ present Desy whole
+pub record Walked (best sync desy : Picked) (rest whole : List Numbered) : Type 0 where
+  pub highest-is : bestFrom (pickedList best) rest ≡ bestFrom [] whole
+  pub sync-is : orElse (pickedList sync) (present Sync rest) ≡ present Sync whole
+  pub desy-is : orElse (pickedList desy) (present Desy rest) ≡ present Desy whole
 
 pub walked-none : (whole : List Numbered) → Walked Nothing Nothing Nothing whole whole
-walked-none whole = record { highest-so = refl; sync-so = refl; desy-so = refl }
+walked-none whole = record { highest-is = refl; sync-is = refl; desy-is = refl }
 
-best-more : (f : Found) (o : Numbered) (rest : List Numbered) → bestFrom (bestFrom (foundList f) (o ∷ [])) rest ≡ bestFrom (foundList f) (o ∷ rest)
+best-more : (f : Picked) (o : Numbered) (rest : List Numbered) → bestFrom (bestFrom (pickedList f) (o ∷ [])) rest ≡ bestFrom (pickedList f) (o ∷ rest)
 unfolding bestFrom highest
 best-more (One b) o rest = refl
 best-more Nothing o rest = refl
 
-present-more : (code : Effect) (f : Found) (o : Numbered) (rest : List Numbered) →
-    orElse (orElse (foundList f) (present code (o ∷ []))) (present code rest) ≡ orElse (foundList f) (present code (o ∷ rest))
+present-more : (code : Effect) (f : Picked) (o : Numbered) (rest : List Numbered) →
+    orElse (orElse (pickedList f) (present code (o ∷ []))) (present code rest) ≡ orElse (pickedList f) (present code (o ∷ rest))
 unfolding present those
 present-more code (One b) o rest = refl
-present-more code Nothing o rest = go (same (effectOf o) code)
-  where
-    go : (b : Bool) →
-        orElse (firstOne (pick b (o ∷ []) [])) (firstOne (those (λ (x : Numbered). same (effectOf x) code) rest))
-        ≡ firstOne (pick b (o ∷ those (λ (x : Numbered). same (effectOf x) code) rest) (those (λ (x : Numbered). same (effectOf x) code) rest))
-    go true = refl
-    go false = refl
+present-more code Nothing o rest = by-bool (same (effectOf o) code) (λ e. rw e) (λ e. rw e)
 
 -- with o looked at
-pub walked-more : {best sync desy better s d : Found} {rest whole : List Numbered} (o : Numbered) →
-    foundList better ≡ bestFrom (foundList best) (o ∷ []) →
-    foundList s ≡ orElse (foundList sync) (present Sync (o ∷ [])) → foundList d ≡ orElse (foundList desy) (present Desy (o ∷ [])) → Walked best sync
-    desy (o ∷ rest) whole → Walked better s d rest whole
+pub walked-more : {best sync desy better s d : Picked} {rest whole : List Numbered} (o : Numbered) →
+    pickedList better ≡ bestFrom (pickedList best) (o ∷ []) → pickedList s ≡ orElse (pickedList sync) (present Sync (o ∷ [])) →
+    pickedList d ≡ orElse (pickedList desy) (present Desy (o ∷ [])) → Walked best sync desy (o ∷ rest) whole → Walked better s d rest whole
 walked-more {best} {sync} {desy} {better} {s} {d} {rest} o p q r w = record {
-  highest-so = ap (λ (l : List Numbered). bestFrom l rest) p ∙ (best-more best o rest ∙ w .highest-so);
-  sync-so = ap (λ (l : List Numbered). orElse l (present Sync rest)) q ∙ (present-more Sync sync o rest ∙ w .sync-so);
-  desy-so = ap (λ (l : List Numbered). orElse l (present Desy rest)) r ∙ (present-more Desy desy o rest ∙ w .desy-so);
+  highest-is = ap (λ (l : List Numbered). bestFrom l rest) p ∙ (best-more best o rest ∙ w .highest-is);
+  sync-is = ap (λ (l : List Numbered). orElse l (present Sync rest)) q ∙ (present-more Sync sync o rest ∙ w .sync-is);
+  desy-is = ap (λ (l : List Numbered). orElse l (present Desy rest)) r ∙ (present-more Desy desy o rest ∙ w .desy-is);
 }
 
-best-all : (f : Found) → foundList f ≡ bestFrom (foundList f) []
+best-all : (f : Picked) → pickedList f ≡ bestFrom (pickedList f) []
 unfolding bestFrom highest
 best-all (One b) = refl
 best-all Nothing = refl
 
-present-all : (code : Effect) (f : Found) → foundList f ≡ orElse (foundList f) (present code [])
+present-all : (code : Effect) (f : Picked) → pickedList f ≡ orElse (pickedList f) (present code [])
 unfolding present those
 present-all code (One b) = refl
 present-all code Nothing = refl
 
 -- all of it
-module _ {best sync desy : Found} {whole : List Numbered} (w : Walked best sync desy [] whole) where
-  pub walked-best : foundList best ≡ bestFrom [] whole
-  walked-best = best-all best ∙ w .highest-so
-
-  pub walked-sync : foundList sync ≡ present Sync whole
-  walked-sync = present-all Sync sync ∙ w .sync-so
-
-  pub walked-desy : foundList desy ≡ present Desy whole
-  walked-desy = present-all Desy desy ∙ w .desy-so
-
-pub those-none : {A : Type 0} {xs : List A} (f : A → Bool) → xs ≡ [] → those f xs ≡ []
-unfolding those
-those-none f e = rw e
+pub walked-all : {best sync desy : Picked} {whole : List Numbered} → Walked best sync desy [] whole →
+    (pickedList best ≡ bestFrom [] whole) × (pickedList sync ≡ present Sync whole) × (pickedList desy ≡ present Desy whole)
+walked-all {best} {sync} {desy} w =
+    (best-all best ∙ w .highest-is, present-all Sync sync ∙ w .sync-is, present-all Desy desy ∙ w .desy-is)
 
 -- ---- those used
 pub used-stop : (end : ℕ) (os : List Numbered) (m t : ℕ) → end ≤ nextTime end os t → usedFrom end os m t ≡ []
@@ -275,30 +211,18 @@ unfolding usedFrom
 used-stop end os zero t h = refl
 used-stop end os (suc m) t h = rw (le-ltb (nextTime end os t) end h, usedFrom)
 
-used-step : (end : ℕ) (os : List Numbered) (m t : ℕ) → nextTime end os t < end →
-    usedFrom end os (suc m) t ≡ usedOf (group os (nextTime end os t)) ++ usedFrom end os m (suc (nextTime end os t))
+-- one group more is in: that of the next time
+pub begun-group : {s : Sequence} {whole : List Numbered} (end : ℕ) (os : List Numbered) (m k t next : ℕ) (f : Picked) → m ≡ k + 1 →
+    next ≡ nextTime end os t → next < end → s .count < instructionPlaces → pickedList f ≡ usedOf (group os next) →
+    Begun s (usedFrom end os m t) whole → Begun (joined s f) (usedFrom end os k (next + 1)) whole
 unfolding usedFrom
-used-step end os m t h = rw (lt-ltb (nextTime end os t) end h, usedFrom)
-
-pub used-more : (end : ℕ) (os : List Numbered) (m t : ℕ) → 0 < m → nextTime end os t < end →
-    usedFrom end os m t ≡ usedOf (group os (nextTime end os t)) ++ usedFrom end os (m - 1) (nextTime end os t + 1)
-used-more end os zero t p h = absurd (omega arith)
-used-more end os (suc m) t p h =
-    let e : suc m - 1 ≡ m = omega arith in
-    rw (e, add-one (nextTime end os t)) (used-step end os m t h)
-
-pub used-zero : (end : ℕ) (os : List Numbered) (t : ℕ) → usedFrom end os 0 t ≡ []
-unfolding usedFrom
-used-zero end os t = refl
-
-pub used-begins : (end : ℕ) (os : List Numbered) (n : ℕ) → length os ≡ n → usedFrom end os (n - 0) 0 ≡ used end os
-unfolding used
-used-begins end os n h =
-    let e : n - 0 ≡ length os = omega arith in
-    ap (λ (k : ℕ). usedFrom end os k 0) e
+begun-group end os m k t next f d q h room g b =
+    let e : m ≡ suc k = omega arith in
+    let more : usedFrom end os m t ≡ pickedList f ++ usedFrom end os k (next + 1) = rw (e, g, q, add-one, lt-ltb (nextTime end os t) end (omega arith), usedFrom) in
+    begun-picked f room (rw more at b)
 
 -- ---- the instructions as entered
-number-from : (k : ℕ) (is : List Instruction) (i : ℕ) → i < length is →
+pub number-from : (k : ℕ) (is : List Instruction) (i : ℕ) → i < length is →
     getD (numbered k is) i noNumbered ≡ record { number = k + i; instruction = getD is i (noNumbered .instruction) }
 unfolding numbered
 number-from k [] i h = absurd (omega arith)

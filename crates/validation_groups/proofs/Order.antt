@@ -1,27 +1,26 @@
 -- Those used, where the times stand in order: one time's group after another, from the place of its first.
 use mathlib.Core.Path.{_≡_, refl, sym, ap, _∙_}
-use mathlib.Core.List.{List, [], _∷_, _++_}
+use mathlib.Core.List.{List, [], _∷_}
 use mathlib.Core.Bool.{Bool, true, false, _&&_, not, true≢false}
-use Prim.Native.Nat.{ℕ, zero, suc, _+_, _-_, _≤_, _<_, min, max}
+use Prim.Native.Nat.{ℕ, zero, suc, _+_, _-_, _≤_, _<_}
 use native.Mathlib.Decide.{ℕ-discrete, decLe}
 use native.Mathlib.Omega.{arith}
 use lib.Dec.{leb, ltb, eqb}
-use lib.ListN.{length, take, drop, getD, length-take}
+use lib.ListN.{length, take, getD, length-take}
 use lib.Seq.{getD-take}
 use borrow.Author.Tests.{ltb-true, leb-true, eqb-true, not-true, lt-ltb, le-ltb, le-leb, lt-leb, eq-eqb, ne-eqb}
-use Rattle.level.specs.Choice.{pick}
 use Rattle.level.specs.Numbers.{instructionPlaces}
 use Rattle.level.specs.Lists.{some, those}
-use Rattle.level.proofs.Lists.{and-true, left-cons, left-none}
+use Rattle.level.proofs.Lists.{by-bool, and-true}
 use Rattle.records.specs.declared.Effect.the-variants.{Mwof, Sync, Desy}
 use Rattle.records.specs.Codes.{codeNumber}
 use Rattle.validation.specs.declared.Numbered.{Numbered}
 use Rattle.validation.specs.Kept.{effectiveOf, effectOf, superseded, group, highest, present, merged, usedOf, nextTime, usedFrom, used}
-use Rattle.validation_rank.specs.Found.{foundList}
-use Rattle.validation_groups.specs.Working.{noNumbered, sequenceOf, joined, issueTimeOf, laterOf, latestAt, rises, Rising, hasTimeAt, followsTime, aloneAt, Run}
+use Rattle.validation_rank.specs.Picked.{pickedList}
+use Rattle.validation_groups.specs.Working.{noNumbered, sequenceOf, joined, issueTimeOf, laterOf, latestAt, risingFrom, Rising, hasTimeAt, followsTime, aloneAt, Run}
 use Rattle.validation_groups.specs.declared.Sequence.{Sequence}
-use Rattle.validation_rank.specs.declared.Found.{Found}
-use Rattle.validation_groups.proofs.Laws.{Begun, begun-none, begun-found, used-stop, used-more}
+use Rattle.validation_rank.specs.declared.Picked.{Picked}
+use Rattle.validation_groups.proofs.Laws.{Begun, begun-none, begun-group, joined-count, used-stop}
 
 -- ---- the next time
 abbrev timeAt : List Numbered → ℕ → ℕ
@@ -30,22 +29,20 @@ timeAt os j = effectiveOf (getD os j noNumbered)
 next-least : (end t m : ℕ) (os : List Numbered) → m ≤ end → ((j : ℕ) → j < length os → t ≤ timeAt os j → m ≤ timeAt os j) → m ≤ nextTime end os t
 unfolding nextTime
 next-least end t m [] e h = e
-next-least end t m (o ∷ os) e h = go (decLe t (effectiveOf o)) (next-least end t m os e (λ j l. h (suc j) (omega arith)))
-  where
-    go : Dec (t ≤ effectiveOf o) → m ≤ nextTime end os t →
-        m ≤ pick (leb t (effectiveOf o)) (min (effectiveOf o) (nextTime end os t)) (nextTime end os t)
-    go (yes p) ih = rw (le-leb t (effectiveOf o) p) (omega (arith, h 0 (omega arith) p))
-    go (no p) ih = rw (lt-leb t (effectiveOf o) (omega arith)) ih
+next-least end t m (o ∷ os) e h =
+    let ih = next-least end t m os e (λ j l. h (suc j) (omega arith)) in
+    elim (decLe t (effectiveOf o)) [
+      | yes p ↦ rw (le-leb t (effectiveOf o) p) (omega (arith, h 0 (omega arith) p))
+      | no p ↦ rw (lt-leb t (effectiveOf o) (omega arith)) ih
+    ]
 
 next-reached : (end t : ℕ) (os : List Numbered) (j : ℕ) → j < length os → t ≤ timeAt os j → nextTime end os t ≤ timeAt os j
 unfolding nextTime
 next-reached end t [] j l h = absurd (omega arith)
 next-reached end t (o ∷ os) zero l h = rw (le-leb t (effectiveOf o) h) (omega arith)
-next-reached end t (o ∷ os) (suc j) l h = go (leb t (effectiveOf o)) (next-reached end t os j (omega arith) h)
-  where
-    go : (b : Bool) → nextTime end os t ≤ timeAt os j → pick b (min (effectiveOf o) (nextTime end os t)) (nextTime end os t) ≤ timeAt os j
-    go true ih = omega arith
-    go false ih = ih
+next-reached end t (o ∷ os) (suc j) l h =
+    let ih = next-reached end t os j (omega arith) h in
+    by-bool (leb t (effectiveOf o)) (λ e. rw e (omega arith)) (λ e. rw e ih)
 
 -- ---- a group of one
 module _ {A : Type 0} (d : A) (f : A → Bool) where
@@ -78,38 +75,39 @@ used-alone o = elim (ℕ-discrete (codeNumber (effectOf o)) (codeNumber Mwof)) [
 ]
 
 module _ (os : List Numbered) (i : ℕ) (h : i < length os) (alone : (j : ℕ) → j < length os → (j ≡ i → ⊥) → timeAt os j ≡ timeAt os i → ⊥) where
-  stays : superseded os (getD os i noNumbered) ≡ false
+  abbrev own : Numbered
+  own = getD os i noNumbered
+
+  stays : superseded os own ≡ false
   unfolding superseded
-  stays = some-no noNumbered (λ (x : Numbered). eqb (effectiveOf x) (timeAt os i) && ltb (issueTimeOf (getD os i noNumbered)) (issueTimeOf x)) os each
+  stays = some-no noNumbered (λ (x : Numbered). eqb (effectiveOf x) (timeAt os i) && ltb (issueTimeOf own) (issueTimeOf x)) os each
     where
-      each : (j : ℕ) → j < length os →
-          (eqb (timeAt os j) (timeAt os i) && ltb (issueTimeOf (getD os i noNumbered)) (issueTimeOf (getD os j noNumbered))) ≡ false
+      each : (j : ℕ) → j < length os → (eqb (timeAt os j) (timeAt os i) && ltb (issueTimeOf own) (issueTimeOf (getD os j noNumbered))) ≡ false
       each j l = elim (ℕ-discrete j i) [
         | no n ↦ rw (ne-eqb (timeAt os j) (timeAt os i) (alone j l n))
-        | yes e ↦ rw (
-          e,
-          eq-eqb (timeAt os i) (timeAt os i) refl,
-          le-ltb (issueTimeOf (getD os i noNumbered)) (issueTimeOf (getD os i noNumbered))
-              (omega arith),
-        )
+        | yes e ↦ rw (e, eq-eqb (timeAt os i) (timeAt os i) refl, le-ltb (issueTimeOf own) (issueTimeOf own) (omega arith))
       ]
 
-  group-alone : group os (timeAt os i) ≡ getD os i noNumbered ∷ []
+  group-alone : group os (timeAt os i) ≡ own ∷ []
   unfolding group
-  group-alone = those-one noNumbered (λ (o : Numbered). eqb (effectiveOf o) (timeAt os i) && not (superseded os o)) os i h own other
-    where
-      own : (eqb (timeAt os i) (timeAt os i) && not (superseded os (getD os i noNumbered))) ≡ true
-      own = rw (eq-eqb (timeAt os i) (timeAt os i) refl, stays)
-
-      other : (j : ℕ) → j < length os → (j ≡ i → ⊥) → (eqb (timeAt os j) (timeAt os i) && not (superseded os (getD os j noNumbered))) ≡ false
-      other j l n = rw (ne-eqb (timeAt os j) (timeAt os i) (alone j l n))
+  group-alone =
+      those-one noNumbered (λ (o : Numbered). eqb (effectiveOf o) (timeAt os i) && not (superseded os o)) os i h
+      (rw (eq-eqb (timeAt os i) (timeAt os i) refl, stays)) (λ j l n. rw (ne-eqb (timeAt os j) (timeAt os i) (alone j l n)))
 
   pub alone-used : getD os i noNumbered ∷ [] ≡ usedOf (group os (timeAt os i))
   alone-used = used-alone (getD os i noNumbered) ∙ ap usedOf (sym group-alone)
 
 -- ---- in order
+-- these have these times, which stand in order
+pub record InOrder (os : List Numbered) (ts : List ℕ) (n : ℕ) : Type 0 where
+  pub long : length os ≡ n
+  pub at : (j : ℕ) → j < n → getD ts j 0 ≡ timeAt os j
+  pub rising : Rising ts n
+
 -- the groups of the first i places are in; those of the others follow, from a time on
-pub record Reached (end : ℕ) (os : List Numbered) (ts : List ℕ) (n i : ℕ) (out : Sequence) : Type 0 where
+pub record OrderProgress (end : ℕ) (os : List Numbered) (ts : List ℕ) (n i : ℕ) (out : Sequence) : Type 0 where
+  pub within : i ≤ n
+  pub few : out .count ≤ i
   pub time : ℕ
   pub fuel : ℕ
   pub enough : n ≤ fuel + i
@@ -117,12 +115,13 @@ pub record Reached (end : ℕ) (os : List Numbered) (ts : List ℕ) (n i : ℕ) 
   pub after : (j : ℕ) → i ≤ j → j < n → time ≤ getD ts j 0
   pub begun : Begun out (usedFrom end os fuel time) (used end os)
 
-module _ (end : ℕ) (os : List Numbered) (ts : List ℕ) (n : ℕ) (long : length os ≡ n) (at : (j : ℕ) → j < n → getD ts j 0 ≡ timeAt os j)
-    (rising : Rising ts n) where
-  pub reached-none : Reached end os ts n 0 (sequenceOf [])
+module _ {os : List Numbered} {ts : List ℕ} {n : ℕ} (g : InOrder os ts n) where
+  pub order-none : (end : ℕ) → OrderProgress end os ts n 0 (sequenceOf [])
   unfolding used
-  reached-none =
+  order-none end =
       record {
+        within = omega arith;
+        few = omega arith;
         time = 0;
         fuel = length os;
         enough = omega arith;
@@ -131,89 +130,83 @@ module _ (end : ℕ) (os : List Numbered) (ts : List ℕ) (n : ℕ) (long : leng
         begun = begun-none (usedFrom end os (length os) 0);
       }
 
-  module _ (i : ℕ) (out : Sequence) (r : Reached end os ts n i out) where
+  module _ {end i : ℕ} {out : Sequence} (r : OrderProgress end os ts n i out) where
     -- none before the place i is from the time on
     from-here : (j : ℕ) → j < n → r .time ≤ timeAt os j → i ≤ j
     from-here j l h = elim (decLe i j) [
       | yes p ↦ p
-      | no p ↦ absurd (omega (arith, r .before j (omega arith), at j l))
+      | no p ↦ absurd (omega (arith, r .before j (omega arith), g .at j l))
     ]
 
-    pub reached-late : i < n → end ≤ getD ts i 0 → Begun out [] (used end os)
-    reached-late h late =
-        let e : end ≤ nextTime end os (r .time) =
-        next-least end (r .time) end os (omega arith)
-        (λ j l p. omega (arith, at j (omega arith), rising i j (from-here j (omega arith) p) (omega arith))) in
+    -- each from the time on is at least as late as that at the place i
+    least-here : i < n → (j : ℕ) → j < length os → r .time ≤ timeAt os j → getD ts i 0 ≤ timeAt os j
+    least-here h j l p = omega (arith, g .at j (omega arith), g .rising i j (from-here j (omega arith) p) (omega arith))
+
+    pub order-late : i < n → end ≤ getD ts i 0 → Begun out [] (used end os)
+    order-late h late =
+        let e = next-least end (r .time) end os (omega arith) (λ j l p. omega (arith, least-here h j l p)) in
         rw (used-stop end os (r .fuel) (r .time) e) at (r .begun)
 
-    pub reached-all : n ≤ i → Begun out [] (used end os)
-    reached-all h =
-        let e : end ≤ nextTime end os (r .time) =
-        next-least end (r .time) end os (omega arith) (λ j l p. absurd (omega (arith, from-here j (omega arith) p))) in
+    pub order-all : n ≤ i → Begun out [] (used end os)
+    order-all h =
+        let e = next-least end (r .time) end os (omega arith) (λ j l p. absurd (omega (arith, from-here j (omega arith) p))) in
         rw (used-stop end os (r .fuel) (r .time) e) at (r .begun)
 
-    next-here : i < n → getD ts i 0 < end → nextTime end os (r .time) ≡ getD ts i 0
+    next-here : i < n → getD ts i 0 < end → getD ts i 0 ≡ nextTime end os (r .time)
     next-here h early =
-        let a : getD ts i 0 ≤ nextTime end os (r .time) =
-        next-least end (r .time) (getD ts i 0) os (omega arith)
-        (λ j l p. omega (arith, at j (omega arith), rising i j (from-here j (omega arith) p) (omega arith))) in
-        let b : nextTime end os (r .time) ≤ timeAt os i =
-        next-reached end (r .time) os i (omega arith) (omega (arith, at i h, r .after i (omega arith) h)) in
-        omega (arith, at i h)
+        let a = next-least end (r .time) (getD ts i 0) os (omega arith) (least-here h) in
+        let b = next-reached end (r .time) os i (omega arith) (omega (arith, g .at i h, r .after i (omega arith) h)) in
+        omega (arith, g .at i h)
 
     -- one group more: those from the place i up to the place k
-    pub reached-more : (k : ℕ) (f : Found) → out .count < instructionPlaces → i < n → getD ts i 0 < end → Run ts n (getD ts i 0) (i + 1) k →
-        foundList f ≡ usedOf (group os (getD ts i 0)) → Reached end os ts n k (joined out f)
-    reached-more k f room h early run e =
-        let x : ℕ = getD ts i 0 in
-        let q : usedFrom end os (r .fuel) (r .time) ≡ foundList f ++ usedFrom end os (r .fuel - 1) (x + 1) =
-        used-more end os (r .fuel) (r .time) (omega (arith, r .enough)) (omega (arith, next-here h early))
-        ∙ (ap (λ (t : ℕ). usedOf (group os t) ++ usedFrom end os (r .fuel - 1) (t + 1)) (next-here h early)
-        ∙ ap (λ (l : List Numbered). l ++ usedFrom end os (r .fuel - 1) (x + 1)) (sym e)) in
+    pub order-more : (k : ℕ) (f : Picked) → out .count < instructionPlaces → i < n → getD ts i 0 < end → Run ts n (getD ts i 0) (i + 1) k →
+        pickedList f ≡ usedOf (group os (getD ts i 0)) → OrderProgress end os ts n k (joined out f)
+    order-more k f room h early run e =
         record {
-          time = x + 1;
+          within = run .ends;
+          few = omega (arith, r .few, joined-count out f, run .starts);
+          time = getD ts i 0 + 1;
           fuel = r .fuel - 1;
           enough = omega (arith, r .enough, run .starts);
           before = λ j l. passed j l (decLe j i);
           after = λ j p l. omega (arith, above j p l);
-          begun = begun-found f room (rw q at (r .begun));
+          begun =
+              begun-group end os (r .fuel) (r .fuel - 1) (r .time) (getD ts i 0) f (omega (arith, r .enough)) (next-here h early) early room e
+              (r .begun);
         }
       where
         passed : (j : ℕ) → j < k → Dec (j ≤ i) → getD ts j 0 < getD ts i 0 + 1
-        passed j l (yes p) = omega (arith, rising j i p h)
+        passed j l (yes p) = omega (arith, g .rising j i p h)
         passed j l (no p) = omega (arith, run .same j (omega arith) l)
 
         above : (j : ℕ) → k ≤ j → j < n → getD ts i 0 < getD ts j 0
-        above j p l = run-past (omega (arith, rising i k (omega (arith, run .starts)) (omega arith), run .other (omega arith))) (rising k j p l)
+        above j p l = run-past (omega (arith, g .rising i k (omega (arith, run .starts)) (omega arith), run .other (omega arith))) (g .rising k j p l)
           where
             run-past : getD ts i 0 < getD ts k 0 → getD ts k 0 ≤ getD ts j 0 → getD ts i 0 < getD ts j 0
             run-past a b = omega arith
 
     -- a run of one is used as it is
-    pub reached-alone : i < n → Run ts n (getD ts i 0) (i + 1) (i + 1) → getD os i noNumbered ∷ [] ≡ usedOf (group os (getD ts i 0))
-    reached-alone h run = rw (at i h) (alone-used os i (omega arith) other)
+    pub order-alone : i < n → Run ts n (getD ts i 0) (i + 1) (i + 1) → getD os i noNumbered ∷ [] ≡ usedOf (group os (getD ts i 0))
+    order-alone h run = rw (g .at i h) (alone-used os i (omega arith) other)
       where
         other : (j : ℕ) → j < length os → (j ≡ i → ⊥) → timeAt os j ≡ timeAt os i → ⊥
-        other j l ne q = elim (decLe i j) [
-          | yes p ↦ run .other (omega arith) (omega (
-            arith,
-            rising i (i + 1) (omega arith) (omega arith),
-            rising (i + 1) j (omega arith)
-                (omega arith),
-            at i h,
-            at j (omega arith),
-          ))
-          | no p ↦ absurd (omega (arith, r .before j (omega arith), r .after i (omega arith) h, at i h, at j (omega arith)))
-        ]
+        other j l ne q =
+            let a = g .at i h in
+            let b = g .at j (omega arith) in
+            elim (decLe i j) [
+              | yes p ↦ run .other (omega arith)
+                  (omega (arith, g .rising i (i + 1) (omega arith) (omega arith), g .rising (i + 1) j (omega arith) (omega arith)))
+              | no p ↦ absurd (omega (arith, r .before j (omega arith), r .after i (omega arith) h))
+            ]
 
 -- ---- the times in order
 -- any two of them
-rising-any : (before : ℕ) (ts : List ℕ) → rises before ts ≡ true → (i j : ℕ) → i ≤ j → j < length ts →
+rising-any : (before : ℕ) (ts : List ℕ) → risingFrom before ts ≡ true → (i j : ℕ) → i ≤ j → j < length ts →
     (before ≤ getD ts i 0) × (getD ts i 0 ≤ getD ts j 0)
-unfolding rises
+unfolding risingFrom
 rising-any before [] e i j p l = absurd (omega arith)
 rising-any before (t ∷ ts) e i j p l =
-    let a = and-true (leb before t) (rises t ts) e in
+    let a = and-true (leb before t) (risingFrom t ts) e in
     go i j p l (leb-true before t (a .0)) (rising-any t ts (a .1))
   where
     go : (i j : ℕ) → i ≤ j → j < suc (length ts) → before ≤ t →
@@ -224,45 +217,28 @@ rising-any before (t ∷ ts) e i j p l =
     go (suc i) zero p l b ih = absurd (omega arith)
     go (suc i) (suc j) p l b ih = omega (arith, ih i j (omega arith) (omega arith))
 
-module _ (ts : List ℕ) (n : ℕ) (fits : n ≤ length ts) where
-  pub rises-rising : rises 0 (take n ts) ≡ true → Rising ts n
-  rises-rising e i j p l =
-      rw (getD-take n ts i 0 (omega arith), getD-take n ts j 0 l) at (rising-any 0 (take n ts) e i j p (omega (arith, length-take n ts)) .1)
+pub from-rising : (ts : List ℕ) (n : ℕ) → n ≤ length ts → risingFrom 0 (take n ts) ≡ true → Rising ts n
+from-rising ts n fits e i j p l =
+    rw (getD-take n ts i 0 (omega arith), getD-take n ts j 0 l) at (rising-any 0 (take n ts) e i j p (omega (arith, length-take n ts)) .1)
 
-  -- from the place i on: it is not earlier; it is earlier; none is left
-  module _ (before i : ℕ) where
-    pub rises-next : i < n → before ≤ getD ts i 0 → rises (getD ts i 0) (drop (i + 1) (take n ts)) ≡ rises before (drop i (take n ts))
-    unfolding rises
-    rises-next h e = rw (left-cons ts n i 0 h fits, le-leb before (getD ts i 0) e)
-
-    pub rises-not : i < n → getD ts i 0 < before → false ≡ rises before (drop i (take n ts))
-    unfolding rises
-    rises-not h e = rw (left-cons ts n i 0 h fits, lt-leb before (getD ts i 0) e)
-
-    pub rises-all : n ≤ i → true ≡ rises before (drop i (take n ts))
-    unfolding rises
-    rises-all h = rw (left-none ts n i h)
+-- the run of t from a place on reaches the place i
+pub record RunProgress (ts : List ℕ) (n t from i : ℕ) : Type 0 where
+  pub starts : from ≤ i
+  pub ends : i ≤ n
+  pub same : (j : ℕ) → from ≤ j → j < i → getD ts j 0 ≡ t
 
 pub same-more : (ts : List ℕ) (from i t : ℕ) → getD ts i 0 ≡ t → ((j : ℕ) → from ≤ j → j < i → getD ts j 0 ≡ t) → (j : ℕ) → from ≤ j → j < i + 1 →
     getD ts j 0 ≡ t
 same-more ts from i t e same j p l = elim (ℕ-discrete j i) [ yes q ↦ rw q e | no n ↦ same j p (omega arith) ]
 
 -- ---- neighbours
-pub follows-so : (ts : List ℕ) (at t : ℕ) → followsTime ts at t ≡ true → (0 < at) × (getD ts (at - 1) 0 ≡ t)
+pub follows-is : (ts : List ℕ) (at t : ℕ) → followsTime ts at t ≡ true → (0 < at) × (getD ts (at - 1) 0 ≡ t)
 unfolding followsTime
-follows-so ts at t e =
+follows-is ts at t e =
     let a = and-true (ltb 0 at) (eqb (getD ts (at - 1) 0) t) e in
     (ltb-true 0 at (a .0), eqb-true (getD ts (at - 1) 0) t (a .1))
 
 module _ (ts : List ℕ) (n at : ℕ) where
-  pub alone-no-next : hasTimeAt ts n (at + 1) (getD ts at 0) ≡ true → false ≡ aloneAt ts n at
-  unfolding aloneAt
-  alone-no-next e = rw e
-
-  pub alone-before : hasTimeAt ts n (at + 1) (getD ts at 0) ≡ false → not (followsTime ts at (getD ts at 0)) ≡ aloneAt ts n at
-  unfolding aloneAt
-  alone-before e = rw e
-
   -- no other of the first n times is that at this place
   alone-only : Rising ts n → at < n → aloneAt ts n at ≡ true → (j : ℕ) → j < n → (j ≡ at → ⊥) → getD ts j 0 ≡ getD ts at 0 → ⊥
   unfolding aloneAt hasTimeAt followsTime
@@ -284,38 +260,33 @@ latest-low : (ts js : List ℕ) (t most : ℕ) → ((j : ℕ) → j < length ts 
 unfolding latestAt laterOf
 latest-low [] js t most h = omega arith
 latest-low (x ∷ xs) [] t most h = omega arith
-latest-low (x ∷ xs) (j ∷ js) t most h = go (ℕ-discrete x t) (latest-low xs js t most (λ k l. h (suc k) (omega arith)))
-  where
-    go : Dec (x ≡ t) → latestAt xs js t ≤ most → pick (eqb x t) (max j (latestAt xs js t)) (latestAt xs js t) ≤ most
-    go (yes e) ih = rw (eq-eqb x t e) (omega (arith, h 0 (omega arith) e))
-    go (no n) ih = rw (ne-eqb x t n) ih
+latest-low (x ∷ xs) (j ∷ js) t most h =
+    let ih = latest-low xs js t most (λ k l. h (suc k) (omega arith)) in
+    elim (ℕ-discrete x t) [ yes e ↦ rw (eq-eqb x t e) (omega (arith, h 0 (omega arith) e)) | no n ↦ rw (ne-eqb x t n) ih ]
 
 latest-high : (ts js : List ℕ) (t j : ℕ) → j < length ts → j < length js → getD ts j 0 ≡ t → getD js j 0 ≤ latestAt ts js t
 unfolding latestAt laterOf
 latest-high [] js t j h k e = absurd (omega arith)
 latest-high (x ∷ xs) [] t j h k e = absurd (omega arith)
 latest-high (x ∷ xs) (y ∷ js) t zero h k e = rw (eq-eqb x t e) (omega arith)
-latest-high (x ∷ xs) (y ∷ js) t (suc j) h k e = go (eqb x t) (latest-high xs js t j (omega arith) (omega arith) e)
-  where
-    go : (b : Bool) → getD js j 0 ≤ latestAt xs js t → getD js j 0 ≤ pick b (max y (latestAt xs js t)) (latestAt xs js t)
-    go true ih = omega arith
-    go false ih = ih
+latest-high (x ∷ xs) (y ∷ js) t (suc j) h k e =
+    let ih = latest-high xs js t j (omega arith) (omega arith) e in
+    by-bool (eqb x t) (λ q. rw q (omega arith)) (λ q. rw q ih)
 
 -- one alone has the latest issue time itself
-pub alone-latest : (ts js : List ℕ) (n at : ℕ) → at < n → n ≤ length ts → n ≤ length js → (rises 0 (take n ts) && aloneAt ts n at) ≡ true →
+pub alone-latest : (ts js : List ℕ) (n at : ℕ) → at < n → n ≤ length ts → n ≤ length js → (risingFrom 0 (take n ts) && aloneAt ts n at) ≡ true →
     getD js at 0 ≡ latestAt (take n ts) (take n js) (getD ts at 0)
 alone-latest ts js n at h fits room alone =
     let low = latest-low (take n ts) (take n js) (getD ts at 0) (getD js at 0) (λ j l. each j (omega (arith, length-take n ts))) in
-    let high =
-    latest-high (take n ts) (take n js) (getD ts at 0) at (omega (arith, length-take n ts)) (omega (arith, length-take n js)) (getD-take n ts at 0 h)
-    in
+    let long : (at < length (take n ts)) × (at < length (take n js)) = omega (arith, length-take n ts, length-take n js) in
+    let high = latest-high (take n ts) (take n js) (getD ts at 0) at (long .0) (long .1) (getD-take n ts at 0 h) in
     omega (arith, getD-take n js at 0 h)
   where
-    both : (rises 0 (take n ts) ≡ true) × (aloneAt ts n at ≡ true)
-    both = and-true (rises 0 (take n ts)) (aloneAt ts n at) alone
+    both : (risingFrom 0 (take n ts) ≡ true) × (aloneAt ts n at ≡ true)
+    both = and-true (risingFrom 0 (take n ts)) (aloneAt ts n at) alone
 
     only : (j : ℕ) → j < n → (j ≡ at → ⊥) → getD ts j 0 ≡ getD ts at 0 → ⊥
-    only = alone-only ts n at (rises-rising ts n fits (both .0)) h (both .1)
+    only = alone-only ts n at (from-rising ts n fits (both .0)) h (both .1)
 
     each : (j : ℕ) → j < n → getD (take n ts) j 0 ≡ getD ts at 0 → getD (take n js) j 0 ≤ getD js at 0
     each j l =

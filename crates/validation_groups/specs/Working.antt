@@ -4,17 +4,17 @@ use mathlib.Core.Path.{_≡_}
 use mathlib.Core.List.{List, [], _∷_, map}
 use mathlib.Core.Bool.{Bool, true, _&&_, not}
 use lib.Dec.{leb, ltb, eqb}
-use lib.ListN.{length, set, getD}
+use lib.ListN.{length, set, getD, take}
 use Rattle.level.specs.Lists.{filled}
 use Rattle.level.specs.Choice.{pick}
 use Rattle.level.specs.Numbers.{instructionPlaces}
 use Rattle.records.specs.declared.Instruction.{Instruction}
 use Rattle.records.specs.Records.{noInstruction}
 use Rattle.validation.specs.declared.Numbered.{Numbered}
-use Rattle.validation.specs.Kept.{effectiveOf}
+use Rattle.validation.specs.Kept.{effectiveOf, numbered}
 use Rattle.validation_groups.specs.declared.Sequence.{Sequence}
-use Rattle.validation_rank.specs.declared.Found.{Found}
-use Rattle.validation_rank.specs.declared.Found.the-variants.{One, Nothing}
+use Rattle.validation_rank.specs.declared.Picked.{Picked}
+use Rattle.validation_rank.specs.declared.Picked.the-variants.{One, Nothing}
 
 -- a place that holds none
 abbrev pub noNumbered : Numbered
@@ -31,9 +31,14 @@ sequenceOf xs = record { items = filled instructionPlaces noNumbered xs; count =
 unfoldable pub pushed : Sequence → Numbered → Sequence
 pushed s o = record { items = set (s .items) (s .count) o; count = s .count + 1 }
 
-unfoldable pub joined : Sequence → Found → Sequence
+unfoldable pub joined : Sequence → Picked → Sequence
 joined s (One o) = pushed s o
 joined s Nothing = s
+
+-- a sequence that holds these, within its places
+pub record Holds (s : Sequence) (xs : List Numbered) : Type 0 where
+  pub exactly : s ≡ sequenceOf xs
+  pub few : s .count ≤ instructionPlaces
 
 -- ---- over the effective times and the issue times, which the code has in arrays of their own
 
@@ -45,6 +50,17 @@ pub record Timed (os : List Numbered) (times issues : List ℕ) : Type 0 where
   pub effective : times ≡ map effectiveOf os
   pub issued : issues ≡ map issueTimeOf os
 
+-- the first n places have times
+pub record Table (times issues : List ℕ) (n : ℕ) : Type 0 where
+  pub few : n ≤ instructionPlaces
+  pub long : n ≤ length times
+  pub issues-long : n ≤ length issues
+
+-- the first n instructions, as entered, with their times
+pub record Entered (is : List Instruction) (times issues : List ℕ) (n : ℕ) : Type 0 where
+  pub few : n ≤ instructionPlaces
+  pub timed : Timed (numbered 1 (take n is)) (take n times) (take n issues)
+
 -- the latest so far, with one more looked at; the latest issue time of those at the effective time t, 0 where there is none
 unfoldable pub laterOf : ℕ → ℕ → ℕ → ℕ → ℕ
 laterOf x j t best = pick (eqb x t) (max j best) best
@@ -54,8 +70,8 @@ latestAt [] js t = 0
 latestAt (x ∷ xs) [] t = 0
 latestAt (x ∷ xs) (j ∷ js) t = laterOf x j t (latestAt xs js t)
 
--- one of those at the effective time t has a later issue time: `superseded` of the validation, over the times (`superseded-is`, proofs/Laws, equates
--- them)
+-- one of those at the effective time t has a later issue time: `superseded` of the validation, over the times
+-- (`superseded-is`, proofs/Laws, equates them)
 abbrev pub supersededAmong : List ℕ → List ℕ → ℕ → ℕ → Bool
 supersededAmong ts js t issue = ltb issue (latestAt ts js t)
 
@@ -69,13 +85,26 @@ nextTimeAmong end [] t = end
 nextTimeAmong end (x ∷ xs) t = earlierOf x t (nextTimeAmong end xs t)
 
 -- each of the times is at least the one before it, the first at least `before`
-unfoldable pub rises : ℕ → List ℕ → Bool
-rises before [] = true
-rises before (t ∷ ts) = leb before t && rises t ts
+unfoldable pub risingFrom : ℕ → List ℕ → Bool
+risingFrom before [] = true
+risingFrom before (t ∷ ts) = leb before t && risingFrom t ts
 
 -- so stand the first n times, any two of them
 abbrev pub Rising : List ℕ → ℕ → Type 0
 Rising ts n = (i j : ℕ) → i ≤ j → j < n → getD ts i 0 ≤ getD ts j 0
+
+-- the first n as entered, and whether their times stand in order
+pub record EnteredIn (is : List Instruction) (times issues : List ℕ) (n : ℕ) (ordered : Bool) : Type 0 where
+  pub entered : Entered is times issues n
+  pub long : n ≤ length times
+  pub told : ordered ≡ risingFrom 0 (take n times)
+
+-- a place among the first n, whether their times stand in order, and the latest issue time for the place before
+pub record Looked (times issues : List ℕ) (n at : ℕ) (ordered : Bool) (before : ℕ) : Type 0 where
+  pub here : at < n
+  pub table : Table times issues n
+  pub told : ordered ≡ risingFrom 0 (take n times)
+  pub before-latest : 0 < at → before ≡ latestAt (take n times) (take n issues) (getD times (at - 1) 0)
 
 -- a place is among the first n and has the time t
 unfoldable pub hasTimeAt : List ℕ → ℕ → ℕ → ℕ → Bool

@@ -6,8 +6,8 @@ ghost use mathlib.Core.List.{[]};
 ghost use lib.ListN.{length, take, getD};
 ghost use Rattle.level.specs.Numbers.{instructionPlaces};
 ghost use Rattle.validation.specs.Kept.{numbered, group, usedOf, used};
-ghost use Rattle.validation_rank.specs.Found.{foundList};
-ghost use Rattle.validation_groups.specs.Working.{noNumbered, numberedAt, sequenceOf, pushed, joined, Timed, laterOf, latestAt, hasTimeAt, followsTime, aloneAt, rises, earlierOf, nextTimeAmong, Rising, Run};
+ghost use Rattle.validation_rank.specs.Picked.{pickedList};
+ghost use Rattle.validation_groups.specs.Working.{noNumbered, numberedAt, sequenceOf, pushed, joined, Holds, Table, Entered, EnteredIn, Looked, laterOf, latestAt, hasTimeAt, followsTime, aloneAt, risingFrom, earlierOf, nextTimeAmong, Rising, Run};
 
 // Some of the instructions, in order: the first `count` places.
 pub struct Sequence {
@@ -70,14 +70,14 @@ fn push(s: Sequence, o: validation::Numbered) -> Sequence
     next
 }
 
-// With what was found.
-fn push_found(s: Sequence, found: validation_rank::Found) -> Sequence
+// With what was picked.
+fn push_picked(s: Sequence, picked: validation_rank::Picked) -> Sequence
     requires { ⌜ s .count < instructionPlaces ⌝ }
-    ensures { λ r. ⌜ r ≡ joined s found ⌝ }
+    ensures { λ r. ⌜ r ≡ joined s picked ⌝ }
 {
-    match found {
-        validation_rank::Found::One(o) => push(s, o),
-        validation_rank::Found::Nothing => s,
+    match picked {
+        validation_rank::Picked::One(o) => push(s, o),
+        validation_rank::Picked::Nothing => s,
     }
 }
 
@@ -100,7 +100,7 @@ fn latest_at(
     n: usize,
     t: u32,
 ) -> u32
-    requires { ⌜ (n ≤ instructionPlaces) × (n ≤ length (now times)) × (n ≤ length (now issues)) ⌝ }
+    requires { ⌜ Table (now times) (now issues) n ⌝ }
     ensures { λ r. ⌜ r ≡ latestAt (take n (now (times .entry))) (take n (now (issues .entry))) t ⌝ }
 {
     let mut best: u32 = 0;
@@ -160,8 +160,7 @@ pub fn latest_of(
     ordered: bool,
     before: u32,
 ) -> u32
-    requires { ⌜ (at < n) × (n ≤ instructionPlaces) × (n ≤ length (now times)) × (n ≤ length (now issues)) × (ordered ≡ rises 0 (take n (now times))) ⌝ }
-    requires { ⌜ (0 < at → before ≡ latestAt (take n (now times)) (take n (now issues)) (getD (now times) (at - 1) 0)) ⌝ }
+    requires { ⌜ Looked (now times) (now issues) n at ordered before ⌝ }
     ensures { λ r. ⌜ r ≡ latestAt (take n (now (times .entry))) (take n (now (issues .entry))) (getD (now (times .entry)) at 0) ⌝ }
 {
     if stands_alone(times, n, at, ordered) {
@@ -183,14 +182,14 @@ fn used_at(
     issues: &[u32; level::INSTRUCTIONS],
     n: usize,
     t: u32,
-) -> validation_rank::Found
-    requires { ⌜ (n ≤ instructionPlaces) × Timed (numbered 1 (take n instructions)) (take n (now times)) (take n (now issues)) ⌝ }
-    ensures { λ r. ⌜ foundList r ≡ usedOf (group (numbered 1 (take n instructions)) t) ⌝ }
+) -> validation_rank::Picked
+    requires { ⌜ Entered instructions (now times) (now issues) n ⌝ }
+    ensures { λ r. ⌜ pickedList r ≡ usedOf (group (numbered 1 (take n instructions)) t) ⌝ }
 {
     let latest = latest_at(times, issues, n, t);
-    let mut best = validation_rank::Found::Nothing;
-    let mut sync = validation_rank::Found::Nothing;
-    let mut desy = validation_rank::Found::Nothing;
+    let mut best = validation_rank::Picked::Nothing;
+    let mut sync = validation_rank::Picked::Nothing;
+    let mut desy = validation_rank::Picked::Nothing;
     let mut i: usize = 0;
     while i < n {
         let at = i;
@@ -242,7 +241,7 @@ fn next_time(times: &[u32; level::INSTRUCTIONS], n: usize, t: u32, end: u32) -> 
 // The first n times stand in order.
 pub fn in_order(times: &[u32; level::INSTRUCTIONS], n: usize) -> bool
     requires { ⌜ (n ≤ instructionPlaces) × (n ≤ length (now times)) ⌝ }
-    ensures { λ r. ⌜ r ≡ rises 0 (take n (now (times .entry))) ⌝ }
+    ensures { λ r. ⌜ r ≡ risingFrom 0 (take n (now (times .entry))) ⌝ }
 {
     let mut before: u32 = 0;
     let mut i: usize = 0;
@@ -280,8 +279,8 @@ fn used_ordered(
     n: usize,
     end: u32,
 ) -> Sequence
-    requires { ⌜ (n ≤ instructionPlaces) × Timed (numbered 1 (take n instructions)) (take n (now times)) (take n (now issues)) × Rising (now times) n ⌝ }
-    ensures { λ r. ⌜ (r ≡ sequenceOf (used end (numbered 1 (take n instructions)))) × (r .count ≤ instructionPlaces) ⌝ }
+    requires { ⌜ Entered instructions (now times) (now issues) n × Rising (now times) n ⌝ }
+    ensures { λ r. ⌜ Holds r (used end (numbered 1 (take n instructions))) ⌝ }
 {
     let mut out = empty();
     let mut i: usize = 0;
@@ -302,12 +301,12 @@ fn used_ordered(
         }
         let u = used_at(instructions, times, issues, n, t);
         match u {
-            validation_rank::Found::One(o) => {
+            validation_rank::Picked::One(o) => {
                 let k = out.count;
                 out.items[k] = o;
                 out.count = k + 1;
             }
-            validation_rank::Found::Nothing => {}
+            validation_rank::Picked::Nothing => {}
         }
     }
     out
@@ -321,8 +320,8 @@ fn used_any(
     n: usize,
     end: u32,
 ) -> Sequence
-    requires { ⌜ (n ≤ instructionPlaces) × Timed (numbered 1 (take n instructions)) (take n (now times)) (take n (now issues)) ⌝ }
-    ensures { λ r. ⌜ (r ≡ sequenceOf (used end (numbered 1 (take n instructions)))) × (r .count ≤ instructionPlaces) ⌝ }
+    requires { ⌜ Entered instructions (now times) (now issues) n ⌝ }
+    ensures { λ r. ⌜ Holds r (used end (numbered 1 (take n instructions))) ⌝ }
 {
     let mut out = empty();
     let mut t: u32 = 0;
@@ -333,7 +332,7 @@ fn used_any(
             return out;
         }
         let u = used_at(instructions, times, issues, n, next);
-        out = push_found(out, u);
+        out = push_picked(out, u);
         t = next + 1;
         i += 1;
     }
@@ -349,8 +348,8 @@ pub fn used_in(
     end: u32,
     ordered: bool,
 ) -> Sequence
-    requires { ⌜ (n ≤ instructionPlaces) × (n ≤ length (now times)) × Timed (numbered 1 (take n instructions)) (take n (now times)) (take n (now issues)) × (ordered ≡ rises 0 (take n (now times))) ⌝ }
-    ensures { λ r. ⌜ (r ≡ sequenceOf (used end (numbered 1 (take n instructions)))) × (r .count ≤ instructionPlaces) ⌝ }
+    requires { ⌜ EnteredIn instructions (now times) (now issues) n ordered ⌝ }
+    ensures { λ r. ⌜ Holds r (used end (numbered 1 (take n instructions))) ⌝ }
 {
     if ordered {
         return used_ordered(instructions, times, issues, n, end);

@@ -1,14 +1,14 @@
 -- The cases of step 4 and of the fates by number, each with its conditions as plain facts.
 use mathlib.Core.Path.{_≡_, refl, sym, ap, _∙_}
-use mathlib.Core.List.{List, [], _∷_, _++_, map}
+use mathlib.Core.List.{List, [], _∷_, _++_, map, map-append}
 use mathlib.Core.Bool.{Bool, _||_}
-use Prim.Native.Nat.{ℕ, zero, suc, _+_, _-_, _≤_, _<_, min}
+use Prim.Native.Nat.{ℕ, zero, suc, _+_, _≤_, _<_, min}
 use native.Mathlib.Numerals.{add-one}
-use native.Mathlib.Decide.{decLe}
+use native.Mathlib.Decide.{decLe, ℕ-discrete}
 use native.Mathlib.Omega.{arith}
 use lib.Dec.{leb}
-use lib.ListN.{length, take, drop, getD, set, length-append, List·getD-eq-default}
-use lib.Seq.{take-suc, take-suc-set, getD-take}
+use lib.ListN.{length, take, drop, getD, set, length-append}
+use lib.Seq.{take-suc, take-suc-set, getD-take, getD-set-same, getD-set-other}
 use borrow.Author.Tests.{le-leb, lt-leb, eq-eqb, ne-eqb}
 use Rattle.level.specs.Choice.{pick}
 use Rattle.level.specs.Numbers.{instructionPlaces}
@@ -32,10 +32,6 @@ number-last k (y ∷ ys) x =
     ap (λ (l : List Numbered). record { number = k; instruction = y } ∷ l)
     (number-last (suc k) ys x ∙ (λ j. numbered (suc k) ys ++ (record { number = e j; instruction = x } ∷ [])))
 
-map-last : (f : Numbered → ℕ) (xs : List Numbered) (x : Numbered) → map f (xs ++ (x ∷ [])) ≡ map f xs ++ (f x ∷ [])
-map-last f [] x = refl
-map-last f (y ∷ ys) x = ap (λ (l : List ℕ). f y ∷ l) (map-last f ys x)
-
 pub timed-none : (is : List Instruction) (times issues : List ℕ) → Timed (numbered 1 (take 0 is)) (take 0 times) (take 0 issues)
 unfolding numbered
 timed-none is times issues = record { effective = refl; issued = refl }
@@ -47,39 +43,17 @@ module _ (is : List Instruction) (i : ℕ) (h : i < length is) where
   one-more = rw (add-one, take-suc is i (noNumbered .instruction) h) (number-last 1 (take i is) (getD is i (noNumbered .instruction)))
 
   time-more : (f : Numbered → ℕ) (ts : List ℕ) (v : ℕ) → i < length ts →
-      v ≡ f (record { number = 1 + length (take i is); instruction = getD is i (noNumbered .instruction) }) → take i ts ≡ map f
-      (numbered 1 (take i is)) →
-      take (i + 1) (set ts i v) ≡ map f (numbered 1 (take (i + 1) is))
-  time-more f ts v k e q = rw (one-more, map-last f (numbered 1 (take i is)), add-one, take-suc-set ts i v k, q, e)
+      v ≡ f (record { number = 1 + length (take i is); instruction = getD is i (noNumbered .instruction) }) →
+      take i ts ≡ map f (numbered 1 (take i is)) → take (i + 1) (set ts i v) ≡ map f (numbered 1 (take (i + 1) is))
+  time-more f ts v k e q = rw (one-more, map-append f (numbered 1 (take i is)), add-one, take-suc-set ts i v k, q, e)
 
   pub timed-more : (times issues : List ℕ) → i < length times → i < length issues → Timed (numbered 1 (take i is)) (take i times) (take i issues) →
-      let x : Instruction =
-      getD is i (noNumbered .instruction) in Timed (numbered 1 (take (i + 1) is)) (take (i + 1) (set times i (x .effective)))
-      (take (i + 1) (set issues i (x .issue)))
+      let x : Instruction = getD is i (noNumbered .instruction) in
+      Timed (numbered 1 (take (i + 1) is)) (take (i + 1) (set times i (x .effective))) (take (i + 1) (set issues i (x .issue)))
   timed-more times issues p q t = record {
     effective = time-more effectiveOf times _ p refl (t .effective);
     issued = time-more issueTimeOf issues _ q refl (t .issued);
   }
-
--- ---- fates in an array
-module _ (fates : List ℕ) (number fate : ℕ) where
-  pub settle-zero : number ≡ 0 → fates ≡ settleFate fates number fate
-  unfolding settleFate
-  settle-zero e = simp (eq-eqb _ _ e)
-
-  pub settle-large : length fates ≡ instructionPlaces → instructionPlaces ≤ number - 1 → fates ≡ settleFate fates number fate
-  unfolding settleFate
-  settle-large l h =
-      let n : number ≡ 0 → ⊥ = omega arith in
-      simp (ne-eqb _ _ n, List·getD-eq-default fates 0 {n = number - 1} (omega arith))
-
-  pub settle-done : (number ≡ 0 → ⊥) → (getD fates (number - 1) 0 ≡ 2 → ⊥) → fates ≡ settleFate fates number fate
-  unfolding settleFate
-  settle-done n d = simp (ne-eqb _ _ n, ne-eqb _ _ d)
-
-  pub settle-some : (number ≡ 0 → ⊥) → getD fates (number - 1) 0 ≡ 2 → set fates (number - 1) fate ≡ settleFate fates number fate
-  unfolding settleFate
-  settle-some n d = simp (ne-eqb _ _ n, eq-eqb _ _ d)
 
 -- ---- step 4
 leb-min : (e a own : ℕ) → (leb a own || leb e own) ≡ leb (min e a) own
@@ -103,10 +77,6 @@ pub late-is : (end own earliest : ℕ) (o : Numbered) (os : List Numbered) → o
 unfolding lateFateBy lateFate
 late-is end own earliest o os e h k = rw (k, e, overtaken-is o os (rw e at h))
 
-pub acting-none : {os : List Numbered} → os ≡ [] → earliestActing os ≡ never
-unfolding earliestActing
-acting-none e = rw e
-
 module _ (ks : List Numbered) (n : ℕ) (fits : n ≤ length ks) where
   pub acting-more : (i : ℕ) → i < n →
       min (earliestActing (drop (i + 1) (take n ks))) (acting (getD ks i noNumbered)) ≡ earliestActing (drop i (take n ks))
@@ -123,20 +93,31 @@ module _ (ks : List Numbered) (n : ℕ) (fits : n ≤ length ks) where
   unfolding actors
   actors-keep end i h e = rw (left-cons ks n i noNumbered h fits) (simp (eq-eqb _ _ e))
 
-  settled-next : (end i : ℕ) (fates : List ℕ) → i < n →
-      settled fates (lateMarks end (drop i (take n ks)))
-      ≡ settled (settleFate fates (getD ks i noNumbered .number) (lateFate end (getD ks i noNumbered) (drop (i + 1) (take n ks))))
-      (lateMarks end (drop (i + 1) (take n ks)))
-  unfolding settled lateMarks
-  settled-next end i fates h = rw (left-cons ks n i noNumbered h fits)
-
   -- with the fate of the one at the place i
   pub settled-more : (end i : ℕ) (fates next : List ℕ) (fate : ℕ) → i < n → fate ≡ lateFate end (getD ks i noNumbered) (drop (i + 1) (take n ks)) →
       next ≡ settleFate fates (getD ks i noNumbered .number) fate →
       settled next (lateMarks end (drop (i + 1) (take n ks))) ≡ settled fates (lateMarks end (drop i (take n ks)))
-  settled-more end i fates next fate h e q =
-      ap (λ (l : List ℕ). settled l (lateMarks end (drop (i + 1) (take n ks)))) (q ∙ ap (settleFate fates (getD ks i noNumbered .number)) e)
-      ∙ sym (settled-next end i fates h)
+  unfolding settled lateMarks
+  settled-more end i fates next fate h e q = rw (q, e, left-cons ks n i noNumbered h fits)
+
+-- step 4's fates from the place i on, and the earliest acting time of those there
+pub record LateFrom (end : ℕ) (ks : List Numbered) (n i : ℕ) (fates : List ℕ) (earliest : ℕ) : Type 0 where
+  pub earliest-is : earliest ≡ earliestActing (drop i (take n ks))
+  pub fates-are : (j : ℕ) → i ≤ j → j < n → getD fates j 0 ≡ lateFate end (getD ks j noNumbered) (drop (j + 1) (take n ks))
+
+-- with the one at the place i, which acts at the time own
+pub late-more : {end n i own earliest fate least : ℕ} {ks : List Numbered} {fates : List ℕ} → n ≤ length ks → i < n → i < length fates →
+    own ≡ acting (getD ks i noNumbered) → own < never → fate ≡ lateFateBy end own earliest → least ≡ min earliest own →
+    LateFrom end ks n (i + 1) fates earliest → LateFrom end ks n i (set fates i fate) least
+late-more {end} {n} {i} {own} {earliest} {fate} {least} {ks} {fates} g h room e soon q m r = record {
+  earliest-is = m ∙ ((λ j. min (r .earliest-is j) (e j)) ∙ acting-more ks n g i h);
+  fates-are = λ j p l. elim (ℕ-discrete j i) [
+    | yes z ↦
+        rw z (getD-set-same fates i fate 0 room ∙ (q
+        ∙ late-is end own earliest (getD ks i noNumbered) (drop (i + 1) (take n ks)) e soon (r .earliest-is)))
+    | no z ↦ getD-set-other fates i j fate 0 z ∙ r .fates-are j (omega arith) l
+  ];
+}
 
 -- ---- the fates by number
 module _ (times issues later : List ℕ) where
@@ -165,11 +146,3 @@ fates-more ts js n i later h k =
     let b : getD js i 0 ≡ getD (take n js) i 0 = sym (getD-take n js i 0 h) in
     p ∙ ap (filled instructionPlaces 0) ((λ q. xs ++ (pick (supersededAmong (take n ts) (take n js) (a q) (b q)) 1 (getD later i 0) ∷ []))
     ∙ sym (fates-step (take n ts) (take n js) later i))
-
-pub actors-none : {os : List Numbered} (end : ℕ) → os ≡ [] → actors end os ≡ []
-unfolding actors
-actors-none end e = rw e
-
-pub settled-none : {os : List Numbered} (end : ℕ) (fates : List ℕ) → os ≡ [] → settled fates (lateMarks end os) ≡ fates
-unfolding settled lateMarks
-settled-none end fates e = rw e

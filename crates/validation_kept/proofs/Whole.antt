@@ -2,15 +2,15 @@
 use mathlib.Core.Path.{_≡_, refl, sym, ap, _∙_}
 use mathlib.Core.List.{List, [], _∷_, _++_, append-assoc, append-nil}
 use mathlib.Core.Bool.{Bool, true, false}
-use mathlib.Core.Logic.{_⊎_, inl, inr}
 use Prim.Native.Nat.{ℕ, zero, suc, _+_, _-_, _≤_, _<_, min}
 use native.Mathlib.Decide.{ℕ-discrete, decLe}
 use native.Mathlib.Omega.{arith}
 use lib.Dec.{eqb}
-use lib.ListN.{length, take, getD, replicate, length-set, getD-replicate, length-take}
+use lib.ListN.{length, take, getD, set, replicate, getD-replicate, length-take}
 use lib.Seq.{take-suc, take-all, getD-set-same, getD-set-other}
 use borrow.Author.Tests.{eq-eqb, ne-eqb}
 use Rattle.level.specs.Choice.{pick}
+use Rattle.level.proofs.Lists.{by-bool}
 use Rattle.level.specs.Numbers.{instructionPlaces}
 use Rattle.level.specs.Lists.{filled}
 use Rattle.records.specs.declared.Instruction.{Instruction}
@@ -19,14 +19,13 @@ use Rattle.validation.specs.Kept.{numbered, Mark, superseded, Checked, check, u
 use Rattle.validation.proofs.Few.{numbered-length, Fated, fated-append, checked-fated, late-fated}
 use Rattle.validation_groups.specs.declared.Sequence.{Sequence}
 use Rattle.validation_kept.specs.declared.Validation.{Validation}
-use Rattle.validation_groups.specs.Working.{noNumbered, sequenceOf, Timed, supersededAmong}
+use Rattle.validation_groups.specs.Working.{noNumbered, Holds, Timed, supersededAmong}
 use Rattle.validation_kept.specs.Outcome.{outcomeOf, validationOf}
-use Rattle.validation_kept.specs.Late.{settleFate, settled, fatesTo}
+use Rattle.validation_kept.specs.Late.{settleFate, settled, actingWith, fatesTo}
 use Rattle.validation_sequence.specs.Working.{Checking, setFate, marked, noneChecked, Tracks}
-use Rattle.validation_groups.proofs.Laws.{held, superseded-at}
+use Rattle.validation_groups.proofs.Laws.{held, superseded-at, number-from}
 use Rattle.validation_sequence.proofs.Stack.{stack-turned}
-use Rattle.validation_kept.proofs.Late.{settle-zero, settle-done, settle-some}
-use Rattle.validation_sequence.proofs.Steps.{set-zero, set-some}
+use Rattle.validation_sequence.proofs.Steps.{set-zero, set-some, set-length}
 
 -- the array has at each place the fate of the number one above
 pub record Reads (fates : List ℕ) (ms : List Mark) : Type 0 where
@@ -38,32 +37,26 @@ unfolding fateAmong
 reads-none = record { long = refl; at = λ i h. getD-replicate instructionPlaces i 2 0 h }
 
 -- ---- one more mark in front sets one fate
-module _ (fates : List ℕ) (ms : List Mark) (r : Reads fates ms) (m : Mark) where
-  set-long : length (setFate fates (m .number) (m .fate)) ≡ instructionPlaces
-  set-long = elim (ℕ-discrete (m .number) 0) [
-    | yes z ↦ ap length (sym (set-zero fates (m .number) (m .fate) z)) ∙ r .long
-    | no z ↦ ap length (sym (set-some fates (m .number) (m .fate) z)) ∙ (length-set fates (m .number - 1) (m .fate) ∙ r .long)
-  ]
-
-  set-at : (i : ℕ) → i < instructionPlaces →
-      getD (setFate fates (m .number) (m .fate)) i 0 ≡ pick (eqb (m .number) (i + 1)) (m .fate) (fateAmong (i + 1) ms)
-  set-at i h = elim (ℕ-discrete (m .number) (i + 1)) [
+module _ (fates : List ℕ) (long : length fates ≡ instructionPlaces) (m : Mark) (i : ℕ) (h : i < instructionPlaces) where
+  set-at : getD (setFate fates (m .number) (m .fate)) i 0 ≡ pick (eqb (m .number) (i + 1)) (m .fate) (getD fates i 0)
+  set-at = elim (ℕ-discrete (m .number) (i + 1)) [
     | yes e ↦
         let z : m .number ≡ 0 → ⊥ = omega arith in
         let p : m .number - 1 ≡ i = omega arith in
-        rw (eq-eqb (m .number) (i + 1) e, ← set-some fates (m .number) (m .fate) z, p) (getD-set-same fates i (m .fate) 0 (omega (arith, r .long)))
-    | no n ↦ rw (ne-eqb (m .number) (i + 1) n) (other i h n (ℕ-discrete (m .number) 0))
+        rw (eq-eqb (m .number) (i + 1) e, ← set-some fates (m .number) (m .fate) z, p) (getD-set-same fates i (m .fate) 0 (omega arith))
+    | no n ↦ rw (ne-eqb (m .number) (i + 1) n) (other n (ℕ-discrete (m .number) 0))
   ]
     where
-      other : (i : ℕ) → i < instructionPlaces → (m .number ≡ i + 1 → ⊥) → Dec (m .number ≡ 0) →
-          getD (setFate fates (m .number) (m .fate)) i 0 ≡ fateAmong (i + 1) ms
-      other i h n (yes z) = rw (← set-zero fates (m .number) (m .fate) z) (r .at i h)
-      other i h n (no z) =
-          rw (← set-some fates (m .number) (m .fate) z) (getD-set-other fates (m .number - 1) i (m .fate) 0 (λ q. n (omega arith)) ∙ r .at i h)
+      other : (m .number ≡ i + 1 → ⊥) → Dec (m .number ≡ 0) → getD (setFate fates (m .number) (m .fate)) i 0 ≡ getD fates i 0
+      other n (yes z) = rw (← set-zero fates (m .number) (m .fate) z)
+      other n (no z) = rw (← set-some fates (m .number) (m .fate) z) (getD-set-other fates (m .number - 1) i (m .fate) 0 (λ q. n (omega arith)))
 
 reads-set : (fates : List ℕ) (ms : List Mark) → Reads fates ms → (m : Mark) → Reads (setFate fates (m .number) (m .fate)) (m ∷ ms)
 unfolding fateAmong
-reads-set fates ms r m = record { long = set-long fates ms r m; at = set-at fates ms r m }
+reads-set fates ms r m = record {
+  long = set-length fates (m .number) (m .fate) ∙ r .long;
+  at = λ i h. set-at fates (r .long) m i h ∙ ap (pick (eqb (m .number) (i + 1)) (m .fate)) (r .at i h);
+}
 
 pub reads-marked : (ms : List Mark) → Reads (marked (replicate instructionPlaces 2) ms) ms
 unfolding marked
@@ -81,64 +74,54 @@ among-last : (k : ℕ) (ms : List Mark) (m : Mark) → NoTwo ms →
     fateAmong k (ms ++ (m ∷ [])) ≡ pick (eqb (fateAmong k ms) 2) (pick (eqb (m .number) k) (m .fate) 2) (fateAmong k ms)
 unfolding fateAmong
 among-last k [] m n = refl
-among-last k (x ∷ xs) m n = go (eqb (x .number) k) (among-last k xs m (n .1))
-  where
-    go : (b : Bool) → fateAmong k (xs ++ (m ∷ [])) ≡ pick (eqb (fateAmong k xs) 2) (pick (eqb (m .number) k) (m .fate) 2) (fateAmong k xs) →
-        pick b (x .fate) (fateAmong k (xs ++ (m ∷ []))) ≡ pick (eqb (pick b (x .fate) (fateAmong k xs)) 2) (pick (eqb (m .number) k) (m .fate) 2)
-        (pick b (x .fate) (fateAmong k xs))
-    go true ih = rw (ne-eqb (x .fate) 2 (n .0))
-    go false ih = ih
+among-last k (x ∷ xs) m n =
+    let ih = among-last k xs m (n .1) in
+    by-bool (eqb (x .number) k) (λ e. rw (e, ne-eqb (x .fate) 2 (n .0))) (λ e. rw e ih)
 
-module _ (fates : List ℕ) (ms : List Mark) (r : Reads fates ms) (none : NoTwo ms) (m : Mark) where
-  -- where it is another number, or the number is settled
-  kept-fate : (i : ℕ) → i < instructionPlaces → (m .number ≡ i + 1 → ⊥) ⊎ (getD fates i 0 ≡ 2 → ⊥) →
-      getD (settleFate fates (m .number) (m .fate)) i 0 ≡ getD fates i 0
-  kept-fate i h q = elim (ℕ-discrete (m .number) 0) [
-    | yes z ↦ rw (← settle-zero fates (m .number) (m .fate) z)
-    | no z ↦ settled-or z (ℕ-discrete (getD fates (m .number - 1) 0) 2) q
-  ]
+two-stays : (k : ℕ) → k ≡ pick (eqb k 2) 2 k
+two-stays k = elim (ℕ-discrete k 2) [ yes e ↦ rw (eq-eqb k 2 e) e | no n ↦ rw (ne-eqb k 2 n) ]
+
+module _ (fates : List ℕ) (long : length fates ≡ instructionPlaces) (m : Mark) where
+  -- a fate is set where none is settled
+  settle-is : settleFate fates (m .number) (m .fate) ≡ pick (eqb (getD fates (m .number - 1) 0) 2) (setFate fates (m .number) (m .fate)) fates
+  unfolding settleFate setFate
+  settle-is = go (eqb (m .number) 0) (eqb (getD fates (m .number - 1) 0) 2)
     where
-      settled-or : (m .number ≡ 0 → ⊥) → Dec (getD fates (m .number - 1) 0 ≡ 2) → (m .number ≡ i + 1 → ⊥) ⊎ (getD fates i 0 ≡ 2 → ⊥) →
-          getD (settleFate fates (m .number) (m .fate)) i 0 ≡ getD fates i 0
-      settled-or z (no d) q = rw (← settle-done fates (m .number) (m .fate) z d)
-      settled-or z (yes d) (inl n) =
-          rw (← settle-some fates (m .number) (m .fate) z d) (getD-set-other fates (m .number - 1) i (m .fate) 0 (λ e. n (omega arith)))
-      settled-or z (yes d) (inr n) =
-          rw (← settle-some fates (m .number) (m .fate) z d) (getD-set-other fates (m .number - 1) i (m .fate) 0 (λ e. n (rw (← e) at d)))
+      new : List ℕ
+      new = set fates (m .number - 1) (m .fate)
+
+      go : (a b : Bool) → pick a fates (pick b new fates) ≡ pick b (pick a fates new) fates
+      go true true = refl
+      go true false = refl
+      go false b = refl
 
   settle-long : length (settleFate fates (m .number) (m .fate)) ≡ instructionPlaces
-  settle-long = elim (ℕ-discrete (m .number) 0) [
-    | yes z ↦ ap length (sym (settle-zero fates (m .number) (m .fate) z)) ∙ r .long
-    | no z ↦ elim (ℕ-discrete (getD fates (m .number - 1) 0) 2) [
-      | yes d ↦ ap length (sym (settle-some fates (m .number) (m .fate) z d)) ∙ (length-set fates (m .number - 1) (m .fate) ∙ r .long)
-      | no d ↦ ap length (sym (settle-done fates (m .number) (m .fate) z d)) ∙ r .long
-    ]
-  ]
+  settle-long =
+      by-bool (eqb (getD fates (m .number - 1) 0) 2) (λ e. rw (settle-is, e) (set-length fates (m .number) (m .fate) ∙ long))
+      (λ e. rw (settle-is, e) long)
 
   settle-at : (i : ℕ) → i < instructionPlaces →
       getD (settleFate fates (m .number) (m .fate)) i 0 ≡ pick (eqb (getD fates i 0) 2) (pick (eqb (m .number) (i + 1)) (m .fate) 2) (getD fates i 0)
-  settle-at i h = elim (ℕ-discrete (getD fates i 0) 2) [
-    | no d ↦ rw (ne-eqb (getD fates i 0) 2 d) (kept-fate i h (inr d))
-    | yes d ↦ rw (eq-eqb (getD fates i 0) 2 d) (unsettled d (ℕ-discrete (m .number) (i + 1)))
-  ]
+  settle-at i h = rw settle-is (go (eqb (getD fates (m .number - 1) 0) 2) refl (ℕ-discrete (m .number) (i + 1)))
     where
-      unsettled : getD fates i 0 ≡ 2 → Dec (m .number ≡ i + 1) →
-          getD (settleFate fates (m .number) (m .fate)) i 0 ≡ pick (eqb (m .number) (i + 1)) (m .fate) 2
-      unsettled d (no n) = rw (ne-eqb (m .number) (i + 1) n) (kept-fate i h (inl n) ∙ d)
-      unsettled d (yes e) =
-          let z : m .number ≡ 0 → ⊥ = omega arith in
+      go : (b : Bool) → eqb (getD fates (m .number - 1) 0) 2 ≡ b → Dec (m .number ≡ i + 1) →
+          getD (pick b (setFate fates (m .number) (m .fate)) fates) i 0
+          ≡ pick (eqb (getD fates i 0) 2) (pick (eqb (m .number) (i + 1)) (m .fate) 2) (getD fates i 0)
+      go true q (yes e) =
           let p : m .number - 1 ≡ i = omega arith in
-          let q : getD fates (m .number - 1) 0 ≡ 2 = ap (λ (k : ℕ). getD fates k 0) p ∙ d in
-          rw (eq-eqb (m .number) (i + 1) e, ← settle-some fates (m .number) (m .fate) z q, p)
-          (getD-set-same fates i (m .fate) 0 (omega (arith, r .long)))
+          rw (set-at fates long m i h, rw p at q, eq-eqb (m .number) (i + 1) e)
+      go false q (yes e) = let p : m .number - 1 ≡ i = omega arith in rw (rw p at q)
+      go true q (no n) = rw (set-at fates long m i h, ne-eqb (m .number) (i + 1) n) (two-stays (getD fates i 0))
+      go false q (no n) = rw (ne-eqb (m .number) (i + 1) n) (two-stays (getD fates i 0))
 
-  reads-settle : Reads (settleFate fates (m .number) (m .fate)) (ms ++ (m ∷ []))
-  reads-settle = record {
-    long = settle-long;
-    at =
-        λ i h. settle-at i h ∙ (ap (λ (k : ℕ). pick (eqb k 2) (pick (eqb (m .number) (i + 1)) (m .fate) 2) k) (r .at i h)
-        ∙ sym (among-last (i + 1) ms m none));
-  }
+reads-settle : (fates : List ℕ) (ms : List Mark) → Reads fates ms → NoTwo ms → (m : Mark) →
+    Reads (settleFate fates (m .number) (m .fate)) (ms ++ (m ∷ []))
+reads-settle fates ms r none m = record {
+  long = settle-long fates (r .long) m;
+  at = λ i h.
+      settle-at fates (r .long) m i h
+      ∙ (ap (λ (k : ℕ). pick (eqb k 2) (pick (eqb (m .number) (i + 1)) (m .fate) 2) k) (r .at i h) ∙ sym (among-last (i + 1) ms m none));
+}
 
 pub reads-settled : (fates : List ℕ) (ms ls : List Mark) → Reads fates ms → NoTwo ms → NoTwo ls → Reads (settled fates ls) (ms ++ ls)
 unfolding settled
@@ -149,12 +132,6 @@ reads-settled fates ms (l ∷ ls) r n k =
     (fated-append NotTwo ms (l ∷ []) n (k .0, tt)) (k .1))
 
 -- ---- the fates by number
-pub number-at : (k : ℕ) (is : List Instruction) (i : ℕ) → i < length is → getD (numbered k is) i noNumbered .number ≡ k + i
-unfolding numbered
-number-at k [] i h = absurd (omega arith)
-number-at k (x ∷ is) zero h = omega arith
-number-at k (x ∷ is) (suc i) h = omega (arith, number-at (suc k) is i (omega arith))
-
 fates-last : (all : List Numbered) (ms : List Mark) (xs : List Numbered) (x : Numbered) →
     fatesOf all ms (xs ++ (x ∷ [])) ≡ fatesOf all ms xs ++ (pick (superseded all x) 1 (fateAmong (x .number) ms) ∷ [])
 unfolding fatesOf
@@ -169,7 +146,7 @@ module _ (is : List Instruction) (few : length is ≤ instructionPlaces) (times 
   fates-upto (suc i) h =
       let os = numbered 1 is in
       let o = getD os i noNumbered in
-      let n : i + 1 ≡ o .number = omega (arith, number-at 1 is i h) in
+      let n : i + 1 ≡ o .number = omega (arith, ap (λ (x : Numbered). x .number) (number-from 1 is i h)) in
       let e : getD later i 0 ≡ fateAmong (o .number) ms = r .at i (omega arith) ∙ ap (λ (k : ℕ). fateAmong k ms) n in
       let u : supersededAmong times issues (getD times i 0) (getD issues i 0) ≡ superseded os o = superseded-at timed i in
       let ih : fatesTo times issues later i ≡ fatesOf os ms (take i os) = fates-upto i (omega arith) in
@@ -202,11 +179,9 @@ module _ (end : ℕ) (os : List Numbered) (s : Checking) (t : Tracks s (check no
 
 -- what the code puts together
 abbrev pub result : ℕ → List ℕ → List ℕ → Checking → ℕ → Validation
-result end times issues s n = record {
-  fates = filled instructionPlaces 0 (fatesTo times issues (settled (s .fates) (lateMarks end (take (s .height) (s .kept)))) n);
-  acts = filled instructionPlaces noNumbered (actors end (take (s .height) (s .kept)));
-  acting = length (actors end (take (s .height) (s .kept)));
-}
+result end times issues s n =
+    let ks = take (s .height) (s .kept) in
+    actingWith (filled instructionPlaces 0 (fatesTo times issues (settled (s .fates) (lateMarks end ks)) n)) (actors end ks)
 
 outcome-is : (end : ℕ) (is : List Instruction) → length is ≤ instructionPlaces → (times issues : List ℕ) → Timed (numbered 1 is) times issues →
     (s : Checking) → Tracks s (check noneChecked (used end (numbered 1 is))) → s .height ≤ length (s .kept) →
@@ -218,7 +193,7 @@ outcome-is end is few times issues timed s t fits =
     let f : fatesTo times issues later (length is) ≡ fatesOf os (validated end os .marks) os =
     fates-all is few times issues timed later (validated end os .marks) (marks-are end os s t fits) in
     let a : actors end (take (s .height) (s .kept)) ≡ validated end os .acts = acts-are end os s t fits in
-    λ j. record { fates = filled instructionPlaces 0 (f j); acts = filled instructionPlaces noNumbered (a j); acting = length (a j) }
+    λ j. actingWith (filled instructionPlaces 0 (f j)) (a j)
 
 -- of the numbered ones os, the first n of the instructions
 module _ (is : List Instruction) (count end n : ℕ) (all : length is ≡ instructionPlaces) (m : n ≡ min count instructionPlaces) where
@@ -230,15 +205,14 @@ module _ (is : List Instruction) (count end n : ℕ) (all : length is ≡ instru
         rw e (take-all instructionPlaces is (omega arith) ∙ sym (take-all count is (omega arith)))
   ]
 
-  pub validation-is : (times issues : List ℕ) → Timed (numbered 1 (take n is)) times issues → (used-ones : Sequence) →
-      used-ones ≡ sequenceOf (used end (numbered 1 (take n is))) → used-ones .count ≤ instructionPlaces →
-      (s : Checking) → Tracks s (check noneChecked (take (used-ones .count) (used-ones .items))) → s .height ≤ length (s .kept) →
-      result end times issues s n ≡ validationOf is count end
+  pub validation-is : (times issues : List ℕ) → Timed (numbered 1 (take n is)) times issues → (us : Sequence) →
+      Holds us (used end (numbered 1 (take n is))) → (s : Checking) → Tracks s (check noneChecked (take (us .count) (us .items))) →
+      s .height ≤ length (s .kept) → result end times issues s n ≡ validationOf is count end
   unfolding validationOf
-  validation-is times issues timed u q c s t fits =
+  validation-is times issues timed u q s t fits =
       let k : n ≡ length (take n is) = omega (arith, length-take n is) in
       ap (result end times issues s) k
-      ∙ (outcome-is end (take n is) (omega arith) times issues timed s (rw (held q c) at t) fits
+      ∙ (outcome-is end (take n is) (omega arith) times issues timed s (rw (held q) at t) fits
       ∙ ap (λ (l : List Instruction). outcomeOf (numbered 1 l) end) entered)
 
 -- none entered

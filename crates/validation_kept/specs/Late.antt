@@ -1,5 +1,5 @@
 -- Working. What the code of step 4 works with, beside the definitions.
-use Prim.Native.Nat.{ℕ, zero, suc, _+_, _-_, _<_, min}
+use Prim.Native.Nat.{ℕ, zero, suc, _+_, _-_, _<_, _≤_, min}
 use mathlib.Core.Path.{_≡_}
 use mathlib.Core.List.{List, [], _∷_, _++_}
 use lib.Dec.{leb, eqb}
@@ -8,9 +8,9 @@ use Rattle.level.specs.Choice.{pick}
 use Rattle.level.specs.Numbers.{instructionPlaces}
 use Rattle.level.specs.Lists.{filled}
 use Rattle.validation.specs.declared.Numbered.{Numbered}
-use Rattle.validation.specs.Kept.{Mark, acting, lateFate}
+use Rattle.validation.specs.Kept.{Mark, acting, lateFate, lateMarks}
 use Rattle.validation_groups.specs.Working.{noNumbered, supersededAmong}
-use Rattle.validation_sequence.specs.Working.{never}
+use Rattle.validation_sequence.specs.Working.{never, entryNumber, Noted}
 use Rattle.validation_kept.specs.declared.Validation.{Validation}
 
 -- the earliest acting time of these; where there is none, one later than any
@@ -18,8 +18,8 @@ unfoldable pub earliestActing : List Numbered → ℕ
 earliestActing [] = never
 earliestActing (o ∷ os) = min (earliestActing os) (acting o)
 
--- the fate of one that acts at the time own, by the earliest acting time of those after it: `lateFate` of the validation, over the times (`late-is`,
--- proofs/Late, equates them)
+-- the fate of one that acts at the time own, by the earliest acting time of those after it: `lateFate` of the validation, over the times
+-- (`late-is`, proofs/Late, equates them)
 unfoldable pub lateFateBy : ℕ → ℕ → ℕ → ℕ
 lateFateBy end own earliest = pick (leb earliest own) 6 (pick (leb end own) 8 0)
 
@@ -34,6 +34,11 @@ settleFate fates number fate = pick (eqb number 0) fates (pick (eqb (getD fates 
 unfoldable pub settled : List ℕ → List Mark → List ℕ
 settled fates [] = fates
 settled fates (m ∷ ms) = settled (settleFate fates (m .number) (m .fate)) ms
+
+-- these are the fates `before`, with step 4's of the first n kept, whose numbers and fates stand by their places
+abbrev pub SettledBy : List ℕ → List ℕ → ℕ → List ℕ → List ℕ → Type 0
+SettledBy numbers late n before fates = (end : ℕ) (ks : List Numbered) → n ≤ length ks → Noted entryNumber numbers ks n → LateFates end ks n late →
+    fates ≡ settled before (lateMarks end (take n ks))
 
 -- those that act, with the fates of all
 abbrev pub actingWith : List ℕ → List Numbered → Validation

@@ -1,4 +1,4 @@
-// Which instructions are kept, steps 1 to 4: over up to forty instructions with their numbers. Steps 1 and 2 are in `choosing`.
+// Which instructions are kept, steps 1 to 4: over up to forty instructions with their numbers. Steps 1 and 2 are in `validation_groups`.
 ghost use mathlib.Core.Path.{_≡_};
 ghost use Prim.Native.Nat.{ℕ, _≤_};
 ghost use mathlib.Core.List.{List, []};
@@ -7,11 +7,11 @@ ghost use Rattle.level.specs.Lists.{filled};
 ghost use Rattle.level.specs.Choice.{pick};
 ghost use Rattle.level.specs.Numbers.{instructionPlaces};
 ghost use Rattle.validation.specs.declared.Numbered.{Numbered};
-ghost use Rattle.validation.specs.Kept.{numbered, acting, actors, lateMarks};
-ghost use Rattle.validation_groups.specs.Working.{Timed, rises};
+ghost use Rattle.validation.specs.Kept.{numbered, acting, actors};
+ghost use Rattle.validation_groups.specs.Working.{Timed, Table, risingFrom};
 ghost use Rattle.validation_kept.specs.Outcome.{validationOf};
-ghost use Rattle.validation_kept.specs.Late.{lateFateBy, LateFates, settled, actingWith, fatesTo};
-ghost use Rattle.validation_sequence.specs.Working.{entryNumber, Noted, Soon};
+ghost use Rattle.validation_kept.specs.Late.{lateFateBy, LateFates, SettledBy, actingWith, fatesTo};
+ghost use Rattle.validation_sequence.specs.Working.{Noted, Soon};
 
 // What steps 1 to 4 come to: the fates by number, those that act in time order, and how many these are.
 pub struct Validation {
@@ -38,7 +38,8 @@ fn first_fate(first: bool, fate: u8, second: bool, other: u8) -> u8
     0
 }
 
-// The fate that step 4 gives one that acts at the time own: 6 where the earliest of those after it acts no later, else 8 where it acts at the day's end or later; 0 where it acts.
+// The fate that step 4 gives one that acts at the time own: 6 where the earliest of those after it acts no later, else 8 where it
+// acts at the day's end or later; 0 where it acts.
 fn late_fate(earliest: u64, own: u64, end: u32) -> u8
     ensures { λ r. ⌜ r ≡ lateFateBy end own earliest ⌝ }
 {
@@ -73,7 +74,7 @@ fn settle_late(
     before: [u8; level::INSTRUCTIONS],
 ) -> [u8; level::INSTRUCTIONS]
     requires { ⌜ n ≤ instructionPlaces ⌝ }
-    ensures { λ r. ⌜ ((end : ℕ) (ks : List Numbered) → n ≤ length ks → Noted entryNumber (now (numbers .entry)) ks n → LateFates end ks n late → r ≡ settled before (lateMarks end (take n ks))) ⌝ }
+    ensures { λ r. ⌜ SettledBy (now (numbers .entry)) late n before r ⌝ }
 {
     let mut out = before;
     let mut i: usize = 0;
@@ -148,7 +149,7 @@ fn fates_of(
     ordered: bool,
     later: [u8; level::INSTRUCTIONS],
 ) -> [u8; level::INSTRUCTIONS]
-    requires { ⌜ (n ≤ instructionPlaces) × (n ≤ length (now times)) × (n ≤ length (now issues)) × (ordered ≡ rises 0 (take n (now times))) ⌝ }
+    requires { ⌜ Table (now times) (now issues) n × (ordered ≡ risingFrom 0 (take n (now times))) ⌝ }
     ensures { λ r. ⌜ r ≡ filled instructionPlaces 0 (fatesTo (take n (now (times .entry))) (take n (now (issues .entry))) later n) ⌝ }
 {
     let mut out = [0u8; level::INSTRUCTIONS];
@@ -172,8 +173,8 @@ fn time_all(
     times: &mut [u32; level::INSTRUCTIONS],
     issues: &mut [u32; level::INSTRUCTIONS],
 )
-    requires { ⌜ (n ≤ instructionPlaces) × (n ≤ length (now times)) × (n ≤ length (now issues)) ⌝ }
-    ensures { λ r. ⌜ (n ≤ length (now (times .exit))) × (n ≤ length (now (issues .exit))) × Timed (numbered 1 (take n instructions)) (take n (now (times .exit))) (take n (now (issues .exit))) ⌝ }
+    requires { ⌜ Table (now times) (now issues) n ⌝ }
+    ensures { λ r. ⌜ Table (now (times .exit)) (now (issues .exit)) n × Timed (numbered 1 (take n instructions)) (take n (now (times .exit))) (take n (now (issues .exit))) ⌝ }
 {
     let mut i: usize = 0;
     while i < n {
@@ -198,7 +199,8 @@ fn none_entered() -> Validation
     }
 }
 
-// Which of the first `count` instructions are kept, in a day of `end` seconds. A count above forty reads like forty; where there is none, nothing is looked at.
+// Which of the first `count` instructions are kept, in a day of `end` seconds. A count above forty reads like forty; where there
+// is none, nothing is looked at.
 pub fn validate(
     instructions: [records::Instruction; level::INSTRUCTIONS],
     count: usize,

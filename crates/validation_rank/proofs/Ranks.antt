@@ -1,63 +1,45 @@
 -- The cases of ranks and carriers, each with its conditions as plain facts.
 use mathlib.Core.Path.{_≡_, refl, sym, ap, _∙_}
 use mathlib.Core.List.{List, [], _∷_}
-use mathlib.Core.Bool.{true, false}
+use mathlib.Core.Bool.{true, false, _&&_}
 use Prim.Native.Nat.{_≤_, _<_}
 use native.Mathlib.Omega.{arith}
 use lib.Dec.{ltb}
 use lib.ListN.{length, getD}
 use borrow.Author.Tests.{lt-ltb, le-ltb}
 use Rattle.level.specs.Choice.{pick}
-use Rattle.level.specs.Lists.{those}
-use Rattle.records.specs.declared.Effect.{Effect}
 use Rattle.records.specs.declared.Effect.the-variants.{Mwof, Sync, Desy}
 use Rattle.records.specs.Codes.{same}
 use Rattle.validation.specs.declared.Numbered.{Numbered}
 use Rattle.validation.specs.Kept.{effectOf, levelOf, goesBefore, highest, orElse, present, carrying, merged, usedOf}
-use Rattle.validation_rank.specs.Found.{foundList, bestFrom}
-use Rattle.validation_rank.specs.declared.Found.{Found}
-use Rattle.validation_rank.specs.declared.Found.the-variants.{One, Nothing}
+use Rattle.validation_rank.specs.Picked.{pickedList, bestFrom}
+use Rattle.validation_rank.specs.declared.Picked.{Picked}
+use Rattle.validation_rank.specs.declared.Picked.the-variants.{One, Nothing}
 
 module _ (x o : Numbered) where
   pub goes-rank : x .instruction .meaning .rank < o .instruction .meaning .rank → true ≡ goesBefore x o
   unfolding goesBefore
   goes-rank h = simp (lt-ltb _ _ h)
 
-  pub goes-other : o .instruction .meaning .rank ≤ x .instruction .meaning .rank → same (effectOf x) Mwof ≡ false → false ≡ goesBefore x o
-  unfolding goesBefore
-  goes-other h k = rw (le-ltb _ _ h, k)
+  module _ (h : o .instruction .meaning .rank ≤ x .instruction .meaning .rank) where
+    pub goes-other : same (effectOf x) Mwof ≡ false → false ≡ goesBefore x o
+    unfolding goesBefore
+    goes-other k = rw (le-ltb _ _ h, k)
 
-  pub goes-second : o .instruction .meaning .rank ≤ x .instruction .meaning .rank → same (effectOf x) Mwof ≡ true → same (effectOf o) Mwof ≡ false →
-      false ≡ goesBefore x o
-  unfolding goesBefore
-  goes-second h k j = rw (le-ltb _ _ h, k, j)
-
-  pub goes-level : o .instruction .meaning .rank ≤ x .instruction .meaning .rank → same (effectOf x) Mwof ≡ true → same (effectOf o) Mwof ≡ true →
-      ltb (levelOf o) (levelOf x) ≡ goesBefore x o
-  unfolding goesBefore
-  goes-level h k j = rw (le-ltb _ _ h, k, j)
-
-  pub higher-yes : goesBefore x o ≡ true → x ≡ pick (goesBefore x o) x o
-  higher-yes e = rw e
-
-  pub higher-no : goesBefore x o ≡ false → o ≡ pick (goesBefore x o) x o
-  higher-no e = rw e
+    pub goes-mwof : same (effectOf x) Mwof ≡ true → (same (effectOf o) Mwof && ltb (levelOf o) (levelOf x)) ≡ goesBefore x o
+    unfolding goesBefore
+    goes-mwof k = rw (le-ltb _ _ h, k)
 
 -- ---- the carrier, and the one that is used
-module _ (g : List Numbered) where
-  pub merged-other : (o : Numbered) → same (effectOf o) Mwof ≡ false → o ∷ [] ≡ merged g o
+module _ (g : List Numbered) (o : Numbered) (f : Picked) (h : same (effectOf o) Mwof ≡ true)
+    (p : pickedList f ≡ orElse (present Sync g) (present Desy g)) where
+  pub merged-into : (c : Numbered) → f ≡ One c → carrying o c ∷ [] ≡ merged g o
   unfolding merged
-  merged-other o h = rw h
+  merged-into c q = let e : orElse (present Sync g) (present Desy g) ≡ c ∷ [] = sym p ∙ ap pickedList q in rw (h, e)
 
-  pub merged-into : (o : Numbered) (f : Found) (c : Numbered) → same (effectOf o) Mwof ≡ true →
-      foundList f ≡ orElse (present Sync g) (present Desy g) → f ≡ One c → carrying o c ∷ [] ≡ merged g o
+  pub merged-alone : f ≡ Nothing → o ∷ [] ≡ merged g o
   unfolding merged
-  merged-into o f c h p q = let e : orElse (present Sync g) (present Desy g) ≡ c ∷ [] = sym p ∙ ap foundList q in rw (h, e)
-
-  pub merged-alone : (o : Numbered) (f : Found) → same (effectOf o) Mwof ≡ true → foundList f ≡ orElse (present Sync g) (present Desy g) →
-      f ≡ Nothing → o ∷ [] ≡ merged g o
-  unfolding merged
-  merged-alone o f h p q = let e : orElse (present Sync g) (present Desy g) ≡ [] = sym p ∙ ap foundList q in rw (h, e)
+  merged-alone q = let e : orElse (present Sync g) (present Desy g) ≡ [] = sym p ∙ ap pickedList q in rw (h, e)
 
 pub used-best : (g : List Numbered) (o : Numbered) → o ∷ [] ≡ bestFrom [] g → merged g o ≡ usedOf g
 unfolding usedOf bestFrom
@@ -70,19 +52,10 @@ used-none [] e = refl
 used-none (x ∷ xs) e = absurd (omega (arith, ap length e))
 
 -- one more looked at
-pub better-one : (f : Found) (b o h : Numbered) → f ≡ One b → h ≡ pick (goesBefore o b) o b → h ∷ [] ≡ bestFrom (foundList f) (o ∷ [])
+pub better-one : (f : Picked) (b o h : Numbered) → f ≡ One b → h ≡ pick (goesBefore o b) o b → h ∷ [] ≡ bestFrom (pickedList f) (o ∷ [])
 unfolding bestFrom highest
 better-one f b o h e k = rw (e, k)
 
-pub better-none : (f : Found) (o : Numbered) → f ≡ Nothing → o ∷ [] ≡ bestFrom (foundList f) (o ∷ [])
+pub better-none : (f : Picked) (o : Numbered) → f ≡ Nothing → o ∷ [] ≡ bestFrom (pickedList f) (o ∷ [])
 unfolding bestFrom highest
 better-none f o e = rw e
-
-module _ (o : Numbered) (code : Effect) where
-  pub code-same : same (effectOf o) code ≡ true → o ∷ [] ≡ present code (o ∷ [])
-  unfolding present those
-  code-same e = rw e
-
-  pub code-other : same (effectOf o) code ≡ false → [] ≡ present code (o ∷ [])
-  unfolding present those
-  code-other e = rw e

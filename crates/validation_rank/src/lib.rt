@@ -8,10 +8,10 @@ ghost use Rattle.records.specs.declared.Effect.the-variants.{Sync, Desy};
 ghost use Rattle.records.specs.Codes.{same};
 ghost use Rattle.validation.specs.declared.Numbered.{Numbered};
 ghost use Rattle.validation.specs.Kept.{effectOf, goesBefore, orElse, present, carrying, merged, usedOf};
-ghost use Rattle.validation_rank.specs.Found.{foundList, bestFrom};
+ghost use Rattle.validation_rank.specs.Picked.{pickedList, bestFrom};
 
 // One of them, or none.
-pub enum Found {
+pub enum Picked {
     One(validation::Numbered),
     Nothing,
 }
@@ -59,35 +59,35 @@ fn higher(x: validation::Numbered, o: validation::Numbered) -> validation::Numbe
 }
 
 // The highest ranked so far, with o looked at.
-pub fn better(best: Found, o: validation::Numbered) -> Found
-    ensures { λ r. ⌜ foundList r ≡ bestFrom (foundList best) (o ∷ []) ⌝ }
+pub fn better(best: Picked, o: validation::Numbered) -> Picked
+    ensures { λ r. ⌜ pickedList r ≡ bestFrom (pickedList best) (o ∷ []) ⌝ }
 {
     match best {
-        Found::One(b) => {
+        Picked::One(b) => {
             let h = higher(o, b);
-            Found::One(h)
+            Picked::One(h)
         }
-        Found::Nothing => Found::One(o),
+        Picked::Nothing => Picked::One(o),
     }
 }
 
 // o, where it has this code.
-pub fn of_code(o: validation::Numbered, code: records::Effect) -> Found
-    ensures { λ r. ⌜ foundList r ≡ present code (o ∷ []) ⌝ }
+pub fn of_code(o: validation::Numbered, code: records::Effect) -> Picked
+    ensures { λ r. ⌜ pickedList r ≡ present code (o ∷ []) ⌝ }
 {
     if has_code(o, code) {
-        return Found::One(o);
+        return Picked::One(o);
     }
-    Found::Nothing
+    Picked::Nothing
 }
 
-// The first found, else the other.
-pub fn or_else(first: Found, other: Found) -> Found
-    ensures { λ r. ⌜ foundList r ≡ orElse (foundList first) (foundList other) ⌝ }
+// The first picked, else the other.
+pub fn or_else(first: Picked, other: Picked) -> Picked
+    ensures { λ r. ⌜ pickedList r ≡ orElse (pickedList first) (pickedList other) ⌝ }
 {
     match first {
-        Found::One(o) => Found::One(o),
-        Found::Nothing => other,
+        Picked::One(o) => Picked::One(o),
+        Picked::Nothing => other,
     }
 }
 
@@ -113,28 +113,28 @@ fn carry(m: validation::Numbered, c: validation::Numbered) -> validation::Number
 }
 
 // The highest ranked of a group; an MWOF goes into the carrier, where there is one.
-fn merge(highest: validation::Numbered, carrier: Found) -> validation::Numbered
-    ensures { λ r. ⌜ ((g : List Numbered) → foundList carrier ≡ orElse (present Sync g) (present Desy g) → r ∷ [] ≡ merged g highest) ⌝ }
+fn merge(highest: validation::Numbered, carrier: Picked) -> validation::Numbered
+    ensures { λ r. ⌜ ((g : List Numbered) → pickedList carrier ≡ orElse (present Sync g) (present Desy g) → r ∷ [] ≡ merged g highest) ⌝ }
 {
     if !has_code(highest, records::Effect::Mwof) {
         return highest;
     }
     match carrier {
-        Found::One(c) => carry(highest, c),
-        Found::Nothing => highest,
+        Picked::One(c) => carry(highest, c),
+        Picked::Nothing => highest,
     }
 }
 
 // The one that is used of a group: by its highest ranked, its earliest SYNC and its earliest DESY.
-pub fn used_of(best: Found, sync: Found, desy: Found) -> Found
-    ensures { λ r. ⌜ ((g : List Numbered) → foundList best ≡ bestFrom [] g → foundList sync ≡ present Sync g → foundList desy ≡ present Desy g → foundList r ≡ usedOf g) ⌝ }
+pub fn used_of(best: Picked, sync: Picked, desy: Picked) -> Picked
+    ensures { λ r. ⌜ ((g : List Numbered) → pickedList best ≡ bestFrom [] g → pickedList sync ≡ present Sync g → pickedList desy ≡ present Desy g → pickedList r ≡ usedOf g) ⌝ }
 {
     match best {
-        Found::One(h) => {
+        Picked::One(h) => {
             let carrier = or_else(sync, desy);
             let u = merge(h, carrier);
-            Found::One(u)
+            Picked::One(u)
         }
-        Found::Nothing => Found::Nothing,
+        Picked::Nothing => Picked::Nothing,
     }
 }

@@ -6,14 +6,13 @@ use Prim.Native.Nat.{ℕ, zero, suc, _+_, _-_, _≤_, _<_}
 use native.Mathlib.Numerals.{add-one}
 use native.Mathlib.Decide.{ℕ-discrete}
 use native.Mathlib.Omega.{arith}
-use lib.Dec.{leb}
 use lib.ListN.{length, take, getD, set}
 use lib.Seq.{take-suc, getD-set-same, getD-set-other}
 use Rattle.level.specs.Choice.{pick}
-use Rattle.records.specs.declared.Effect.the-variants.{Trip, Sync, Desy}
+use Rattle.records.specs.declared.Effect.the-variants.{Sync}
 use Rattle.records.specs.Codes.{same}
 use Rattle.validation.specs.declared.Numbered.{Numbered}
-use Rattle.validation.specs.Kept.{effectiveOf, effectOf, repeats, syncWithinHour, fromSync, beforeSync, turned}
+use Rattle.validation.specs.Kept.{effectOf, syncWithinHour, fromSync, beforeSync, turned}
 use Rattle.validation_groups.specs.Working.{noNumbered}
 use Rattle.validation_sequence.specs.Working.{stackOf, stackFrom, syncPlace, Synced}
 
@@ -44,37 +43,12 @@ pub stack-turned : (ks : List Numbered) (h : ℕ) → h ≤ length ks → turned
 stack-turned ks h p = stack-before ks h [] p ∙ append-nil (take h ks)
 
 -- ---- against the last kept one
-stack-top : (ks : List Numbered) (h : ℕ) (last : Numbered) → 0 < h → last ≡ getD ks (h - 1) noNumbered → last ∷ stackOf ks (h - 1) ≡ stackOf ks h
+pub stack-top : (ks : List Numbered) (h : ℕ) (last : Numbered) → 0 < h → last ≡ getD ks (h - 1) noNumbered → last ∷ stackOf ks (h - 1) ≡ stackOf ks h
 unfolding stackOf
 stack-top ks zero last p e = absurd (omega arith)
 stack-top ks (suc h) last p e =
     let q : suc h - 1 ≡ h = omega arith in
     rw (e, q)
-
-module _ (o last : Numbered) (ks : List Numbered) (h : ℕ) (e : last ≡ getD ks (h - 1) noNumbered) where
-  pub repeats-none : h ≡ 0 → false ≡ repeats o (stackOf ks h)
-  unfolding repeats stackOf
-  repeats-none z = rw z
-
-  repeats-last : 0 < h → repeats o (last ∷ stackOf ks (h - 1)) ≡ repeats o (stackOf ks h)
-  repeats-last p = ap (repeats o) (stack-top ks h last p e)
-
-  pub repeats-other : 0 < h → same (effectOf o) (effectOf last) ≡ false → false ≡ repeats o (stackOf ks h)
-  unfolding repeats
-  repeats-other p n = rw n at (repeats-last p)
-
-  module _ (p : 0 < h) (l : same (effectOf o) (effectOf last) ≡ true) where
-    pub repeats-sync : same (effectOf o) Sync ≡ true → true ≡ repeats o (stackOf ks h)
-    unfolding repeats
-    repeats-sync s = rw (l, s) at (repeats-last p)
-
-    pub repeats-desy : same (effectOf o) Sync ≡ false → same (effectOf o) Desy ≡ true → true ≡ repeats o (stackOf ks h)
-    unfolding repeats
-    repeats-desy s d = rw (l, s, d) at (repeats-last p)
-
-    pub repeats-trip : same (effectOf o) Sync ≡ false → same (effectOf o) Desy ≡ false → same (effectOf o) Trip ≡ repeats o (stackOf ks h)
-    unfolding repeats
-    repeats-trip s d = rw (l, s, d) at (repeats-last p)
 
 -- ---- the latest kept SYNC
 -- a place above is another matter
@@ -112,61 +86,6 @@ pub sync-noted : (places : List ℕ) (ks : List Numbered) (h : ℕ) → 0 < h �
 sync-noted places ks h p r = let e : suc (h - 1) ≡ h = omega arith in rw e at (r (h - 1) (omega arith))
 
 module _ (ks : List Numbered) where
-  pub sync-le : (h : ℕ) → syncPlace ks h ≤ h
-  unfolding syncPlace
-  sync-le zero = omega arith
-  sync-le (suc h) = go (same (effectOf (getD ks h noNumbered)) Sync) (sync-le h)
-    where
-      go : (b : Bool) → syncPlace ks h ≤ h → pick b (suc h) (syncPlace ks h) ≤ suc h
-      go true ih = omega arith
-      go false ih = omega arith
-
-  pub hour-none : (t h : ℕ) → syncPlace ks h ≡ 0 → syncWithinHour t (stackOf ks h) ≡ false
-  unfolding syncPlace syncWithinHour stackOf
-  hour-none t zero e = refl
-  hour-none t (suc h) e = go (same (effectOf (getD ks h noNumbered)) Sync) e (hour-none t h)
-    where
-      go : (b : Bool) → pick b (suc h) (syncPlace ks h) ≡ 0 → (syncPlace ks h ≡ 0 → syncWithinHour t (stackOf ks h) ≡ false) →
-          pick b (leb t (effectiveOf (getD ks h noNumbered) + 3600)) (syncWithinHour t (stackOf ks h)) ≡ false
-      go true q ih = absurd (omega arith)
-      go false q ih = ih q
-
-  pub sync-is : (h : ℕ) → 0 < syncPlace ks h → same (effectOf (getD ks (syncPlace ks h - 1) noNumbered)) Sync ≡ true
-  unfolding syncPlace
-  sync-is zero p = absurd (omega arith)
-  sync-is (suc h) p = go (same (effectOf (getD ks h noNumbered)) Sync) refl p (sync-is h)
-    where
-      go : (b : Bool) → same (effectOf (getD ks h noNumbered)) Sync ≡ b → 0 < pick b (suc h) (syncPlace ks h) →
-          (0 < syncPlace ks h → same (effectOf (getD ks (syncPlace ks h - 1) noNumbered)) Sync ≡ true) →
-          same (effectOf (getD ks (pick b (suc h) (syncPlace ks h) - 1) noNumbered)) Sync ≡ true
-      go true e q ih = let d : suc h - 1 ≡ h = omega arith in rw d e
-      go false e q ih = ih q
-
-  -- the hour is timed from the latest kept SYNC alone
-  pub hour-some : (t h : ℕ) → 0 < syncPlace ks h → syncWithinHour t (stackOf ks h) ≡ syncWithinHour t (getD ks (syncPlace ks h - 1) noNumbered ∷ [])
-  unfolding syncPlace syncWithinHour stackOf
-  hour-some t zero p = absurd (omega arith)
-  hour-some t (suc h) p = go (same (effectOf (getD ks h noNumbered)) Sync) refl p (hour-some t h)
-    where
-      timed : List Numbered → Bool
-      timed xs = syncWithinHour t xs
-
-      go : (b : Bool) → same (effectOf (getD ks h noNumbered)) Sync ≡ b → 0 < pick b (suc h) (syncPlace ks h) →
-          (0 < syncPlace ks h → timed (stackOf ks h) ≡ timed (getD ks (syncPlace ks h - 1) noNumbered ∷ [])) →
-          timed (getD ks h noNumbered ∷ stackOf ks h) ≡ timed (getD ks (pick b (suc h) (syncPlace ks h) - 1) noNumbered ∷ [])
-      go true e q ih = let d : suc h - 1 ≡ h = omega arith in rw (d, e)
-      go false e q ih = rw e (ih q)
-
-  pub before-sync : (h : ℕ) → beforeSync (stackOf ks h) ≡ stackOf ks (syncPlace ks h - 1)
-  unfolding syncPlace beforeSync stackOf
-  before-sync zero = refl
-  before-sync (suc h) = go (same (effectOf (getD ks h noNumbered)) Sync) (before-sync h)
-    where
-      go : (b : Bool) → beforeSync (stackOf ks h) ≡ stackOf ks (syncPlace ks h - 1) →
-          pick b (stackOf ks h) (beforeSync (stackOf ks h)) ≡ stackOf ks (pick b (suc h) (syncPlace ks h) - 1)
-      go true ih = let e : suc h - 1 ≡ h = omega arith in rw e
-      go false ih = ih
-
   from-more : (a h : ℕ) → a ≤ h → stackFrom ks a (suc h - a) ≡ getD ks h noNumbered ∷ stackFrom ks a (h - a)
   unfolding stackFrom
   from-more a h p =
@@ -178,18 +97,45 @@ module _ (ks : List Numbered) where
   unfolding stackFrom
   from-none a = let e : a - a ≡ 0 = omega arith in rw e
 
-  pub from-sync : (h : ℕ) → 0 < syncPlace ks h → fromSync (stackOf ks h) ≡ stackFrom ks (syncPlace ks h - 1) (h - (syncPlace ks h - 1))
-  unfolding syncPlace fromSync stackOf
-  from-sync zero p = absurd (omega arith)
-  from-sync (suc h) p = go (same (effectOf (getD ks h noNumbered)) Sync) p (from-sync h)
+  -- of the first h, where p stand up to the latest SYNC: the hour is timed from that SYNC alone
+  pub record UpToSync (stack : List Numbered) (h p : ℕ) : Type 0 where
+    pub low : p ≤ h
+    pub none : (t : ℕ) → p ≡ 0 → syncWithinHour t stack ≡ false
+    pub is : 0 < p → same (effectOf (getD ks (p - 1) noNumbered)) Sync ≡ true
+    pub hour : (t : ℕ) → 0 < p → syncWithinHour t stack ≡ syncWithinHour t (getD ks (p - 1) noNumbered ∷ [])
+    pub before : beforeSync stack ≡ stackOf ks (p - 1)
+    pub from : 0 < p → fromSync stack ≡ stackFrom ks (p - 1) (h - (p - 1))
+
+  pub up-to-sync : (h : ℕ) → UpToSync (stackOf ks h) h (syncPlace ks h)
+  unfolding syncPlace syncWithinHour beforeSync fromSync stackOf
+  up-to-sync zero = record {
+    low = omega arith;
+    none = λ t q. refl;
+    is = λ q. absurd (omega arith);
+    hour = λ t q. absurd (omega arith);
+    before = refl;
+    from = λ q. absurd (omega arith);
+  }
+  up-to-sync (suc h) = go (same (effectOf (getD ks h noNumbered)) Sync) refl (up-to-sync h)
     where
-      go : (b : Bool) → 0 < pick b (suc h) (syncPlace ks h) →
-          (0 < syncPlace ks h → fromSync (stackOf ks h) ≡ stackFrom ks (syncPlace ks h - 1) (h - (syncPlace ks h - 1))) →
-          pick b (getD ks h noNumbered ∷ []) (getD ks h noNumbered ∷ fromSync (stackOf ks h))
-          ≡ stackFrom ks (pick b (suc h) (syncPlace ks h) - 1) (suc h - (pick b (suc h) (syncPlace ks h) - 1))
-      go true q ih =
-          let e : suc h - 1 ≡ h = omega arith in
-          rw e (sym (from-more h h (omega arith) ∙ ap (λ (l : List Numbered). getD ks h noNumbered ∷ l) (from-none h)))
-      go false q ih =
-          ap (λ (l : List Numbered). getD ks h noNumbered ∷ l) (ih q)
-          ∙ sym (from-more (syncPlace ks h - 1) h (omega (arith, sync-le h)))
+      go : (b : Bool) → same (effectOf (getD ks h noNumbered)) Sync ≡ b → UpToSync (stackOf ks h) h (syncPlace ks h) →
+          UpToSync (getD ks h noNumbered ∷ stackOf ks h) (suc h) (pick b (suc h) (syncPlace ks h))
+      go true e r =
+          let d : suc h - 1 ≡ h = omega arith in
+          record {
+            low = omega arith;
+            none = λ t q. absurd (omega arith);
+            is = λ q. rw d e;
+            hour = λ t q. rw (d, e);
+            before = rw (d, e);
+            from = λ q. rw (d, e) (sym (from-more h h (omega arith) ∙ ap (λ (l : List Numbered). getD ks h noNumbered ∷ l) (from-none h)));
+          }
+      go false e r = record {
+        low = omega (arith, r .low);
+        none = λ t q. rw e (r .none t q);
+        is = r .is;
+        hour = λ t q. rw e (r .hour t q);
+        before = rw e (r .before);
+        from = λ q.
+            rw e (ap (λ (l : List Numbered). getD ks h noNumbered ∷ l) (r .from q) ∙ sym (from-more (syncPlace ks h - 1) h (omega (arith, r .low))));
+      }

@@ -1,8 +1,8 @@
 -- The cases of step 3, each with its conditions as plain facts.
 use mathlib.Core.Path.{_≡_, refl, sym, ap, _∙_}
 use mathlib.Core.List.{List, [], _∷_, _++_, map}
-use mathlib.Core.Bool.{Bool, true, false}
-use Prim.Native.Nat.{ℕ, suc, _+_, _-_, _≤_, _<_}
+use mathlib.Core.Bool.{true, false}
+use Prim.Native.Nat.{ℕ, _+_, _-_, _≤_, _<_}
 use native.Mathlib.Numerals.{add-one}
 use native.Mathlib.Decide.{ℕ-discrete}
 use native.Mathlib.Omega.{arith}
@@ -11,14 +11,15 @@ use lib.ListN.{length, take, getD, set, replicate, length-set}
 use lib.Seq.{take-suc, set-out, getD-set-same, getD-set-other}
 use borrow.Author.Tests.{eq-eqb, ne-eqb}
 use Rattle.level.specs.Choice.{pick}
+use Rattle.level.proofs.Lists.{by-bool}
 use Rattle.level.specs.Numbers.{instructionPlaces}
 use Rattle.records.specs.declared.Effect.the-variants.{Sync, Fail}
 use Rattle.records.specs.Codes.{same}
 use Rattle.validation.specs.declared.Numbered.{Numbered}
 use Rattle.validation.specs.Kept.{effectiveOf, effectOf, Mark, mark, repeats, syncWithinHour, fromSync, beforeSync, Checked, failed, checkOne, check, acting}
 use Rattle.validation_groups.specs.Working.{noNumbered}
-use Rattle.validation_sequence.specs.Working.{Checking, checking, entryNumber, Noted, Synced, never, Soon, Stepped, stackOf, stackFrom, syncPlace, setFate, marked, withFate, keeping, noneChecked, Tracks, Follows}
-use Rattle.validation_sequence.proofs.Stack.{stack-push, synced-push, hour-none, hour-some, before-sync, from-sync}
+use Rattle.validation_sequence.specs.Working.{Checking, checking, entryNumber, Noted, Synced, never, Soon, StepThree, stackOf, stackFrom, syncPlace, setFate, marked, withFate, keeping, noneChecked, Tracks, Follows, SetsOut}
+use Rattle.validation_sequence.proofs.Stack.{stack-push, synced-push, up-to-sync}
 
 -- ---- fates in an array
 module _ (fates : List ℕ) (number fate : ℕ) where
@@ -36,82 +37,44 @@ module _ (fates : List ℕ) (number fate : ℕ) where
 
   pub set-length : length (setFate fates number fate) ≡ length fates
   unfolding setFate
-  set-length = go (eqb number 0)
-    where
-      go : (b : Bool) → length (pick b fates (set fates (number - 1) fate)) ≡ length fates
-      go true = refl
-      go false = length-set fates (number - 1) fate
+  set-length = by-bool (eqb number 0) (λ e. rw e) (λ e. rw e (length-set fates (number - 1) fate))
 
 pub marked-append : (fates : List ℕ) (xs ys : List Mark) → marked fates (xs ++ ys) ≡ marked (marked fates ys) xs
 unfolding marked
 marked-append fates [] ys = refl
 marked-append fates (x ∷ xs) ys = ap (λ (l : List ℕ). setFate l (x .number) (x .fate)) (marked-append fates xs ys)
 
--- one more of those from the place a on
-pub voided-more : (fates : List ℕ) (ks : List Numbered) (a d : ℕ) →
-    setFate (marked fates (map (mark 4) (stackFrom ks a d))) (getD ks (a + d) noNumbered .number) 4 ≡ marked fates
-    (map (mark 4) (stackFrom ks a (suc d)))
-unfolding marked stackFrom
-voided-more fates ks a d = refl
-
-pub voided-none : (fates : List ℕ) (ks : List Numbered) (a : ℕ) → marked fates (map (mark 4) (stackFrom ks a 0)) ≡ fates
-unfolding marked stackFrom
-voided-none fates ks a = refl
-
 -- ---- step 3
-failed-off : (m : Checked) (o : Numbered) → syncWithinHour (effectiveOf o) (m .kept) ≡ false →
-    failed m o ≡ record { kept = m .kept; marks = mark 5 o ∷ m .marks }
-unfolding failed
-failed-off m o e = rw e
-
-failed-on : (m : Checked) (o : Numbered) → syncWithinHour (effectiveOf o) (m .kept) ≡ true →
-    failed m o ≡ record { kept = beforeSync (m .kept); marks = mark 5 o ∷ (map (mark 4) (fromSync (m .kept)) ++ m .marks) }
-unfolding failed
-failed-on m o e = rw e
-
 module _ (s : Checking) (o : Numbered) where
   tracks-fate : (fate : ℕ) (m : Checked) → Tracks s m → Tracks (withFate s o fate) (record { kept = m .kept; marks = mark fate o ∷ m .marks })
   unfolding withFate marked
   tracks-fate fate m t = record { stack = t .stack; settled = ap (λ (l : List ℕ). setFate l (o .number) fate) (t .settled) }
 
-  pub failed-none : syncPlace (s .kept) (s .height) ≡ 0 → Follows s (withFate s o 5) (λ (m : Checked). failed m o)
-  failed-none p m t =
-      let e : syncWithinHour (effectiveOf o) (m .kept) ≡ false =
-      ap (syncWithinHour (effectiveOf o)) (sym (t .stack)) ∙ hour-none (s .kept) (effectiveOf o) (s .height) p in
-      rw (failed-off m o e) (tracks-fate 5 m t)
+  -- no kept SYNC is within the hour
+  pub failed-off : syncWithinHour (effectiveOf o) (stackOf (s .kept) (s .height)) ≡ false → Follows s (withFate s o 5) (λ (m : Checked). failed m o)
+  unfolding failed
+  failed-off w m t =
+      let q : failed m o ≡ record { kept = m .kept; marks = mark 5 o ∷ m .marks } = rw (rw (t .stack) at w) in
+      rw q (tracks-fate 5 m t)
 
-  pub failed-late : 0 < syncPlace (s .kept) (s .height) →
-      syncWithinHour (effectiveOf o) (getD (s .kept) (syncPlace (s .kept) (s .height) - 1) noNumbered ∷ []) ≡ false → Follows s (withFate s o 5)
-      (λ (m : Checked). failed m o)
-  failed-late p w m t =
-      let e : syncWithinHour (effectiveOf o) (m .kept) ≡ false =
-      ap (syncWithinHour (effectiveOf o)) (sym (t .stack)) ∙ (hour-some (s .kept) (effectiveOf o) (s .height) p ∙ w) in
-      rw (failed-off m o e) (tracks-fate 5 m t)
-
-  pub failed-void : 0 < syncPlace (s .kept) (s .height) →
-      syncWithinHour (effectiveOf o) (getD (s .kept) (syncPlace (s .kept) (s .height) - 1) noNumbered ∷ []) ≡ true →
+  -- the latest is, and a are kept before it
+  pub failed-void : (a : ℕ) → 0 < syncPlace (s .kept) (s .height) → a ≡ syncPlace (s .kept) (s .height) - 1 →
+      syncWithinHour (effectiveOf o) (stackOf (s .kept) (s .height)) ≡ true →
       Follows s
-      (record {
-        kept = s .kept;
-        height = syncPlace (s .kept) (s .height) - 1;
-        fates =
-            setFate (marked (s .fates) (map (mark 4) (stackFrom (s .kept) (syncPlace (s .kept) (s .height) - 1)
-            (s .height - (syncPlace (s .kept) (s .height) - 1))))) (o .number) 5;
-      })
+      (checking (s .kept) a (setFate (marked (s .fates) (map (mark 4) (stackFrom (s .kept) a (s .height - a)))) (o .number) 5))
       (λ (m : Checked). failed m o)
-  unfolding marked
-  failed-void p w m t =
-      let e : syncWithinHour (effectiveOf o) (m .kept) ≡ true =
-      ap (syncWithinHour (effectiveOf o)) (sym (t .stack)) ∙ (hour-some (s .kept) (effectiveOf o) (s .height) p ∙ w) in
-      let voids = stackFrom (s .kept) (syncPlace (s .kept) (s .height) - 1) (s .height - (syncPlace (s .kept) (s .height) - 1)) in
-      let f : fromSync (m .kept) ≡ voids = ap fromSync (sym (t .stack)) ∙ from-sync (s .kept) (s .height) p in
+  unfolding failed marked
+  failed-void a p d w m t =
+      let r = up-to-sync (s .kept) (s .height) in
+      let voids = stackFrom (s .kept) a (s .height - a) in
+      let f : fromSync (m .kept) ≡ voids = rw (t .stack, ← d) at (r .from p) in
       let g : marked (s .fates) (map (mark 4) voids) ≡ marked (replicate instructionPlaces 2) (map (mark 4) (fromSync (m .kept)) ++ m .marks) =
-      ap (λ (l : List ℕ). marked l (map (mark 4) voids)) (t .settled)
-      ∙ (sym (marked-append (replicate instructionPlaces 2) (map (mark 4) voids) (m .marks))
-      ∙ ap (λ (l : List Numbered). marked (replicate instructionPlaces 2) (map (mark 4) l ++ m .marks)) (sym f)) in
-      rw (failed-on m o e)
+      rw (f, t .settled) (sym (marked-append (replicate instructionPlaces 2) (map (mark 4) voids) (m .marks))) in
+      let q : failed m o ≡ record { kept = beforeSync (m .kept); marks = mark 5 o ∷ (map (mark 4) (fromSync (m .kept)) ++ m .marks) } =
+      rw (rw (t .stack) at w) in
+      rw q
       (record {
-        stack = sym (before-sync (s .kept) (s .height)) ∙ ap beforeSync (t .stack);
+        stack = sym (rw (t .stack, ← d) at (r .before));
         settled = ap (λ (l : List ℕ). setFate l (o .number) 5) g;
       })
 
@@ -124,16 +87,14 @@ module _ (s : Checking) (o : Numbered) where
       Follows s (withFate s o 3) (λ (m : Checked). checkOne m o)
   unfolding checkOne
   check-repeat n r m t =
-      let e : repeats o (m .kept) ≡ true = ap (repeats o) (sym (t .stack)) ∙ r in
-      let q : checkOne m o ≡ record { kept = m .kept; marks = mark 3 o ∷ m .marks } = rw (n, e) in
+      let q : checkOne m o ≡ record { kept = m .kept; marks = mark 3 o ∷ m .marks } = rw (n, rw (t .stack) at r) in
       rw q (tracks-fate 3 m t)
 
   pub check-keep : s .height < length (s .kept) → same (effectOf o) Fail ≡ false → repeats o (stackOf (s .kept) (s .height)) ≡ false →
       Follows s (keeping s o) (λ (m : Checked). checkOne m o)
   unfolding checkOne keeping
   check-keep h n r m t =
-      let e : repeats o (m .kept) ≡ false = ap (repeats o) (sym (t .stack)) ∙ r in
-      let q : checkOne m o ≡ record { kept = o ∷ m .kept; marks = m .marks } = rw (n, e) in
+      let q : checkOne m o ≡ record { kept = o ∷ m .kept; marks = m .marks } = rw (n, rw (t .stack) at r) in
       rw q (record { stack = stack-push (s .kept) (s .height) o h ∙ ap (λ (l : List Numbered). o ∷ l) (t .stack); settled = t .settled })
 
 check-last : (m : Checked) (xs : List Numbered) (x : Numbered) → check m (xs ++ (x ∷ [])) ≡ checkOne (check m xs) x
@@ -163,32 +124,6 @@ soon-push times h v b p r j l = elim (ℕ-discrete j h) [
   | no i ↦ rw (getD-set-other times h j v 0 i) (r j (omega arith))
 ]
 
-module _ {ks : List Numbered} {h : ℕ} {fates numbers times : List ℕ} {m : Checked} (r : Stepped ks h fates numbers times m) (o : Numbered) where
-  -- none is added
-  pub stepped-on : (k : ℕ) (next : List ℕ) → k ≤ h → Follows (checking ks h fates) (checking ks k next) (λ (c : Checked). checkOne c o) →
-      Stepped ks k next numbers times (checkOne m o)
-  stepped-on k next p f = record {
-    few = omega (arith, r .few);
-    tracks = f m (r .tracks);
-    named = λ j l. r .named j (omega arith);
-    timed = λ j l. r .timed j (omega arith);
-    soon = λ j l. r .soon j (omega arith);
-  }
-
-  -- o is added, and acts at the time v
-  pub stepped-keep : (v : ℕ) → v ≡ acting o → v < never → h < instructionPlaces → length ks ≡ instructionPlaces → length numbers ≡ instructionPlaces →
-      length times ≡ instructionPlaces →
-      Follows (checking ks h fates) (keeping (checking ks h fates) o) (λ (c : Checked). checkOne c o) →
-      Stepped (set ks h o) (h + 1) fates (set numbers h (o .number)) (set times h v) (checkOne m o)
-  unfolding keeping
-  stepped-keep v e b p a1 a2 a3 f = record {
-    few = omega arith;
-    tracks = f m (r .tracks);
-    named = noted-push entryNumber numbers ks h (o .number) o refl (omega arith) (omega arith) (r .named);
-    timed = noted-push acting times ks h v o e (omega arith) (omega arith) (r .timed);
-    soon = soon-push times h v b (omega arith) (r .soon);
-  }
-
 -- ---- step 3 over the first i of those used, which stood in `first`: the kept ones are in the first places, the others still where they were
 pub record Checks (n i count : ℕ) (first items : List Numbered) (places fates numbers times : List ℕ) : Type 0 where
   pub few : n ≤ instructionPlaces
@@ -202,28 +137,27 @@ pub record Checks (n i count : ℕ) (first items : List Numbered) (places fates 
   pub times-long : length times ≡ instructionPlaces
   pub ahead : (j : ℕ) → i ≤ j → getD items j noNumbered ≡ getD first j noNumbered
   pub synced : Synced places items count
-  pub stepped : Stepped items count fates numbers times (check noneChecked (take i first))
+  pub stepped : StepThree items count fates numbers times (check noneChecked (take i first))
 
 -- none yet
-pub checks-none : (n : ℕ) (first : List Numbered) (places fates numbers times : List ℕ) → n ≤ instructionPlaces → length first ≡ instructionPlaces →
-    length places ≡ instructionPlaces → fates ≡ replicate instructionPlaces 2 →
-    length numbers ≡ instructionPlaces → length times ≡ instructionPlaces → Checks n 0 0 first first places fates numbers times
-checks-none n first places fates numbers times few a b e c d = record {
-  few = few;
+pub checks-none : {n : ℕ} {fates numbers times : List ℕ} (first : List Numbered) (places : List ℕ) → SetsOut n fates numbers times →
+    length first ≡ instructionPlaces → length places ≡ instructionPlaces → Checks n 0 0 first first places fates numbers times
+checks-none first places s a b = record {
+  few = s .few;
   on = omega arith;
   fewer = omega arith;
   first-long = a;
   items-long = a;
   places-long = b;
-  fates-long = ap length e;
-  numbers-long = c;
-  times-long = d;
+  fates-long = ap length (s .unsettled);
+  numbers-long = s .numbers-long;
+  times-long = s .times-long;
   ahead = λ j p. refl;
   synced = λ j l. absurd (omega arith);
   stepped =
       record {
         few = omega arith;
-        tracks = rw e (check-none first);
+        tracks = rw (s .unsettled) (check-none first);
         named = λ j l. absurd (omega arith);
         timed = λ j l. absurd (omega arith);
         soon = λ j l. absurd (omega arith);
@@ -254,7 +188,13 @@ module _ {n i count : ℕ} {first items : List Numbered} {places fates numbers t
     times-long = r .times-long;
     ahead = λ j q. r .ahead j (omega arith);
     synced = λ j q. r .synced j (omega arith);
-    stepped = rw checks-next (stepped-on (r .stepped) (getD items i noNumbered) k next p f);
+    stepped = rw checks-next (record {
+      few = omega (arith, r .stepped .few);
+      tracks = f (check noneChecked (take i first)) (r .stepped .tracks);
+      named = λ j q. r .stepped .named j (omega arith);
+      timed = λ j q. r .stepped .timed j (omega arith);
+      soon = λ j q. r .stepped .soon j (omega arith);
+    });
   }
 
   -- the one looked at is added; it acts at the time v, and `place` are kept up to the latest SYNC
@@ -264,9 +204,11 @@ module _ {n i count : ℕ} {first items : List Numbered} {places fates numbers t
       (λ (m : Checked). checkOne m (getD items i noNumbered)) →
       Checks n (i + 1) (count + 1) first (set items count (getD items i noNumbered)) (set places count place) fates
       (set numbers count (getD items i noNumbered .number)) (set times count v)
+  unfolding keeping
   checks-keep v place before e b p q f =
       let o = getD items i noNumbered in
-      let room : count < instructionPlaces = omega (arith, r .few, r .fewer) in
+      let few : count < instructionPlaces = omega (arith, r .few, r .fewer) in
+      let room : count < length items = omega (arith, r .items-long) in
       record {
         few = r .few;
         on = omega arith;
@@ -278,6 +220,12 @@ module _ {n i count : ℕ} {first items : List Numbered} {places fates numbers t
         numbers-long = length-set numbers count (o .number) ∙ r .numbers-long;
         times-long = length-set times count v ∙ r .times-long;
         ahead = λ j l. getD-set-other items count j o noNumbered (λ k. omega (arith, r .fewer)) ∙ r .ahead j (omega arith);
-        synced = synced-push places items count place before o p q (omega (arith, r .places-long)) (omega (arith, r .items-long)) (r .synced);
-        stepped = rw checks-next (stepped-keep (r .stepped) o v e b room (r .items-long) (r .numbers-long) (r .times-long) f);
+        synced = synced-push places items count place before o p q (omega (arith, r .places-long)) room (r .synced);
+        stepped = rw checks-next (record {
+          few = omega arith;
+          tracks = f (check noneChecked (take i first)) (r .stepped .tracks);
+          named = noted-push entryNumber numbers items count (o .number) o refl (omega (arith, r .numbers-long)) room (r .stepped .named);
+          timed = noted-push acting times items count v o e (omega (arith, r .times-long)) room (r .stepped .timed);
+          soon = soon-push times count v b (omega (arith, r .times-long)) (r .stepped .soon);
+        });
       }

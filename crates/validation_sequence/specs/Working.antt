@@ -1,15 +1,15 @@
 -- Working. What the code of step 3 works with, beside the definitions.
 use Prim.Native.Nat.{ℕ, zero, suc, _+_, _-_, _<_, _≤_}
 use mathlib.Core.Path.{_≡_}
-use mathlib.Core.List.{List, [], _∷_}
+use mathlib.Core.List.{List, [], _∷_, map}
 use lib.Dec.{eqb}
-use lib.ListN.{set, getD, replicate}
+use lib.ListN.{length, set, getD, replicate}
 use Rattle.level.specs.Choice.{pick}
 use Rattle.level.specs.Numbers.{instructionPlaces}
 use Rattle.records.specs.declared.Effect.the-variants.{Sync}
 use Rattle.records.specs.Codes.{same}
 use Rattle.validation.specs.declared.Numbered.{Numbered}
-use Rattle.validation.specs.Kept.{effectOf, Mark, Checked, acting}
+use Rattle.validation.specs.Kept.{effectOf, Mark, mark, Checked, failed, acting}
 use Rattle.validation_groups.specs.Working.{noNumbered}
 
 -- ---- step 3: the kept ones stand in an array, the latest last; fates by number in another, 2 where none is settled
@@ -74,6 +74,31 @@ pub record Tracks (s : Checking) (m : Checked) : Type 0 where
 abbrev pub Follows : Checking → Checking → (Checked → Checked) → Type 0
 Follows s r f = (m : Checked) → Tracks s m → Tracks r (f m)
 
+-- a place among the kept ones, of which there are at most forty, as there are fates
+pub record PlaceKept (place height : ℕ) (fates : List ℕ) : Type 0 where
+  pub low : place ≤ height
+  pub few : height ≤ instructionPlaces
+  pub long : length fates ≡ instructionPlaces
+
+-- those kept from one place on have fate 4
+pub record Voided (numbers fates : List ℕ) (from height : ℕ) (next : List ℕ) : Type 0 where
+  pub long : length next ≡ instructionPlaces
+  pub voids : (ks : List Numbered) → Noted entryNumber numbers ks height → next ≡ marked fates (map (mark 4) (stackFrom ks from (height - from)))
+
+-- after a FAIL: r of the kept ones stay, and the fates are those of the definition
+pub record FailedOne (numbers fates : List ℕ) (height place : ℕ) (sync o : Numbered) (next : List ℕ) (r : ℕ) : Type 0 where
+  pub low : r ≤ height
+  pub long : length next ≡ instructionPlaces
+  pub follows : (ks : List Numbered) → Noted entryNumber numbers ks height → place ≡ syncPlace ks height → sync ≡ getD ks (place - 1) noNumbered →
+      Follows (checking ks height fates) (checking ks r next) (λ (m : Checked). failed m o)
+
+-- step 3 sets out: no fate is settled, and there is room beside the kept ones
+pub record SetsOut (count : ℕ) (fates numbers times : List ℕ) : Type 0 where
+  pub few : count ≤ instructionPlaces
+  pub unsettled : fates ≡ replicate instructionPlaces 2
+  pub numbers-long : length numbers ≡ instructionPlaces
+  pub times-long : length times ≡ instructionPlaces
+
 -- later than any acting time: what two numbers of 32 bits cannot add up to
 abbrev pub never : ℕ
 never = 8589934592
@@ -82,7 +107,7 @@ abbrev pub Soon : List ℕ → ℕ → Type 0
 Soon times h = (j : ℕ) → j < h → getD times j 0 < never
 
 -- step 3 has come to this: the kept ones and the fates, and beside them the numbers and the acting times of the kept ones
-pub record Stepped (kept : List Numbered) (height : ℕ) (fates numbers times : List ℕ) (m : Checked) : Type 0 where
+pub record StepThree (kept : List Numbered) (height : ℕ) (fates numbers times : List ℕ) (m : Checked) : Type 0 where
   pub few : height ≤ instructionPlaces
   pub tracks : Tracks (checking kept height fates) m
   pub named : Noted entryNumber numbers kept height

@@ -2,16 +2,16 @@
 ghost use mathlib.Core.Path.{_≡_};
 ghost use Prim.Native.Nat.{_+_, _-_, _<_, _≤_};
 ghost use mathlib.Core.Bool.{true};
-ghost use mathlib.Core.List.{List, [], _∷_, map};
-ghost use lib.ListN.{length, take, getD, replicate};
+ghost use mathlib.Core.List.{List, [], _∷_};
+ghost use lib.ListN.{length, take, getD};
 ghost use Rattle.level.specs.Choice.{pick};
 ghost use Rattle.level.specs.Numbers.{instructionPlaces};
 ghost use Rattle.records.specs.declared.Effect.the-variants.{Sync};
 ghost use Rattle.records.specs.Codes.{same};
 ghost use Rattle.validation.specs.declared.Numbered.{Numbered};
-ghost use Rattle.validation.specs.Kept.{effectOf, effectiveOf, mark, repeats, syncWithinHour, Checked, failed, check, acting};
+ghost use Rattle.validation.specs.Kept.{effectOf, effectiveOf, repeats, syncWithinHour, check, acting};
 ghost use Rattle.validation_groups.specs.Working.{noNumbered};
-ghost use Rattle.validation_sequence.specs.Working.{entryNumber, Noted, stackOf, stackFrom, syncPlace, Synced, setFate, marked, checking, noneChecked, Follows, never, Stepped};
+ghost use Rattle.validation_sequence.specs.Working.{stackOf, syncPlace, Synced, setFate, noneChecked, PlaceKept, Voided, FailedOne, SetsOut, never, StepThree};
 
 // ---- step 3: in time order, against the last kept one
 
@@ -112,8 +112,8 @@ fn void_from(
     height: usize,
     fates: &mut [u8; level::INSTRUCTIONS],
 )
-    requires { ⌜ (from ≤ height) × (height ≤ instructionPlaces) × (length (now fates) ≡ instructionPlaces) ⌝ }
-    ensures { λ r. ⌜ (length (now (fates .exit)) ≡ instructionPlaces) × ((ks : List Numbered) → Noted entryNumber (now (numbers .entry)) ks height → now (fates .exit) ≡ marked (now (fates .entry)) (map (mark 4) (stackFrom ks from (height - from)))) ⌝ }
+    requires { ⌜ PlaceKept from height (now fates) ⌝ }
+    ensures { λ r. ⌜ Voided (now (numbers .entry)) (now (fates .entry)) from height (now (fates .exit)) ⌝ }
 {
     let mut i = from;
     while i < height {
@@ -123,7 +123,8 @@ fn void_from(
     }
 }
 
-// A FAIL: fate 5. Where the latest kept SYNC, the one before this place, is within the hour, that SYNC and all kept after it get fate 4 and leave the list.
+// A FAIL: fate 5. Where the latest kept SYNC, the one before this place, is within the hour, that SYNC and all kept after it get
+// fate 4 and leave the list.
 fn fail_one(
     numbers: &[u32; level::INSTRUCTIONS],
     height: usize,
@@ -132,8 +133,8 @@ fn fail_one(
     o: validation::Numbered,
     fates: &mut [u8; level::INSTRUCTIONS],
 ) -> usize
-    requires { ⌜ (place ≤ height) × (height ≤ instructionPlaces) × (length (now fates) ≡ instructionPlaces) ⌝ }
-    ensures { λ r. ⌜ (r ≤ height) × (length (now (fates .exit)) ≡ instructionPlaces) × ((ks : List Numbered) → Noted entryNumber (now (numbers .entry)) ks height → place ≡ syncPlace ks height → sync ≡ getD ks (place - 1) noNumbered → Follows (checking ks height (now (fates .entry))) (checking ks r (now (fates .exit))) (λ (m : Checked). failed m o)) ⌝ }
+    requires { ⌜ PlaceKept place height (now fates) ⌝ }
+    ensures { λ r. ⌜ FailedOne (now (numbers .entry)) (now (fates .entry)) height place sync o (now (fates .exit)) r ⌝ }
 {
     if place == 0 {
         put_fate(fates, o.number, 5);
@@ -149,15 +150,16 @@ fn fail_one(
     below
 }
 
-// Step 3 over those used: each against the last kept one. The kept ones move up to the first places; their numbers and acting times go beside them, and the fates to their numbers.
+// Step 3 over those used: each against the last kept one. The kept ones move up to the first places; their numbers and acting
+// times go beside them, and the fates to their numbers.
 pub fn check_all(
     used: validation_groups::Sequence,
     fates: &mut [u8; level::INSTRUCTIONS],
     numbers: &mut [u32; level::INSTRUCTIONS],
     times: &mut [u64; level::INSTRUCTIONS],
 ) -> validation_groups::Sequence
-    requires { ⌜ (used .count ≤ instructionPlaces) × (now fates ≡ replicate instructionPlaces 2) × (length (now numbers) ≡ instructionPlaces) × (length (now times) ≡ instructionPlaces) ⌝ }
-    ensures { λ r. ⌜ Stepped (r .items) (r .count) (now (fates .exit)) (now (numbers .exit)) (now (times .exit)) (check noneChecked (take (used .count) (used .items))) ⌝ }
+    requires { ⌜ SetsOut (used .count) (now fates) (now numbers) (now times) ⌝ }
+    ensures { λ r. ⌜ StepThree (r .items) (r .count) (now (fates .exit)) (now (numbers .exit)) (now (times .exit)) (check noneChecked (take (used .count) (used .items))) ⌝ }
 {
     let n = used.count;
     let mut items = used.items;

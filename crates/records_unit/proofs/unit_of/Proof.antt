@@ -1,8 +1,7 @@
-use mathlib.Core.Path.{_≡_}
 use mathlib.Core.List.{[], _∷_}
 use lib.ListN.{getD}
 use borrow.Author.Needs.{needs}
-use Rattle.records.specs.Records.{triggerOf, columnOf, unitOf}
+use Rattle.records.specs.Records.{unitOf}
 use Rattle.records_unit.proofs.unit_of.Statement.{statement}
 use Rattle.records_unit.proofs.unit_of.Tie as tie
 
@@ -11,24 +10,18 @@ unfolding unitOf
 returns c =
     let s = c .before .before .before .before in
     let ns = s .before .before .before .before .args .t1 in
-    let hot-column : s .before .before .before .column-of .result ≡ columnOf ns 5 = s .before .before .before .column-of .ensures in
-    let warm-column : s .before .before .column-of2 .result ≡ columnOf ns 15 = s .before .before .column-of2 .ensures in
-    let cold-column : s .before .column-of3 .result ≡ columnOf ns 25 = s .before .column-of3 .ensures in
-    let first : c .before .before .before .trigger-of .result ≡ triggerOf ns 44 47 = c .before .before .before .trigger-of .ensures in
-    let second : c .before .before .trigger-of2 .result ≡ triggerOf ns 45 48 = c .before .before .trigger-of2 .ensures in
-    let third : c .before .trigger-of3 .result ≡ triggerOf ns 46 49 = c .before .trigger-of3 .ensures in
-    let ramp-up = s .ramp-at .ensures in
-    let ramp-down = c .ramp-at2 .ensures in
     λ i. record {
       capacity = getD ns 0 0;
       maximum = getD ns 1 0;
       msg = getD ns 2 0;
       hot = getD ns 3 0;
       warm = getD ns 4 0;
-      columns = hot-column i ∷ warm-column i ∷ cold-column i ∷ [];
-      up = record { rates = (ramp-up .0) i; breaks = (ramp-up .1) i };
-      dwells = first i ∷ second i ∷ third i ∷ [];
-      down = record { rates = (ramp-down .0) i; breaks = (ramp-down .1) i };
+      columns =
+          s .before .before .before .column-of .ensures i ∷ s .before .before .column-of2 .ensures i ∷ s .before .column-of3 .ensures i ∷ [];
+      up = record { rates = s .ramp-at .ensures .rates i; breaks = s .ramp-at .ensures .breaks i };
+      dwells =
+          c .before .before .before .trigger-of .ensures i ∷ c .before .before .trigger-of2 .ensures i ∷ c .before .trigger-of3 .ensures i ∷ [];
+      down = record { rates = c .ramp-at2 .ensures .rates i; breaks = c .ramp-at2 .ensures .breaks i };
       deload = record { rates = getD ns 59 0 ∷ getD ns 60 0 ∷ []; breaks = getD ns 61 0 ∷ [] };
     }
 

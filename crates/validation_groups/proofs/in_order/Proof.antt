@@ -1,14 +1,16 @@
 use Prim.Native.Nat.{_≤_, _-_}
-use mathlib.Core.Path.{_≡_, refl, _∙_}
+use mathlib.Core.Path.{_≡_, refl}
 use lib.ListN.{take, drop}
-use Rattle.validation_groups.specs.Working.{rises}
-use Rattle.validation_groups.proofs.Order.{rises-next, rises-not, rises-all}
 use native.Mathlib.Omega.{arith}
+use borrow.Author.Tests.{le-leb, lt-leb}
+use Rattle.level.proofs.Lists.{left-cons, left-none}
+use Rattle.validation_groups.specs.Working.{risingFrom}
 use Rattle.validation_groups.proofs.in_order.Statement.{statement}
 use Rattle.validation_groups.proofs.in_order.Tie as tie
 
+-- those left, after the one before, say what the whole says
 abbrev Inv-loop : tie.InvT-loop
-Inv-loop times n before₀ i₀ before i = (i ≤ n) × (rises before (drop i (take n times)) ≡ rises 0 (take n times))
+Inv-loop times n before₀ i₀ before i = (i ≤ n) × (risingFrom before (drop i (take n times)) ≡ risingFrom 0 (take n times))
 
 abbrev μ-loop : tie.MeasureT-loop
 μ-loop times n before₀ i₀ before i = n - i
@@ -17,22 +19,24 @@ loop-holds : tie.Need-loop-holds Inv-loop μ-loop
 loop-holds c = (omega arith, refl)
 
 returns : tie.Need-returns Inv-loop μ-loop
+unfolding risingFrom
 returns c =
-    let a = c .before .before .before .before .args in
-    let l = c .before .before .before .loop in
-    rises-not (a .times .now) (a .n) (omega arith) (l .before) (l .i) (omega arith) (omega arith) ∙ l .inv .1
+    let k = c .before .before .before in
+    let a = k .before .args in
+    rw (left-cons (a .times .now) (a .n) (k .loop .i) 0 (omega arith) (omega arith), lt-leb _ _ (c .if1 .taken)) at (k .loop .inv .1)
 
 loop-again : tie.Need-loop-again Inv-loop μ-loop
+unfolding risingFrom
 loop-again c =
-    let a = c .before .before .before .before .args in
-    let l = c .before .before .before .loop in
-    (omega arith, rises-next (a .times .now) (a .n) (omega arith) (l .before) (l .i) (omega arith) (omega arith) ∙ l .inv .1)
+    let k = c .before .before .before in
+    let a = k .before .args in
+    (omega arith, rw (left-cons (a .times .now) (a .n) (k .loop .i) 0 (omega arith) (omega arith), le-leb _ _ (c .if1 .left)) at (k .loop .inv .1))
 
 returns-2 : tie.Need-returns-2 Inv-loop μ-loop
+unfolding risingFrom
 returns-2 c =
     let a = c .before .before .args in
-    let l = c .before .loop in
-    rises-all (a .times .now) (a .n) (omega arith) (l .before) (l .i) (omega arith) ∙ l .inv .1
+    rw (left-none (a .times .now) (a .n) (c .before .loop .i) (omega arith)) at (c .before .loop .inv .1)
 
 pub in-order-spec : {M : Type 1} → statement M
 in-order-spec =

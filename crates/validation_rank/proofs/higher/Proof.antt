@@ -1,14 +1,13 @@
 use mathlib.Core.Path.{sym, _∙_}
-use Rattle.validation_rank.proofs.Ranks.{higher-yes, higher-no}
 use borrow.Author.Needs.{needs}
 use Rattle.validation_rank.proofs.higher.Statement.{statement}
 use Rattle.validation_rank.proofs.higher.Tie as tie
 
 returns : tie.Need-returns
-returns c = higher-yes _ _ (sym (c .before .goes-before .ensures) ∙ c .if1 .taken)
+returns c = rw (sym (c .before .goes-before .ensures) ∙ c .if1 .taken)
 
 returns-2 : tie.Need-returns-2
-returns-2 c = higher-no _ _ (sym (c .before .goes-before .ensures) ∙ c .if1 .left)
+returns-2 c = rw (sym (c .before .goes-before .ensures) ∙ c .if1 .left)
 
 pub higher-spec : {M : Type 1} → statement M
 higher-spec = tie.close (tie.spec (λ c κs. search needs) returns returns-2)

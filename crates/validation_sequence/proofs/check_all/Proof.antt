@@ -1,14 +1,19 @@
 use Prim.Native.Nat.{ℕ, _≤_, _-_}
 use mathlib.Core.Path.{_≡_, refl, sym, ap, _∙_}
+use mathlib.Core.Bool.{false}
 use lib.ListN.{length, getD}
-use Rattle.level.specs.Numbers.{instructionPlaces}
-use Rattle.level.proofs.Lists.{map-length}
-use Rattle.validation_groups.specs.Working.{noNumbered}
-use Rattle.validation_sequence.specs.Working.{checking, syncPlace, withFate}
-use Rattle.validation_sequence.proofs.Stack.{sync-le}
-use Rattle.validation_sequence.proofs.Steps.{set-length, check-fail, check-repeat, check-keep, Checks, checks-none, checks-on, checks-keep}
 use native.Mathlib.Omega.{arith}
 use borrow.Author.Needs.{needs}
+use Rattle.level.specs.Numbers.{instructionPlaces}
+use Rattle.level.proofs.Lists.{map-length}
+use Rattle.records.specs.declared.Effect.the-variants.{Fail}
+use Rattle.records.specs.Codes.{same}
+use Rattle.validation.specs.declared.Numbered.{Numbered}
+use Rattle.validation.specs.Kept.{effectOf, repeats}
+use Rattle.validation_groups.specs.Working.{noNumbered}
+use Rattle.validation_sequence.specs.Working.{Checking, checking, stackOf, syncPlace, withFate}
+use Rattle.validation_sequence.proofs.Stack.{up-to-sync}
+use Rattle.validation_sequence.proofs.Steps.{set-length, check-fail, check-repeat, check-keep, Checks, checks-none, checks-on, checks-keep}
 use Rattle.validation_sequence.proofs.check_all.Statement.{statement}
 use Rattle.validation_sequence.proofs.check_all.Tie as tie
 
@@ -24,69 +29,82 @@ used-long : (s : tie.Start Inv-loop μ-loop) → length (s .args .used .items) �
 used-long s = simp map-length at (s .good .0 .1 .1 .0 .1 .0 .1)
 
 loop-holds : tie.Need-loop-holds Inv-loop μ-loop
-loop-holds c =
-    let s = c .before in
-    checks-none (s .args .used .count) (s .args .used .items) _ (s .args .fates .now) (s .args .numbers .now) (s .args .times .now) (s .pre .0)
-    (used-long s) refl (s .pre .1) (s .pre .2) (s .pre .3)
+loop-holds c = checks-none (c .before .args .used .items) _ (c .before .pre) (used-long (c .before)) refl
+
+-- the loop's head, and the one looked at
+abbrev head : tie.After-has-code Inv-loop μ-loop → tie.At-loop Inv-loop μ-loop
+head x = x .before .before .before .before .before
+
+abbrev one : tie.After-has-code Inv-loop μ-loop → Numbered
+one x = getD (head x .loop .items) (head x .loop .i) noNumbered
+
+abbrev state : tie.After-has-code Inv-loop μ-loop → Checking
+state x = checking (head x .loop .items) (head x .loop .count) (head x .loop .fates)
 
 -- the latest kept SYNC is as noted
-module _ (x : tie.After-has-code Inv-loop μ-loop) where
-  place-is : x .before .latest-sync .result ≡ syncPlace (x .before .before .before .before .before .loop .items)
-      (x .before .before .before .before .before .loop .count)
-  place-is = let l = x .before .before .before .before .before .loop in x .before .latest-sync .ensures (l .items) (l .inv .synced)
+place-is : (x : tie.After-has-code Inv-loop μ-loop) → x .before .latest-sync .result ≡ syncPlace (head x .loop .items) (head x .loop .count)
+place-is x = x .before .latest-sync .ensures (head x .loop .items) (head x .loop .inv .synced)
 
-  place-low : x .before .latest-sync .result ≤ x .before .before .before .before .before .loop .count
-  place-low = let l = x .before .before .before .before .before .loop in omega (arith, place-is, sync-le (l .items) (l .count))
+place-low : (x : tie.After-has-code Inv-loop μ-loop) → x .before .latest-sync .result ≤ head x .loop .count
+place-low x = omega (arith, place-is x, up-to-sync (head x .loop .items) (head x .loop .count) .low)
+
+-- ---- a FAIL
+abbrev coded : tie.After-place-before Inv-loop μ-loop → tie.After-has-code Inv-loop μ-loop
+coded b = b .before .before
 
 mul-sync : tie.Need-mul-sync Inv-loop μ-loop
-mul-sync c = omega (arith, place-low (c .before .before))
+mul-sync c = omega (arith, place-low (coded c))
 
 array-copy-out-sync : tie.Need-array-copy-out-sync Inv-loop μ-loop
-array-copy-out-sync c = omega (arith, place-low (c .before .before))
+array-copy-out-sync c = omega (arith, place-low (coded c))
 
 fail-one-requires : tie.Need-fail-one-requires Inv-loop μ-loop
 fail-one-requires c κs =
-    let x = c .before .before .before .before .before in
-    let l = x .before .before .before .before .before .loop in
-    (place-low x, omega arith, l .inv .fates-long)
+    let x = coded (c .before .before .before) in
+    record { low = place-low x; few = omega arith; long = head x .loop .inv .fates-long }
 
 loop-again : tie.Need-loop-again Inv-loop μ-loop
 loop-again c =
-    let x = c .before .before .before .before .before .before in
-    let l = x .before .before .before .before .before .loop in
-    let o = getD (l .items) (l .i) noNumbered in
-    let fail = sym (x .has-code .ensures) ∙ c .before .before .before .before .before .if1 .taken in
-    let sync = ap (λ (k : ℕ). getD (l .items) k noNumbered) (c .before .before .before .before .place-before .ensures) in
-    let r = c .fail-one in
-    let f = check-fail (checking (l .items) (l .count) (l .fates)) o fail (r .ensures .2 (l .items) (l .inv .stepped .named) (place-is x) sync) in
-    checks-on (l .inv) (omega arith) (r .result) (r .last .1 .1 .1 .1 .1 .0) (r .ensures .0) (r .ensures .1) f
+    let b = c .before .before .before .before in
+    let x = coded b in
+    let l = head x .loop in
+    let r = c .fail-one .ensures in
+    let sync = ap (λ (k : ℕ). getD (l .items) k noNumbered) (b .place-before .ensures) in
+    checks-on (l .inv) (omega arith) (c .fail-one .result) _ (r .low) (r .long)
+    (check-fail (state x) (one x) (sym (x .has-code .ensures) ∙ b .before .if1 .taken)
+    (r .follows (l .items) (l .inv .stepped .named) (place-is x) sync))
+
+-- ---- another: whether it repeats the last kept one
+abbrev other : tie.After-is-repeat Inv-loop μ-loop → tie.After-has-code Inv-loop μ-loop
+other r = r .before .before .before .before
+
+no-fail : (r : tie.After-is-repeat Inv-loop μ-loop) → same (effectOf (one (other r))) Fail ≡ false
+no-fail r = sym (other r .has-code .ensures) ∙ r .before .before .before .if1 .left
+
+repeat-told : (r : tie.After-is-repeat Inv-loop μ-loop) →
+    let l = head (other r) .loop in r .is-repeat .result ≡ repeats (one (other r)) (stackOf (l .items) (l .count))
+repeat-told r =
+    let l = head (other r) .loop in
+    r .is-repeat .ensures (l .items) (ap (λ (k : ℕ). getD (l .items) k noNumbered) (r .before .before .place-before2 .ensures))
 
 loop-again-2 : tie.Need-loop-again-2 Inv-loop μ-loop
 unfolding withFate
 loop-again-2 c =
-    let x = c .before .before .before .before .before .before .before in
-    let l = x .before .before .before .before .before .loop in
-    let o = getD (l .items) (l .i) noNumbered in
-    let other = sym (x .has-code .ensures) ∙ c .before .before .before .before .before .before .if1 .left in
-    let last = ap (λ (k : ℕ). getD (l .items) k noNumbered) (c .before .before .before .before .before .place-before2 .ensures) in
-    let told = sym (c .before .before .before .is-repeat .ensures (l .items) last) ∙ c .before .before .if2 .taken in
+    let r = c .before .before .before in
+    let l = head (other r) .loop in
     let e = c .put-fate .ensures in
-    let f = check-repeat (checking (l .items) (l .count) (l .fates)) o other told in
-    checks-on (l .inv) (omega arith) (l .count) _ (omega arith) (ap length e ∙ (set-length (l .fates) (o .number) 3 ∙ l .inv .fates-long)) (rw e f)
+    let f = check-repeat (state (other r)) (one (other r)) (no-fail r) (sym (repeat-told r) ∙ c .before .before .if2 .taken) in
+    checks-on (l .inv) (omega arith) (l .count) _ (omega arith) (rw (e, set-length) (l .inv .fates-long)) (rw e f)
 
 loop-again-3 : tie.Need-loop-again-3 Inv-loop μ-loop
 loop-again-3 c =
-    let x = c .before .before .before .before .before .before .before in
-    let l = x .before .before .before .before .before .loop in
-    let o = getD (l .items) (l .i) noNumbered in
-    let other = sym (x .has-code .ensures) ∙ c .before .before .before .before .before .before .if1 .left in
-    let last = ap (λ (k : ℕ). getD (l .items) k noNumbered) (c .before .before .before .before .before .place-before2 .ensures) in
-    let told = sym (c .before .before .before .is-repeat .ensures (l .items) last) ∙ c .before .before .if2 .left in
+    let r = c .before .before .before in
+    let x = other r in
     let place = c .before .sync-with in
     let time = c .acting-time in
-    let f = check-keep (checking (l .items) (l .count) (l .fates)) o (omega arith) other told in
-    checks-keep (l .inv) (omega arith) (time .result) (place .result) (x .before .latest-sync .result) (time .ensures .0) (time .ensures .1)
-    (place .ensures) (place-is x) f
+    checks-keep (head x .loop .inv) (omega arith) (time .result) (place .result) (x .before .latest-sync .result) (time .ensures .0)
+    (time .ensures .1) (place .ensures) (place-is x)
+    (check-keep (state x) (one x) (omega arith) (no-fail r) (sym (repeat-told r) ∙ c .before .before .if2 .left))
 
 returns : tie.Need-returns Inv-loop μ-loop
 returns c =

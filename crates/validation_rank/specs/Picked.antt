@@ -1,14 +1,14 @@
--- Working. What is found of a group.
+-- Working. What is picked of a group.
 use mathlib.Core.List.{List, [], _∷_}
 use Rattle.validation.specs.declared.Numbered.{Numbered}
 use Rattle.validation.specs.Kept.{highest}
-use Rattle.validation_rank.specs.declared.Found.{Found}
-use Rattle.validation_rank.specs.declared.Found.the-variants.{One, Nothing}
+use Rattle.validation_rank.specs.declared.Picked.{Picked}
+use Rattle.validation_rank.specs.declared.Picked.the-variants.{One, Nothing}
 
--- what was found, as a list
-abbrev pub foundList : Found → List Numbered
-foundList (One o) = o ∷ []
-foundList Nothing = []
+-- what was picked, as a list
+abbrev pub pickedList : Picked → List Numbered
+pickedList (One o) = o ∷ []
+pickedList Nothing = []
 
 -- the highest ranked of these, where it is known of those before them
 unfoldable pub bestFrom : List Numbered → List Numbered → List Numbered
