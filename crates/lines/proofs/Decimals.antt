@@ -8,8 +8,8 @@ use native.Mathlib.Numerals.{add-one}
 use native.Mathlib.Nat.{pow-succ'}
 use lib.Arith.{mod-mul}
 use lib.Dec.{ltb}
-use lib.ListN.{length, getD, set, take, drop, length-append, length-drop, length-take, length-set, drop-of-length-le}
-use lib.Seq.{drop-drop, drop-cons, take-suc, take-at, drop-at, set-append-seam, take-all, getD-set-same, drop-set-lt, lt-length-set}
+use lib.ListN.{length, set, take, drop, length-append, length-drop, drop-of-length-le}
+use lib.Seq.{drop-drop, drop-cons, take-at, drop-at, set-append-seam, take-all, getD-set-same, drop-set-lt, lt-length-set}
 use borrow.Author.Tests.{lt-ltb, le-ltb, ltb-true, ltb-false}
 use Rattle.level.proofs.Lists.{by-bool}
 use Rattle.lines.specs.Text.{digits, decimal, field, fields, line, laid}

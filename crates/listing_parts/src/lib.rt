@@ -6,12 +6,12 @@ ghost use Rattle.level.specs.Choice.{pick};
 ghost use Rattle.level.specs.Level.{grains};
 ghost use Rattle.level.specs.Numbers.{mostHalfHours, instructionPlaces, coursePlaces};
 ghost use Rattle.course.specs.Headings.{Short};
-ghost use Rattle.profile.specs.Profile.{rounded, closingBy};
+ghost use Rattle.profile.specs.Profile.{closingBy};
 ghost use Rattle.profile.specs.Finding.{quantityAt};
 ghost use Rattle.course_rates.specs.Ways.{headed};
 ghost use Rattle.course_walk.specs.Walk.{beginning};
 ghost use Rattle.lines.specs.Writing.{Written, Measured};
-ghost use Rattle.listing_parts.specs.Rest.{fateLines, pieceLine, linesLeft, coursesLines, quantityLines, runEnd, closingLine};
+ghost use Rattle.listing_parts.specs.Rest.{fateLines, pieceLine, linesLeft, coursesLines, quantityLines, RunAsked, RunEnds, closingLine};
 
 // ---- F lines
 
@@ -200,8 +200,8 @@ fn twice_at(sums: &[u64; level::BOUNDARIES], i: usize) -> u64
 // The boundary at which a run of the quantity kw ends, from the boundary `from` on, the last being `end`; `twice` is an area that
 // gives kw, and the same area needs no rounding.
 fn run_end(sums: &[u64; level::BOUNDARIES], twice: u64, kw: u64, from: usize, end: usize) -> usize
-    requires { ⌜ (from ≤ end) × (end ≤ mostHalfHours) × (kw ≡ rounded twice) ⌝ }
-    ensures { λ r. ⌜ (r ≡ runEnd (quantityAt (now (sums .entry))) kw from (end - from)) × (from ≤ r) × (r ≤ end) ⌝ }
+    requires { ⌜ RunAsked twice kw from end ⌝ }
+    ensures { λ r. ⌜ RunEnds (quantityAt (now (sums .entry))) kw from end r ⌝ }
 {
     let mut i = from;
     while i < end {

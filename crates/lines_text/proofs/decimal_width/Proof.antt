@@ -16,5 +16,4 @@ decimal-width-spec =
     (λ c. record { count-is = width-between 5 _ (omega arith) (omega arith); few = omega arith })
     (λ c. record { count-is = width-between 6 _ (omega arith) (omega arith); few = omega arith })
     (λ c. record { count-is = width-between 7 _ (omega arith) (omega arith); few = omega arith })
-    (λ c. record { count-is = width-between 8 _ (omega arith) (omega arith); few = omega arith })
-    (λ c κs. search needs) (λ c. search needs))
+    (λ c. record { count-is = width-between 8 _ (omega arith) (omega arith); few = omega arith }) (λ c κs. search needs) (λ c. search needs))

@@ -1,8 +1,6 @@
-use Prim.Native.Nat.{_≤_}
 use native.Mathlib.Omega.{arith}
 use mathlib.Core.Path.{refl}
-use mathlib.Core.List.{List, [], _∷_}
-use lib.ListN.{length, set}
+use lib.ListN.{set}
 use Rattle.lines.specs.Text.{decimal, field}
 use Rattle.lines.proofs.Decimals.{written-length}
 use Rattle.lines.proofs.Laying.{Laying, lay-none, lay-byte, lay-room, lay-more, lay-all, room-tail, next-last}
@@ -42,4 +40,5 @@ same-length c = written-length (start c .pre) (returns c)
 
 pub put-field-spec : {M : Type 1} → statement M
 put-field-spec =
-    tie.close (tie.spec slice-write-out sub-put-decimal sub-put-decimal (λ c. search needs) put-decimal-requires add-result same-length returns)
+    tie.close
+    (tie.spec slice-write-out sub-put-decimal sub-put-decimal (λ c. search needs) put-decimal-requires add-result same-length returns)
