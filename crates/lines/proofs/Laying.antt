@@ -1,5 +1,5 @@
 -- Laying bytes one after another at the front of a slice, and measuring them before.
-use Prim.Native.Nat.{ℕ, suc, _+_, _-_, _<_, _≤_}
+use Prim.Native.Nat.{ℕ, _+_, _-_, _<_, _≤_}
 use mathlib.Core.Path.{_≡_, refl, sym, ap, _∙_}
 use mathlib.Core.List.{List, [], _∷_, _++_, append-assoc, append-nil}
 use native.Mathlib.Omega.{arith}
@@ -14,11 +14,19 @@ use Rattle.lines.proofs.Decimals.{laid-length, laid-set, laid-part}
 pub record Next (left x rest : List ℕ) : Type 0 where
   pub parts : left ≡ x ++ rest
 
+pub next-append : {x rest : List ℕ} → Next (x ++ rest) x rest
+next-append = record { parts = refl }
+
 pub next-last : (x : List ℕ) → Next x x []
 next-last x = record { parts = sym (append-nil x) }
 
 pub next-length : {left x rest : List ℕ} → Next left x rest → length left ≡ length x + length rest
 next-length {left} {x} {rest} n = ap length (n .parts) ∙ length-append x rest
+
+-- a loop over n things has come to the i-th; of the lines, so far P
+pub record UpTo (i n : ℕ) (P : Type 0) : Type 0 where
+  pub within : i ≤ n
+  pub lines : P
 
 -- ---- laying
 
@@ -115,7 +123,7 @@ line-left vs i = fields (drop i vs) ++ (10 ∷ [])
 
 pub number-next : (vs : List ℕ) (i : ℕ) → i < length vs → Next (line-left vs i) (field (getD vs i 0)) (line-left vs (i + 1))
 unfolding fields
-number-next vs i h = record { parts = rw (add-one, drop-cons vs i 0, fields) (append-assoc (field (getD vs i 0)) (fields (drop (suc i) vs)) (10 ∷ [])) }
+number-next vs i h = record { parts = rw (add-one, drop-cons vs i 0, fields) (append-assoc (field (getD vs i 0)) _ (10 ∷ [])) }
 
 pub feed-next : (vs : List ℕ) (i : ℕ) → length vs ≤ i → Next (line-left vs i) (10 ∷ []) []
 unfolding fields

@@ -274,7 +274,8 @@ module _ (sums : List ℕ) (i : ℕ) where
   pub quantities-next : {twice kw e : ℕ} (halves : ℕ) → i < halves → twice ≡ getD sums (i + 1) 0 - getD sums i 0 → kw ≡ rounded twice →
       RunEnds (quantityAt sums) kw (i + 1) halves e →
       Next (quantities-left (quantityAt sums) halves i) (qLine (i + 1) e kw) (quantities-left (quantityAt sums) halves e)
-  quantities-next {twice} {kw} {e} halves h t q r = record { parts = quantities-more (quantityAt sums) halves i kw e h (quantity-here twice kw t q) (r .at) }
+  quantities-next {twice} {kw} {e} halves h t q r =
+      record { parts = quantities-more (quantityAt sums) halves i kw e h (quantity-here twice kw t q) (r .at) }
 
   -- a run of kw goes on, or ends here
   module _ (halves kw : ℕ) (within : i < halves) where

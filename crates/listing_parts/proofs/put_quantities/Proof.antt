@@ -1,9 +1,9 @@
-use Prim.Native.Nat.{ℕ, _+_, _-_, _≤_}
+use Prim.Native.Nat.{ℕ, _+_, _-_}
 use mathlib.Core.List.{List}
 use native.Mathlib.Omega.{arith}
 use borrow.Author.Needs.{needs}
 use Rattle.lines.specs.Lines.{qLine}
-use Rattle.lines.proofs.Laying.{Laying, Next, Room, lay-none, lay-room, lay-next, lay-more, lay-all, room-tail}
+use Rattle.lines.proofs.Laying.{UpTo, Laying, Next, Room, lay-none, lay-room, lay-next, lay-more, lay-all, room-tail}
 use Rattle.profile.specs.Finding.{quantityAt}
 use Rattle.listing_parts.specs.Rest.{quantityLines}
 use Rattle.listing_parts.proofs.Laws.{quantities-left, quantities-next, quantities-none, quantities-all}
@@ -12,7 +12,7 @@ use Rattle.listing_parts.proofs.put_quantities.Tie as tie
 
 abbrev Inv-loop : tie.InvT-loop
 Inv-loop out₀ sums halves end at₀ i₀ out at i =
-    (i ≤ halves) × Laying (quantityLines halves sums) (quantities-left (quantityAt sums) halves i) out₀ out at
+    UpTo i halves (Laying (quantityLines halves sums) (quantities-left (quantityAt sums) halves i) out₀ out at)
 
 abbrev μ-loop : tie.MeasureT-loop
 μ-loop out₀ sums halves end at₀ i₀ out at i = halves - i
@@ -44,12 +44,12 @@ next c =
 
 room : (c : tie.After-run-end Inv-loop μ-loop) →
     let k = at-loop c in Room (line-of c) (start k .args .out .now) (k .loop .out) (k .loop .at)
-room c = lay-next (next c) (at-loop c .loop .inv .1)
+room c = lay-next (next c) (at-loop c .loop .inv .lines)
 
 loop-holds : tie.Need-loop-holds Inv-loop μ-loop
 loop-holds c =
     let s = c .before in
-    (omega arith, rw (quantities-all (quantityAt (s .args .sums .now)) (s .args .halves)) (lay-none (s .pre .1)))
+    record { within = omega arith; lines = rw (quantities-all (quantityAt (s .args .sums .now)) (s .args .halves)) (lay-none (s .pre .1)) }
 
 run-end-requires : tie.Need-run-end-requires Inv-loop μ-loop
 run-end-requires c κs = record { ordered = omega arith; within = omega arith; quantity = c .quantity-of .ensures }
@@ -62,17 +62,20 @@ loop-less c = omega (arith, found c .run-end .ensures)
 
 loop-again : tie.Need-loop-again Inv-loop μ-loop
 loop-again c =
-    (found c .run-end .ensures .within, lay-more (next (found c)) (at-loop (found c) .loop .inv .1) (c .before .before .put-q .ensures))
+    record {
+      within = found c .run-end .ensures .within;
+      lines = lay-more (next (found c)) (at-loop (found c) .loop .inv .lines) (c .before .before .put-q .ensures);
+    }
 
 returns : tie.Need-returns Inv-loop μ-loop
 returns c =
     let k = c .before in
     let a = start k .args in
-    lay-all (quantities-none (quantityAt (a .sums .now)) (a .halves) (k .loop .i) (omega arith)) (k .loop .inv .1)
+    lay-all (quantities-none (quantityAt (a .sums .now)) (a .halves) (k .loop .i) (omega arith)) (k .loop .inv .lines)
 
 pub put-quantities-spec : {M : Type 1} → statement M
 put-quantities-spec =
     tie.close
     (tie.spec Inv-loop μ-loop loop-holds (λ c κs. omega arith) (λ c κs. search needs) (λ c. omega arith) run-end-requires
     (λ c. omega (arith, room c)) (λ c. omega (arith, room c)) (λ c. search needs) (λ c κs. room-tail (room (c .before))) add-at loop-less loop-again
-    (λ c. lay-room (c .before .loop .inv .1) .same) returns)
+    (λ c. lay-room (c .before .loop .inv .lines) .same) returns)
