@@ -1,8 +1,8 @@
 -- A whole listing from its parts, and asking for it.
 use Prim.Native.Nat.{ℕ, _+_, _≤_, _<_}
-use mathlib.Core.Path.{_≡_, refl, sym}
+use mathlib.Core.Path.{_≡_, refl}
 use mathlib.Core.List.{List, _++_}
-use mathlib.Core.Bool.{Bool, true, false, not}
+use mathlib.Core.Bool.{true, not}
 use native.Mathlib.Omega.{arith}
 use borrow.Author.Tests.{lt-ltb, le-ltb}
 use lib.ListN.{length, length-append}
@@ -34,10 +34,6 @@ module _ (d : Day) where
   day-length = omega (arith, next-length in-parts, length-append (linesS d) (fromQ d), length-append (linesQ d) (lineE d))
 
 -- ---- asking for it
-pub holds : (b : Bool) → not b ≡ false → b ≡ true
-holds true e = refl
-holds false e = sym e
-
 module _ (d : Day) (o : List ℕ) where
   pub ask-open : not (d .closed) ≡ true → (noListing NotReady ≡ listOf d o) × (o ≡ lentAfter d o)
   unfolding listOf lentAfter listAnswer

@@ -79,8 +79,9 @@ end-turn c = c .before .before .before
 abbrev Gives : tie.At-loop Inv-loop μ-loop → ℕ → List ℕ → Type 0
 Gives k n out = let a = start k .args in (n ≡ listedResult (a .input .now) (a .out .now)) × (out ≡ listedLent (a .input .now) (a .out .now))
 
-refused : (k : tie.At-loop Inv-loop μ-loop) (a : Answer) {n : ℕ} → record { answer = a; day = openDay (taken k) } ≡ from (openDay (taken k)) (rest k) →
-    accepted a ≡ false → n ≡ numberOf a * 4294967296 → Gives k n (k .loop .out)
+refused : (k : tie.At-loop Inv-loop μ-loop) (a : Answer) {n : ℕ} →
+    record { answer = a; day = openDay (taken k) } ≡ from (openDay (taken k)) (rest k) → accepted a ≡ false →
+    n ≡ numberOf a * 4294967296 → Gives k n (k .loop .out)
 refused k a e out q =
     let s = start k .args in
     let f = ran-refused (s .input .now) (s .out .now) (record { answer = a; day = openDay (taken k) }) (e ∙ k .loop .inv .ran) out in
@@ -102,7 +103,7 @@ unit-answered : (c : tie.After-is-accepted Inv-loop μ-loop) →
 unit-answered c =
     let k = unit-turn c .before in
     let r = unit-read c .unit-front in
-    record { step = unit-step (foundIn paper) (openDay (taken k)) (rest k) (r .result) (r .ensures) (omega (arith, unit-read c .before .match)) }
+    record { step = unit-step (foundIn paper) _ (rest k) (r .result) (r .ensures) (omega (arith, unit-read c .before .match)) }
 
 returns : tie.Need-returns Inv-loop μ-loop
 returns c =
@@ -127,7 +128,7 @@ loop-again c =
     let k = unit-turn (e .before) .before in
     let r = unit-read (e .before) .unit-front in
     let says = unit-says (foundIn paper) (openDay (taken k)) (rest k) (r .result) (r .ensures) (unit-taken e) in
-    record { same = k .loop .inv .same; ran = rw (says) (sym (unit-in e .onward) ∙ k .loop .inv .ran) }
+    record { same = k .loop .inv .same; ran = rw says (sym (unit-in e .onward) ∙ k .loop .inv .ran) }
 
 -- ---- an opening
 opening-answered : (c : tie.After-is-accepted2 Inv-loop μ-loop) →
@@ -135,7 +136,7 @@ opening-answered : (c : tie.After-is-accepted2 Inv-loop μ-loop) →
 opening-answered c =
     let k = opening-turn c .before in
     let r = opening-read c .opening-front in
-    record { step = opening-step (foundIn paper) (openDay (taken k)) (rest k) (r .result) (r .ensures) (omega (arith, opening-read c .before .before .match)) }
+    record { step = opening-step (foundIn paper) _ (rest k) (r .result) (r .ensures) (omega (arith, opening-read c .before .before .match)) }
 
 returns-2 : tie.Need-returns-2 Inv-loop μ-loop
 returns-2 c =
@@ -168,7 +169,7 @@ instruction-answered : (c : tie.After-is-accepted3 Inv-loop μ-loop) →
 instruction-answered c =
     let k = instruction-turn c .before in
     let r = instruction-read c .instruction-front in
-    record { step = instruction-step (foundIn paper) (openDay (taken k)) (rest k) (r .result) (r .ensures) (omega (arith, instruction-read c .before .match)) }
+    record { step = instruction-step (foundIn paper) _ (rest k) (r .result) (r .ensures) (omega (arith, instruction-read c .before .match)) }
 
 returns-3 : tie.Need-returns-3 Inv-loop μ-loop
 returns-3 c =
@@ -199,7 +200,7 @@ loop-again-3 c =
     let k = instruction-turn (e .before) .before in
     let r = instruction-read (e .before) .instruction-front in
     let says = instruction-says (foundIn paper) (openDay (taken k)) (rest k) (r .result) (r .ensures) (instruction-taken e) in
-    record { same = k .loop .inv .same; ran = rw (says) (sym (instruction-in e .onward) ∙ k .loop .inv .ran) }
+    record { same = k .loop .inv .same; ran = rw says (sym (instruction-in e .onward) ∙ k .loop .inv .ran) }
 
 -- ---- the end of the records
 ends-here : (c : tie.After-close-run-arg Inv-loop μ-loop) →

@@ -3,10 +3,11 @@ use mathlib.Core.Logic.{inl, inr}
 use mathlib.Core.Path.{ap, _∙_}
 use native.Mathlib.Omega.{arith}
 use borrow.Author.Needs.{needs}
+use borrow.Author.Tests.{not-false}
 use lib.ListN.{length}
 use Rattle.listing.specs.Listing.{printedDay}
 use Rattle.listing_print.specs.Parts.{someListing}
-use Rattle.listing_print.proofs.Whole.{holds, ask-short, ask-room}
+use Rattle.listing_print.proofs.Whole.{ask-short, ask-room}
 use Rattle.listing_print.proofs.list_closed.Statement.{statement}
 use Rattle.listing_print.proofs.list_closed.Tie as tie
 
@@ -24,7 +25,7 @@ start-short c = c .before .before .before .before .before
 fits : (c : tie.Joined1) → let a = start c .args in length (printedDay (a .day)) ≤ length (a .out .now)
 fits c = elim (c .if1 .came) [
   | inl m ↦ omega (arith, m .1 .ensures, m .2 .left)
-  | inr k ↦ start c .pre .1 (holds (start c .args .fits) (k .left))
+  | inr k ↦ start c .pre .1 (not-false (start c .args .fits) (k .left))
 ]
 
 returns : tie.Need-returns
