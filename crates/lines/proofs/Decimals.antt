@@ -2,20 +2,18 @@
 use Prim.Native.Nat.{ℕ, zero, suc, _+_, _-_, _*_, _/_, _%_, _^_, _<_, _≤_}
 use mathlib.Core.Path.{_≡_, refl, sym, ap, _∙_}
 use mathlib.Core.List.{List, [], _∷_, _++_, append-assoc, append-nil}
-use mathlib.Core.Bool.{Bool, true, false}
+use mathlib.Core.Bool.{true, false}
 use native.Mathlib.Omega.{arith}
 use native.Mathlib.Numerals.{add-one}
 use native.Mathlib.Nat.{pow-succ'}
 use lib.Arith.{mod-mul}
 use lib.Dec.{ltb}
-use lib.ListN.{length, getD, set, take, drop, length-append, length-drop, length-take, length-set, drop-of-length-le}
-use lib.Seq.{drop-drop, drop-cons, take-suc, take-at, drop-at, set-append-seam, take-all, getD-set-same, drop-set-lt, lt-length-set}
+use lib.ListN.{length, set, take, drop, length-append, length-drop, drop-of-length-le}
+use lib.Seq.{drop-drop, drop-cons, take-at, drop-at, set-append-seam, take-all, getD-set-same, drop-set-lt, lt-length-set}
 use borrow.Author.Tests.{lt-ltb, le-ltb, ltb-true, ltb-false}
+use Rattle.level.proofs.Lists.{by-bool}
 use Rattle.lines.specs.Text.{digits, decimal, field, fields, line, laid}
-
-by-bool : {P : Type 0} (b : Bool) → (b ≡ true → P) → (b ≡ false → P) → P
-by-bool true t f = t refl
-by-bool false t f = f refl
+use Rattle.lines.specs.Writing.{Written}
 
 -- `digits` is by `elim`, so that it computes at large numbers; `simp` does not look into an `elim`, so its two cases are these laws
 pub digits-low : (f v : ℕ) → ltb v 10 ≡ true → digits (suc f) v ≡ (v + 48) ∷ []
@@ -70,9 +68,9 @@ laid-part xs ys o p q n e h ep eq =
     rw (tp, dd, qq, append-nil, append-assoc, la, e)
 
 -- ---- the writers
-pub set-front : (o : List ℕ) (a : ℕ) → 0 < length o → set o 0 a ≡ laid (a ∷ []) o
-set-front [] a h = absurd (omega arith)
-set-front (x ∷ o) a h = refl
+-- a slice that was written to is as long as before
+pub written-length : {xs o q : List ℕ} {n : ℕ} → length xs ≤ length o → Written xs n o q → length q ≡ length o
+written-length {xs} {o} h w = ap length (w .bytes) ∙ laid-length xs o h
 
 pub low-length : (v : ℕ) → v < 10 → length (decimal v) ≡ 1
 low-length v h = ap length (decimal-low v h)
@@ -81,7 +79,7 @@ pub high-length : (v : ℕ) → 10 ≤ v → length (decimal v) ≡ length (deci
 high-length v h = ap length (decimal-high v h) ∙ simp length-append
 
 -- a number has a digit
-decimal-some : (v : ℕ) → 1 ≤ length (decimal v)
+pub decimal-some : (v : ℕ) → 1 ≤ length (decimal v)
 decimal-some v = by-bool (ltb v 10) (λ e. omega (arith, low-length v (ltb-true v 10 e))) (λ e. omega (arith, high-length v (ltb-false v 10 e)))
 
 -- the last n digits of v, zeros included
@@ -131,65 +129,6 @@ last-two n v o h =
     let left : v / 100 ≡ v / 10 / 10 = omega arith in
     rw (e, add-one n, ones, tens, left) (last-put (suc n) v o (omega arith)
     ∙ last-put n (v / 10) (set o (suc n) (v % 10 + 48)) (lt-length-set o (suc n) _ (omega arith)))
-
--- a part from n to the end has what is left
-pub part-length : (n : ℕ) (p : List ℕ) → length (take (length p - n) (drop n p)) ≡ length p - n
-part-length n p = simp (length-take, length-drop) (omega arith)
-
--- past k bytes, the first of them stored just now, there is room for n more
-pub after-first : (o : List ℕ) (a k n : ℕ) → k + n ≤ length o → n ≤ length (take (length (set o 0 a) - k) (drop k (set o 0 a)))
-after-first o a k n h = omega (arith, part-length k (set o 0 a), length-set o 0 a)
-
--- a line begins with its letter, stored first: it is laid over the store as over what was there before
-pub start : (o : List ℕ) (a : ℕ) → 0 < length o → set o 0 a ≡ laid (a ∷ []) (set o 0 a)
-start [] a h = absurd (omega arith)
-start (x ∷ o) a h = refl
-
-pub over : (o xs : List ℕ) (a : ℕ) → laid (a ∷ xs) (set o 0 a) ≡ laid (a ∷ xs) o
-over [] xs a = refl
-over (x ∷ o) xs a = refl
-
--- ---- lines
--- a line up to its first i numbers
-abbrev pub begun : ℕ → List ℕ → ℕ → List ℕ
-begun letter vs i = letter ∷ fields (take i vs)
-
-fields-snoc : (vs : List ℕ) (v : ℕ) → fields (vs ++ (v ∷ [])) ≡ fields vs ++ field v
-unfolding fields
-fields-snoc [] v = append-nil (field v)
-fields-snoc (x ∷ vs) v = ap (λ (l : List ℕ). field x ++ l) (fields-snoc vs v) ∙ sym (append-assoc (field x) (fields vs) (field v))
-
-pub begun-more : (letter : ℕ) (vs : List ℕ) (i : ℕ) → i < length vs → begun letter vs i ++ field (getD vs i 0) ≡ begun letter vs (i + 1)
-begun-more letter vs i h =
-    ap (λ (l : List ℕ). letter ∷ l) (sym (ap (λ (k : ℕ). fields (take k vs)) (add-one i)
-    ∙ (ap fields (take-suc vs i 0 h) ∙ fields-snoc (take i vs) (getD vs i 0))))
-
-pub begun-length : (letter : ℕ) (vs : List ℕ) (i : ℕ) → i < length vs →
-    length (begun letter vs (i + 1)) ≡ length (begun letter vs i) + length (field (getD vs i 0))
-begun-length letter vs i h = ap length (sym (begun-more letter vs i h)) ∙ simp length-append
-
-pub begun-all : (letter : ℕ) (vs : List ℕ) (i : ℕ) → length vs ≤ i → begun letter vs i ≡ letter ∷ fields vs
-begun-all letter vs i h = ap (λ (l : List ℕ). letter ∷ fields l) (take-all i vs h)
-
-pub line-length : (letter : ℕ) (vs : List ℕ) → length (line letter vs) ≡ length (fields vs) + 2
-unfolding line
-line-length letter vs = simp length-append (omega arith)
-
--- the first numbers are no longer than all of them
-fields-grow : (vs : List ℕ) (i : ℕ) → length (fields (take i vs)) ≤ length (fields vs)
-unfolding fields
-fields-grow [] zero = omega arith
-fields-grow [] (suc i) = omega arith
-fields-grow (v ∷ vs) zero = omega arith
-fields-grow (v ∷ vs) (suc i) = omega (arith, length-append (field v) (fields (take i vs)), length-append (field v) (fields vs), fields-grow vs i)
-
--- the line feed has room after the first i numbers, and a number more where one is left
-pub room : (letter : ℕ) (vs : List ℕ) (i : ℕ) → length (begun letter vs i) + 1 ≤ length (line letter vs)
-room letter vs i = omega (arith, fields-grow vs i, line-length letter vs)
-
-pub room-more : (letter : ℕ) (vs : List ℕ) (i : ℕ) → i < length vs →
-    length (begun letter vs i) + length (field (getD vs i 0)) + 1 ≤ length (line letter vs)
-room-more letter vs i h = omega (arith, begun-length letter vs i h, room letter vs (i + 1))
 
 -- ---- widths
 -- a number below 10 to the k + 1 has at most k + 1 digits

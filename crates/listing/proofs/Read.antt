@@ -8,23 +8,19 @@ use lib.Dec.{ltb, leb, eqb}
 use lib.ListN.{length, getD}
 use borrow.Author.Tests.{ltb-true, ltb-false, le-leb, lt-leb, eq-eqb, ne-eqb, eqb-true}
 use Rattle.level.specs.Choice.{pick}
-use Rattle.level.proofs.Lists.{by-bool}
+use Rattle.level.specs.Lists.{All}
+use Rattle.level.proofs.Lists.{by-bool, all-append}
 use Rattle.course.specs.declared.Piece.{Piece}
 use Rattle.profile.specs.declared.Closing.{Closing}
 use Rattle.lines.specs.Lines.{fLine, sLine, qLine, eLine}
 use Rattle.lines.specs.Text.{digits, decimal, field, fields, line}
-use Rattle.lines.proofs.Decimals.{low-length, high-length, digits-low, digits-high}
+use Rattle.lines.proofs.Decimals.{decimal-some, digits-low, digits-high}
 use Rattle.listing.specs.Listing.{fLines, sLines, runLines, qLines, listing}
 use Rattle.listing.specs.Reader.{longer, parted, linesOf, wordsOf, isByte, allDigits, isDecimal, valueFrom, value, enclosing, inLines, printedAt, firstOf, printedKw}
 
 -- ---- parts of bytes
 abbrev Without : ℕ → List ℕ → Type 0
-Without c [] = Unit {0}
-Without c (b ∷ bs) = (b ≡ c → ⊥) × Without c bs
-
-without-append : (c : ℕ) (xs ys : List ℕ) → Without c xs → Without c ys → Without c (xs ++ ys)
-without-append c [] ys p q = q
-without-append c (x ∷ xs) ys p q = (p .0, without-append c xs ys (p .1) q)
+Without c bs = All (λ (b : ℕ). b ≡ c → ⊥) bs
 
 parted-end : (c : ℕ) (xs ys : List ℕ) → Without c xs → parted c (xs ++ (c ∷ ys)) ≡ xs ∷ parted c ys
 unfolding parted
@@ -32,20 +28,18 @@ parted-end c [] ys p = simp (eq-eqb c c refl)
 parted-end c (x ∷ xs) ys p = simp (ne-eqb x c (p .0)) (ap (longer x) (parted-end c xs ys (p .1)))
 
 -- ---- decimal numbers
-abbrev Digits : List ℕ → Type 0
-Digits [] = Unit {0}
-Digits (b ∷ bs) = ((48 ≤ b) × (b ≤ 57)) × Digits bs
+abbrev Digit : ℕ → Type 0
+Digit b = (48 ≤ b) × (b ≤ 57)
 
-digits-append : (xs ys : List ℕ) → Digits xs → Digits ys → Digits (xs ++ ys)
-digits-append [] ys p q = q
-digits-append (x ∷ xs) ys p q = (p .0, digits-append xs ys (p .1) q)
+abbrev Digits : List ℕ → Type 0
+Digits bs = All Digit bs
 
 digits-are : (f v : ℕ) → Digits (digits f v)
 digits-are zero v = unfold digits in tt
 digits-are (suc f) v =
     by-bool (ltb v 10)
     (λ e. let h : v < 10 = ltb-true v 10 e in rw (digits-low f v e) ((omega arith, omega arith), tt))
-    (λ e. rw (digits-high f v e) (digits-append (digits f (v / 10)) ((v % 10 + 48) ∷ []) (digits-are f (v / 10)) ((omega arith, omega arith), tt)))
+    (λ e. rw (digits-high f v e) (all-append Digit (digits f (v / 10)) ((v % 10 + 48) ∷ []) (digits-are f (v / 10)) ((omega arith, omega arith), tt)))
 
 decimal-digits : (v : ℕ) → Digits (decimal v)
 unfolding decimal
@@ -60,12 +54,9 @@ unfolding allDigits
 all-digits [] p = refl
 all-digits (d ∷ ds) p = simp (le-leb 48 d (p .0 .0), le-leb d 57 (p .0 .1), all-digits ds (p .1))
 
-some-digit : (v : ℕ) → 1 ≤ length (decimal v)
-some-digit v = by-bool (ltb v 10) (λ e. omega (arith, low-length v (ltb-true v 10 e))) (λ e. omega (arith, high-length v (ltb-false v 10 e)))
-
 is-decimal : (v : ℕ) → isDecimal (decimal v) ≡ true
 unfolding isDecimal
-is-decimal v = simp (le-leb 1 (length (decimal v)) (some-digit v), all-digits (decimal v) (decimal-digits v))
+is-decimal v = simp (le-leb 1 (length (decimal v)) (decimal-some v), all-digits (decimal v) (decimal-digits v))
 
 value-append : (v : ℕ) (xs ys : List ℕ) → valueFrom v (xs ++ ys) ≡ valueFrom (valueFrom v xs) ys
 unfolding valueFrom
@@ -94,7 +85,7 @@ fields-without : (vs : List ℕ) → Without 10 (fields vs)
 unfolding fields field
 fields-without [] = tt
 fields-without (v ∷ vs) =
-    (λ e. omega arith, without-append 10 (decimal v) (fields vs) (without 10 (omega arith) (decimal v) (decimal-digits v)) (fields-without vs))
+    (λ e. omega arith, all-append _ (decimal v) (fields vs) (without 10 (omega arith) (decimal v) (decimal-digits v)) (fields-without vs))
 
 words-of : (ds vs : List ℕ) → Without 32 ds → parted 32 (ds ++ (fields vs ++ (32 ∷ []))) ≡ ds ∷ decimals vs
 unfolding fields field

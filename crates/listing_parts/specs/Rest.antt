@@ -1,5 +1,6 @@
 -- Working. The lines of a day, kind by kind, and what is left of each kind to print.
-use Prim.Native.Nat.{ℕ, zero, suc}
+use Prim.Native.Nat.{ℕ, zero, suc, _-_, _≤_}
+use mathlib.Core.Path.{_≡_}
 use mathlib.Core.Bool.{Bool}
 use mathlib.Core.List.{List, []}
 use lib.Dec.{eqb}
@@ -7,12 +8,13 @@ use lib.ListN.{take}
 use Rattle.level.specs.Choice.{pick}
 use Rattle.level.specs.Level.{grains}
 use Rattle.level.specs.Lists.{listFrom}
+use Rattle.level.specs.Numbers.{mostHalfHours}
 use Rattle.records.specs.declared.UnitData.{UnitData}
 use Rattle.course.specs.declared.Course.{Course}
 use Rattle.course.specs.Course.{trajectoryOf}
 use Rattle.course.specs.Pieces.{piecesIn}
 use Rattle.profile.specs.declared.Closing.{Closing}
-use Rattle.profile.specs.Profile.{spansOf, dayPieces}
+use Rattle.profile.specs.Profile.{spansOf, dayPieces, rounded}
 use Rattle.profile.specs.Finding.{quantityAt}
 use Rattle.course_rates.specs.declared.OwnLists.{OwnLists}
 use Rattle.course_rates.specs.Ways.{headed, listsBy}
@@ -55,6 +57,18 @@ runsFrom f i (suc n) = runLines (suc i) (suc i) (f i) (listFrom f (suc i) n)
 unfoldable pub runEnd : (ℕ → ℕ) → ℕ → ℕ → ℕ → ℕ
 runEnd f k i zero = i
 runEnd f k i (suc n) = pick (eqb (f i) k) (runEnd f k (suc i) n) i
+
+-- a run of the quantity kw, which twice the area `twice` gives, may go on from one boundary, at most to another
+pub record RunAsked (twice kw from end : ℕ) : Type 0 where
+  pub ordered : from ≤ end
+  pub within : end ≤ mostHalfHours
+  pub quantity : kw ≡ rounded twice
+
+-- it ends at the boundary r
+pub record RunEnds (f : ℕ → ℕ) (kw from end r : ℕ) : Type 0 where
+  pub at : r ≡ runEnd f kw from (end - from)
+  pub later : from ≤ r
+  pub within : r ≤ end
 
 -- the E line
 unfoldable pub closingLine : Closing → List ℕ

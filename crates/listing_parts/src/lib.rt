@@ -6,18 +6,18 @@ ghost use Rattle.level.specs.Choice.{pick};
 ghost use Rattle.level.specs.Level.{grains};
 ghost use Rattle.level.specs.Numbers.{mostHalfHours, instructionPlaces, coursePlaces};
 ghost use Rattle.course.specs.Headings.{Short};
-ghost use Rattle.profile.specs.Profile.{rounded, closingBy};
+ghost use Rattle.profile.specs.Profile.{closingBy};
 ghost use Rattle.profile.specs.Finding.{quantityAt};
 ghost use Rattle.course_rates.specs.Ways.{headed};
 ghost use Rattle.course_walk.specs.Walk.{beginning};
-ghost use Rattle.lines.specs.Text.{laid};
-ghost use Rattle.listing_parts.specs.Rest.{fateLines, pieceLine, linesLeft, coursesLines, quantityLines, runEnd, closingLine};
+ghost use Rattle.lines.specs.Writing.{Written, Measured};
+ghost use Rattle.listing_parts.specs.Rest.{fateLines, pieceLine, linesLeft, coursesLines, quantityLines, RunAsked, RunEnds, closingLine};
 
 // ---- F lines
 
 // The width of the lines of the first `count` fates.
 pub fn fates_width(fates: [u8; level::INSTRUCTIONS], count: usize) -> usize
-    ensures { λ r. ⌜ (r ≡ length (fateLines count fates)) × (r ≤ 44 * instructionPlaces) ⌝ }
+    ensures { λ r. ⌜ Measured (fateLines count fates) (44 * instructionPlaces) r ⌝ }
 {
     let n = level::smaller_count(count, level::INSTRUCTIONS);
     let mut width: usize = 0;
@@ -34,7 +34,7 @@ pub fn fates_width(fates: [u8; level::INSTRUCTIONS], count: usize) -> usize
 // The lines of the first `count` fates.
 pub fn put_fates(out: &mut [u8], fates: [u8; level::INSTRUCTIONS], count: usize) -> usize
     requires { ⌜ length (fateLines count fates) ≤ length (now out) ⌝ }
-    ensures { λ r. ⌜ (r ≡ length (fateLines count fates)) × (now (out .exit) ≡ laid (fateLines count fates) (now (out .entry))) ⌝ }
+    ensures { λ r. ⌜ Written (fateLines count fates) r (now (out .entry)) (now (out .exit)) ⌝ }
 {
     let n = level::smaller_count(count, level::INSTRUCTIONS);
     let mut at: usize = 0;
@@ -53,7 +53,7 @@ pub fn put_fates(out: &mut [u8], fates: [u8; level::INSTRUCTIONS], count: usize)
 
 // The width of the line of the straight piece from p to q.
 fn piece_width(p: course_walk::Place, q: course_walk::Place) -> usize
-    ensures { λ r. ⌜ (r ≡ length (pieceLine p q)) × (r ≤ 86) ⌝ }
+    ensures { λ r. ⌜ Measured (pieceLine p q) 86 r ⌝ }
 {
     let from = p.second as u64;
     let to = q.second as u64;
@@ -63,7 +63,7 @@ fn piece_width(p: course_walk::Place, q: course_walk::Place) -> usize
 // The line of the straight piece from p to q.
 fn put_piece(out: &mut [u8], p: course_walk::Place, q: course_walk::Place) -> usize
     requires { ⌜ length (pieceLine p q) ≤ length (now out) ⌝ }
-    ensures { λ r. ⌜ (r ≡ length (pieceLine p q)) × (now (out .exit) ≡ laid (pieceLine p q) (now (out .entry))) ⌝ }
+    ensures { λ r. ⌜ Written (pieceLine p q) r (now (out .entry)) (now (out .exit)) ⌝ }
 {
     let from = p.second as u64;
     let to = q.second as u64;
@@ -73,7 +73,7 @@ fn put_piece(out: &mut [u8], p: course_walk::Place, q: course_walk::Place) -> us
 // The width of the lines of a course that goes by its own lists, from where it begins to the second n.
 fn course_width(l: course_rates::OwnLists, c: course::Course, up: bool, n: u32) -> usize
     requires { ⌜ Short (headed up) (grains (c .target)) (c .start .grains) ⌝ }
-    ensures { λ r. ⌜ (r ≡ length (linesLeft l c up n (beginning c (c .begin)))) × (r ≤ 369367187370) ⌝ }
+    ensures { λ r. ⌜ Measured (linesLeft l c up n (beginning c (c .begin))) 369367187370 r ⌝ }
 {
     let mut from = course_walk::begin_at(l, c, up, 0);
     let mut width: usize = 0;
@@ -97,7 +97,7 @@ fn put_course(
 ) -> usize
     requires { ⌜ Short (headed up) (grains (c .target)) (c .start .grains) ⌝ }
     requires { ⌜ length (linesLeft l c up n (beginning c (c .begin))) ≤ length (now out) ⌝ }
-    ensures { λ r. ⌜ (r ≡ length (linesLeft l c up n (beginning c (c .begin)))) × (now (out .exit) ≡ laid (linesLeft l c up n (beginning c (c .begin))) (now (out .entry))) ⌝ }
+    ensures { λ r. ⌜ Written (linesLeft l c up n (beginning c (c .begin))) r (now (out .entry)) (now (out .exit)) ⌝ }
 {
     let mut from = course_walk::begin_at(l, c, up, 0);
     let mut at: usize = 0;
@@ -130,7 +130,7 @@ pub fn courses_width(
     started: usize,
     end: u32,
 ) -> usize
-    ensures { λ r. ⌜ (r ≡ length (coursesLines u end (take started cs))) × (r ≤ 369367187370 * coursePlaces) ⌝ }
+    ensures { λ r. ⌜ Measured (coursesLines u end (take started cs)) (369367187370 * coursePlaces) r ⌝ }
 {
     let n = level::smaller_count(started, level::COURSES);
     let first = cs[0];
@@ -160,7 +160,7 @@ pub fn put_courses(
     end: u32,
 ) -> usize
     requires { ⌜ length (coursesLines u end (take started cs)) ≤ length (now out) ⌝ }
-    ensures { λ r. ⌜ (r ≡ length (coursesLines u end (take started cs))) × (now (out .exit) ≡ laid (coursesLines u end (take started cs)) (now (out .entry))) ⌝ }
+    ensures { λ r. ⌜ Written (coursesLines u end (take started cs)) r (now (out .entry)) (now (out .exit)) ⌝ }
 {
     let n = level::smaller_count(started, level::COURSES);
     let first = cs[0];
@@ -200,8 +200,8 @@ fn twice_at(sums: &[u64; level::BOUNDARIES], i: usize) -> u64
 // The boundary at which a run of the quantity kw ends, from the boundary `from` on, the last being `end`; `twice` is an area that
 // gives kw, and the same area needs no rounding.
 fn run_end(sums: &[u64; level::BOUNDARIES], twice: u64, kw: u64, from: usize, end: usize) -> usize
-    requires { ⌜ (from ≤ end) × (end ≤ mostHalfHours) × (kw ≡ rounded twice) ⌝ }
-    ensures { λ r. ⌜ (r ≡ runEnd (quantityAt (now (sums .entry))) kw from (end - from)) × (from ≤ r) × (r ≤ end) ⌝ }
+    requires { ⌜ RunAsked twice kw from end ⌝ }
+    ensures { λ r. ⌜ RunEnds (quantityAt (now (sums .entry))) kw from end r ⌝ }
 {
     let mut i = from;
     while i < end {
@@ -221,7 +221,7 @@ fn run_end(sums: &[u64; level::BOUNDARIES], twice: u64, kw: u64, from: usize, en
 // The width of the lines of the quantities, of a day of so many half-hours.
 pub fn quantities_width(sums: &[u64; level::BOUNDARIES], halves: u32) -> usize
     requires { ⌜ halves ≤ mostHalfHours ⌝ }
-    ensures { λ r. ⌜ (r ≡ length (quantityLines halves (now (sums .entry)))) × (r ≤ 65 * mostHalfHours) ⌝ }
+    ensures { λ r. ⌜ Measured (quantityLines halves (now (sums .entry))) (65 * mostHalfHours) r ⌝ }
 {
     let end = halves as usize;
     let mut width: usize = 0;
@@ -241,7 +241,7 @@ pub fn quantities_width(sums: &[u64; level::BOUNDARIES], halves: u32) -> usize
 pub fn put_quantities(out: &mut [u8], sums: &[u64; level::BOUNDARIES], halves: u32) -> usize
     requires { ⌜ halves ≤ mostHalfHours ⌝ }
     requires { ⌜ length (quantityLines halves (now sums)) ≤ length (now out) ⌝ }
-    ensures { λ r. ⌜ (r ≡ length (quantityLines halves (now (sums .entry)))) × (now (out .exit) ≡ laid (quantityLines halves (now (sums .entry))) (now (out .entry))) ⌝ }
+    ensures { λ r. ⌜ Written (quantityLines halves (now (sums .entry))) r (now (out .entry)) (now (out .exit)) ⌝ }
 {
     let end = halves as usize;
     let mut at: usize = 0;
@@ -275,7 +275,7 @@ pub fn closing_of(last: profile::UnderWay, end: profile::State) -> profile::Clos
 
 // The width of the line of the closing state.
 pub fn closing_width(e: profile::Closing) -> usize
-    ensures { λ r. ⌜ (r ≡ length (closingLine e)) × (r ≤ 86) ⌝ }
+    ensures { λ r. ⌜ Measured (closingLine e) 86 r ⌝ }
 {
     let level = e.level;
     lines_kinds::e_width(level.grains, e.target as u64, e.heat as u64, e.off as u64)
@@ -284,7 +284,7 @@ pub fn closing_width(e: profile::Closing) -> usize
 // The line of the closing state.
 pub fn put_closing(out: &mut [u8], e: profile::Closing) -> usize
     requires { ⌜ length (closingLine e) ≤ length (now out) ⌝ }
-    ensures { λ r. ⌜ (r ≡ length (closingLine e)) × (now (out .exit) ≡ laid (closingLine e) (now (out .entry))) ⌝ }
+    ensures { λ r. ⌜ Written (closingLine e) r (now (out .entry)) (now (out .exit)) ⌝ }
 {
     let level = e.level;
     lines_kinds::put_e(

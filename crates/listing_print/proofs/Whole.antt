@@ -1,8 +1,8 @@
 -- A whole listing from its parts, and asking for it.
 use Prim.Native.Nat.{ℕ, _+_, _≤_, _<_}
-use mathlib.Core.Path.{_≡_, refl, sym, ap, _∙_}
+use mathlib.Core.Path.{_≡_, refl}
 use mathlib.Core.List.{List, _++_}
-use mathlib.Core.Bool.{Bool, true, false, not}
+use mathlib.Core.Bool.{true, not}
 use native.Mathlib.Omega.{arith}
 use borrow.Author.Tests.{lt-ltb, le-ltb}
 use lib.ListN.{length, length-append}
@@ -10,32 +10,30 @@ use Rattle.records.specs.declared.Refusal.the-variants.{NotReady, SliceTooShort
 use Rattle.day.specs.declared.Day.{Day}
 use Rattle.day.specs.Day.{fatesIn, coursesIn, quantitiesIn}
 use Rattle.lines.specs.Text.{laid}
+use Rattle.lines.proofs.Laying.{Next, next-length}
 use Rattle.listing.specs.Listing.{listing, printedDay, listAnswer, listOf, lentAfter}
 use Rattle.listing_print.specs.Parts.{linesF, linesS, linesQ, lineE, noListing, someListing}
 use Rattle.listing_parts.specs.Rest.{coursesLines, closingLine}
 
 -- ---- the parts of a day's listing
+
+-- what is left after the S, and after the F lines
+abbrev pub fromQ : Day → List ℕ
+fromQ d = linesQ d ++ lineE d
+
+abbrev pub fromS : Day → List ℕ
+fromS d = linesS d ++ fromQ d
+
 module _ (d : Day) where
-  pub in-parts : printedDay d ≡ linesF d ++ (linesS d ++ (linesQ d ++ lineE d))
+  pub in-parts : Next (printedDay d) (linesF d) (fromS d)
   unfolding printedDay listing coursesLines closingLine fatesIn coursesIn quantitiesIn
-  in-parts = refl
+  in-parts = record { parts = refl }
 
   -- their widths add up
   pub day-length : length (printedDay d) ≡ length (linesF d) + length (linesS d) + length (linesQ d) + length (lineE d)
-  day-length =
-      let e : List ℕ = lineE d in
-      omega (
-        arith,
-        ap length in-parts ∙ length-append (linesF d) (linesS d ++ (linesQ d ++ e)),
-        length-append (linesS d) (linesQ d ++ e),
-        length-append (linesQ d) e,
-      )
+  day-length = omega (arith, next-length in-parts, length-append (linesS d) (fromQ d), length-append (linesQ d) (lineE d))
 
 -- ---- asking for it
-pub holds : (b : Bool) → not b ≡ false → b ≡ true
-holds true e = refl
-holds false e = sym e
-
 module _ (d : Day) (o : List ℕ) where
   pub ask-open : not (d .closed) ≡ true → (noListing NotReady ≡ listOf d o) × (o ≡ lentAfter d o)
   unfolding listOf lentAfter listAnswer

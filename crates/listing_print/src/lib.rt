@@ -3,7 +3,7 @@ ghost use mathlib.Core.Path.{_≡_};
 ghost use mathlib.Core.Bool.{true};
 ghost use Prim.Native.Nat.{_+_, _-_, _<_, _≤_};
 ghost use lib.ListN.{length};
-ghost use Rattle.lines.specs.Text.{laid};
+ghost use Rattle.lines.specs.Writing.{Written};
 ghost use Rattle.listing.specs.Listing.{printedDay, listOf, lentAfter};
 ghost use Rattle.listing_print.specs.Parts.{noListing, someListing};
 use day::Day;
@@ -33,7 +33,7 @@ pub fn day_width(day: Day) -> usize
 // The whole listing where there is room for it: the F lines, then S, Q and E lines, each after the lines already written.
 fn put_day(out: &mut [u8], day: Day) -> usize
     requires { ⌜ length (printedDay day) ≤ length (now out) ⌝ }
-    ensures { λ r. ⌜ (r ≡ length (printedDay day)) × (now (out .exit) ≡ laid (printedDay day) (now (out .entry))) ⌝ }
+    ensures { λ r. ⌜ Written (printedDay day) r (now (out .entry)) (now (out .exit)) ⌝ }
 {
     let fates = day.found.fates;
     let mut at = listing_parts::put_fates(out, fates, day.taken.count);

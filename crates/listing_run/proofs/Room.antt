@@ -19,6 +19,7 @@ use Rattle.listing.specs.Listing.{suffices, printedDay}
 use Rattle.claims.specs.Calls.{Call, sends, afterCalls, dayAfter}
 use Rattle.listing.specs.Program.{runBy, ranBy}
 use Rattle.claims.proofs.Room.{listing-suffices}
+use Rattle.listing_run.proofs.Front.{onward, run-onward}
 
 -- the calls of a run
 callsIn : ℕ → Day → List ℕ → List Call
@@ -32,16 +33,15 @@ callsIn (suc n) d s =
 
 -- they leave the day of the run
 calls-leave : (n : ℕ) (d : Day) (s : List ℕ) → afterCalls d (callsIn n d s) ≡ runBy (foundIn paper) n d s .day
-unfolding afterCalls runBy callsIn
+unfolding afterCalls runBy callsIn onward
 calls-leave zero d s = refl
 calls-leave (suc n) d s =
-    let t : Stepped = stepOf d s in go (t .answer) (t .day) (t .day .closed) (drop (t .used) s) (calls-leave n (t .day) (drop (t .used) s))
+    let t : Stepped = stepOf d s in
+    go (t .answer) (t .day) (t .day .closed) (drop (t .used) s) (calls-leave n (t .day) (drop (t .used) s))
+    ∙ sym (ap (λ (r : Ran). r .day) (run-onward (foundIn paper) n d s))
   where
     go : (a : Answer) (e : Day) (b : Bool) (r : List ℕ) → afterCalls e (callsIn n e r) ≡ runBy (foundIn paper) n e r .day →
-        (let x : Ran = elim a [
-          | Refused y ↦ record { answer = Refused y; day = e }
-          | Accepted ↦ elim b [ true ↦ record { answer = Accepted; day = e } | false ↦ runBy (foundIn paper) n e r ]
-        ] in afterCalls e (elim a [ Refused y ↦ [] | Accepted ↦ elim b [ true ↦ [] | false ↦ callsIn n e r ] ]) ≡ x .day)
+        afterCalls e (elim a [ Refused y ↦ [] | Accepted ↦ elim b [ true ↦ [] | false ↦ callsIn n e r ] ]) ≡ onward (foundIn paper) n a e b r .day
     go (Refused x) e b r h = refl
     go Accepted e true r h = refl
     go Accepted e false r h = h
@@ -50,17 +50,17 @@ refused-not : {P : Type 0} (r : Refusal) → Refused r ≡ Accepted → P
 refused-not r e = never (ap accepted e)
 
 run-closed : (n : ℕ) (d : Day) (s : List ℕ) → runBy (foundIn paper) n d s .answer ≡ Accepted → runBy (foundIn paper) n d s .day .closed ≡ true
-unfolding runBy
+unfolding runBy onward
 run-closed zero d s h = refused-not _ h
 run-closed (suc n) d s h =
-    let t : Stepped = stepOf d s in go (t .answer) (t .day) (t .day .closed) (drop (t .used) s) refl (run-closed n (t .day) (drop (t .used) s)) h
+    let t : Stepped = stepOf d s in
+    let e = run-onward (foundIn paper) n d s in
+    ap (λ (r : Ran). r .day .closed) e ∙ go (t .answer) (t .day) (t .day .closed) (drop (t .used) s) refl (run-closed n (t .day) (drop (t .used) s))
+    (sym (ap (λ (r : Ran). r .answer) e) ∙ h)
   where
     go : (a : Answer) (e : Day) (b : Bool) (r : List ℕ) → e .closed ≡ b →
         (runBy (foundIn paper) n e r .answer ≡ Accepted → runBy (foundIn paper) n e r .day .closed ≡ true) →
-        (let x : Ran = elim a [
-          | Refused y ↦ record { answer = Refused y; day = e }
-          | Accepted ↦ elim b [ true ↦ record { answer = Accepted; day = e } | false ↦ runBy (foundIn paper) n e r ]
-        ] in x .answer ≡ Accepted → x .day .closed ≡ true)
+        onward (foundIn paper) n a e b r .answer ≡ Accepted → onward (foundIn paper) n a e b r .day .closed ≡ true
     go (Refused y) e b r c f h = refused-not y h
     go Accepted e true r c f h = c
     go Accepted e false r c f h = f h

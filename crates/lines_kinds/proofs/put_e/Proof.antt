@@ -1,15 +1,11 @@
-use native.Mathlib.Omega.{arith}
 use borrow.Author.Needs.{needs}
 use Rattle.lines.specs.Lines.{eLine}
-use Rattle.lines.proofs.Widths.{e-length}
-use Rattle.lines.proofs.Decimals.{line-four}
 use Rattle.lines_kinds.proofs.put_e.Statement.{statement}
 use Rattle.lines_kinds.proofs.put_e.Tie as tie
 
 put-line-requires : tie.Need-put-line-requires
-put-line-requires c κs =
-    let a = c .before .before .before .args in
-    rw line-four (omega (arith, e-length (a .level) (a .target) (a .heat) (a .off)))
+unfolding eLine
+put-line-requires c κs = c .before .before .before .pre
 
 returns : tie.Need-returns
 unfolding eLine

@@ -1,15 +1,11 @@
-use native.Mathlib.Omega.{arith}
 use borrow.Author.Needs.{needs}
 use Rattle.lines.specs.Lines.{fLine}
-use Rattle.lines.proofs.Widths.{f-length}
-use Rattle.lines.proofs.Decimals.{line-two}
 use Rattle.lines_kinds.proofs.put_f.Statement.{statement}
 use Rattle.lines_kinds.proofs.put_f.Tie as tie
 
 put-line-requires : tie.Need-put-line-requires
-put-line-requires c κs =
-    let a = c .before .before .before .args in
-    rw line-two (omega (arith, f-length (a .n) (a .fate)))
+unfolding fLine
+put-line-requires c κs = c .before .before .before .pre
 
 returns : tie.Need-returns
 unfolding fLine

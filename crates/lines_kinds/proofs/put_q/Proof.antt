@@ -1,15 +1,11 @@
-use native.Mathlib.Omega.{arith}
 use borrow.Author.Needs.{needs}
 use Rattle.lines.specs.Lines.{qLine}
-use Rattle.lines.proofs.Widths.{q-length}
-use Rattle.lines.proofs.Decimals.{line-three}
 use Rattle.lines_kinds.proofs.put_q.Statement.{statement}
 use Rattle.lines_kinds.proofs.put_q.Tie as tie
 
 put-line-requires : tie.Need-put-line-requires
-put-line-requires c κs =
-    let a = c .before .before .before .args in
-    rw line-three (omega (arith, q-length (a .first) (a .last) (a .kw)))
+unfolding qLine
+put-line-requires c κs = c .before .before .before .pre
 
 returns : tie.Need-returns
 unfolding qLine

@@ -1,15 +1,11 @@
-use native.Mathlib.Omega.{arith}
 use borrow.Author.Needs.{needs}
 use Rattle.lines.specs.Lines.{xLine}
-use Rattle.lines.proofs.Widths.{x-length}
-use Rattle.lines.proofs.Decimals.{line-one}
 use Rattle.lines_kinds.proofs.put_x.Statement.{statement}
 use Rattle.lines_kinds.proofs.put_x.Tie as tie
 
 put-line-requires : tie.Need-put-line-requires
-put-line-requires c κs =
-    let a = c .before .before .before .args in
-    rw line-one (omega (arith, x-length (a .n)))
+unfolding xLine
+put-line-requires c κs = c .before .before .before .pre
 
 returns : tie.Need-returns
 unfolding xLine

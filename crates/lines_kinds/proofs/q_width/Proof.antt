@@ -5,10 +5,7 @@ use Rattle.lines_kinds.proofs.q_width.Statement.{statement}
 use Rattle.lines_kinds.proofs.q_width.Tie as tie
 
 returns : tie.Need-returns
-returns c =
-    let a = c .before .before .before .args in
-    let e = q-length (a .first) (a .last) (a .kw) in
-    (omega arith, omega arith)
+returns c = let a = c .before .before .before .args in omega (arith, q-length (a .first) (a .last) (a .kw))
 
 pub q-width-spec : {M : Type 1} → statement M
 q-width-spec =

@@ -20,10 +20,7 @@ loop-again : tie.Need-loop-again Inv-loop μ-loop
 loop-again c = omega (arith, high-length (c .before .loop .left) (omega arith))
 
 returns : tie.Need-returns Inv-loop μ-loop
-returns c =
-    let e = low-length (c .before .loop .left) (omega arith) in
-    let w = word-width (c .before .before .args .v) (omega arith) in
-    (omega arith, omega arith)
+returns c = omega (arith, low-length (c .before .loop .left) (omega arith), word-width (c .before .before .args .v) (omega arith))
 
 pub counted-width-spec : {M : Type 1} → statement M
 counted-width-spec = tie.close (tie.spec Inv-loop μ-loop (λ c. omega arith) add-width (λ c. omega arith) loop-again returns)

@@ -5,24 +5,43 @@ use native.Mathlib.Omega.{arith}
 use borrow.Author.Needs.{needs}
 use lib.ListN.{length, length-set}
 use Rattle.lines.specs.Text.{decimal, laid}
-use Rattle.lines.proofs.Decimals.{lastDigits, last-all, last-put, last-two, laid-length}
+use Rattle.lines.proofs.Decimals.{lastDigits, last-all, last-put, last-two, written-length}
 use Rattle.lines_text.proofs.put_decimal.Statement.{statement}
 use Rattle.lines_text.proofs.put_decimal.Tie as tie
 
+-- the last i digits of `left` are still to lay over out, which was out₀
+record Progress (out₀ : List ℕ) (v : ℕ) (out : List ℕ) (left i : ℕ) : Type 0 where
+  few : i ≤ 20
+  room : i ≤ length out
+  to-lay : laid (lastDigits i left) out ≡ laid (decimal v) out₀
+
 abbrev Inv-loop : tie.InvT-loop
-Inv-loop out₀ v width left₀ i₀ out left i = (i ≤ 20) × (i ≤ length out) × (laid (lastDigits i left) out ≡ laid (decimal v) out₀)
+Inv-loop out₀ v width left₀ i₀ out left i = Progress out₀ v out left i
 
 abbrev μ-loop : tie.MeasureT-loop
 μ-loop out₀ v width left₀ i₀ out left i = i
 
+-- where the loop is reached, the width and the function's start
+abbrev width-at : tie.At-loop Inv-loop μ-loop → tie.After-decimal-width Inv-loop μ-loop
+width-at k = k .before
+
+abbrev start : tie.At-loop Inv-loop μ-loop → tie.Start Inv-loop μ-loop
+start k = width-at k .before .before
+
+-- so many digits are left
+digits-left : (k : tie.At-loop Inv-loop μ-loop) (i : ℕ) → i ≡ k .loop .i →
+    laid (lastDigits i (k .loop .left)) (k .loop .out) ≡ laid (decimal (start k .args .v)) (start k .args .out .now)
+digits-left k i e = ap (λ (n : ℕ). laid (lastDigits n (k .loop .left)) (k .loop .out)) e ∙ k .loop .inv .to-lay
+
 loop-holds : tie.Need-loop-holds Inv-loop μ-loop
 loop-holds c =
-    let w = c .decimal-width .ensures .0 in (
-      c .decimal-width .ensures .1,
-      omega arith,
-      ap (λ (l : List ℕ). laid l (c .before .before .args .out .now))
-          (last-all (c .decimal-width .result) (c .before .before .args .v) w),
-    )
+    let w = c .decimal-width in
+    let a = c .before .before .args in
+    record {
+      few = w .ensures .few;
+      room = omega arith;
+      to-lay = ap (λ (l : List ℕ). laid l (a .out .now)) (last-all (w .result) (a .v) (w .ensures .count-is));
+    }
 
 slice-write-out-2 : tie.Need-slice-write-out-2 Inv-loop μ-loop
 slice-write-out-2 c = simp length-set (omega arith)
@@ -30,39 +49,33 @@ slice-write-out-2 c = simp length-set (omega arith)
 loop-again : tie.Need-loop-again Inv-loop μ-loop
 loop-again c =
     let l = c .before .loop in
-    let e : l .i - 2 + 2 ≡ l .i = omega arith in (
-      omega arith,
-      simp length-set (omega arith),
-      sym (last-two (l .i - 2) (l .left) (l .out) (omega arith))
-          ∙ (ap (λ (k : ℕ). laid (lastDigits k (l .left)) (l .out)) e ∙ l .inv .2),
-    )
+    record {
+      few = omega arith;
+      room = simp length-set (omega arith);
+      to-lay = sym (last-two (l .i - 2) (l .left) (l .out) (omega arith)) ∙ digits-left (c .before) (l .i - 2 + 2) (omega arith);
+    }
 
 returns : tie.Need-returns Inv-loop μ-loop
 unfolding lastDigits
 returns c =
-    let l = c .before .before .loop in
-    let e : 1 ≡ l .i = omega arith in (
-      c .before .before .before .decimal-width .ensures .0,
-      sym (last-put 0 (l .left) (l .out) (omega arith))
-          ∙ (ap (λ (k : ℕ). laid (lastDigits k (l .left)) (l .out)) e ∙ l .inv .2),
-    )
+    let k = c .before .before in
+    let l = k .loop in
+    record {
+      count-is = width-at k .decimal-width .ensures .count-is;
+      bytes = sym (last-put 0 (l .left) (l .out) (omega arith)) ∙ digits-left k 1 (omega arith);
+    }
 
 same-length : tie.Need-same-length Inv-loop μ-loop
-same-length c =
-    let s = c .before .before .before .before .before in
-    ap length (returns c .1) ∙ laid-length (decimal (s .args .v)) (s .args .out .now) (s .pre)
+same-length c = written-length (start (c .before .before) .pre) (returns c)
 
 returns-2 : tie.Need-returns-2 Inv-loop μ-loop
 unfolding lastDigits
 returns-2 c =
-    let l = c .before .before .loop in
-    let e : 0 ≡ l .i = omega arith in
-    (c .before .before .before .decimal-width .ensures .0, ap (λ (k : ℕ). laid (lastDigits k (l .left)) (l .out)) e ∙ l .inv .2)
+    let k = c .before .before in
+    record { count-is = width-at k .decimal-width .ensures .count-is; bytes = digits-left k 0 (omega arith) }
 
 same-length-2 : tie.Need-same-length-2 Inv-loop μ-loop
-same-length-2 c =
-    let s = c .before .before .before .before .before in
-    ap length (returns-2 c .1) ∙ laid-length (decimal (s .args .v)) (s .args .out .now) (s .pre)
+same-length-2 c = written-length (start (c .before .before) .pre) (returns-2 c)
 
 pub put-decimal-spec : {M : Type 1} → statement M
 put-decimal-spec =

@@ -1,50 +1,44 @@
 use native.Mathlib.Omega.{arith}
-use mathlib.Core.Path.{refl, ap, _∙_}
-use mathlib.Core.List.{[], _∷_}
-use lib.ListN.{length, set, length-set}
+use mathlib.Core.Path.{refl}
+use lib.ListN.{set}
 use Rattle.lines.specs.Text.{decimal, field}
-use Rattle.lines.proofs.Decimals.{set-front, laid-part, laid-length, after-first}
+use Rattle.lines.proofs.Decimals.{written-length}
+use Rattle.lines.proofs.Laying.{Laying, lay-none, lay-byte, lay-room, lay-more, lay-all, room-tail, next-last}
 use borrow.Author.Needs.{needs}
 use Rattle.lines_text.proofs.put_field.Statement.{statement}
 use Rattle.lines_text.proofs.put_field.Tie as tie
+
+-- from after the digits, the function's start
+abbrev start : tie.After-slice-known2 → tie.Start
+start c = c .before .before .before .before .before
+
+-- the blank is laid
+blank : (s : tie.Start) → Laying (field (s .args .v)) (decimal (s .args .v)) (s .args .out .now) (set (s .args .out .now) 0 32) 1
+unfolding field
+blank s = lay-byte 32 (record { parts = refl }) (lay-none (s .pre))
 
 slice-write-out : tie.Need-slice-write-out
 unfolding field
 slice-write-out c = omega arith
 
 sub-put-decimal : tie.Need-sub-put-decimal
-unfolding field
-sub-put-decimal c = simp length-set (omega arith)
-
-part-put-decimal-start : tie.Need-part-put-decimal-start
-unfolding field
-part-put-decimal-start c = simp length-set (omega arith)
+sub-put-decimal c = omega (arith, lay-room (blank (c .before)))
 
 put-decimal-requires : tie.Need-put-decimal-requires
-unfolding field
-put-decimal-requires c κs = after-first (c .before .before .args .out .now) _ _ (length (decimal (c .before .before .args .v))) (omega arith)
+put-decimal-requires c κs = room-tail (lay-room (blank (c .before .before)))
 
 add-result : tie.Need-add-result
-unfolding field
-add-result c = omega (arith, c .before .before .before .before .before)
+add-result c = let s = start c in omega (arith, s .good, lay-room (blank s), c .before .before .put-decimal .ensures .count-is)
 
 returns : tie.Need-returns
-unfolding field
 returns c =
-    let s = c .before .before .before .before .before in
-    let p = c .before .before .put-decimal in
-    let o = s .args .out .now in (
-      omega (arith, p .ensures .0),
-      laid-part (32 ∷ []) (decimal (s .args .v)) o (set o 0 32) (p .last .0) 1 refl (s .pre)
-          (set-front o 32 (omega (arith, s .pre))) (p .ensures .1),
-    )
+    let w = lay-all refl (lay-more (next-last _) (blank (start c)) (c .before .before .put-decimal .ensures)) in
+    record { count-is = omega (arith, w .count-is); bytes = w .bytes }
 
 same-length : tie.Need-same-length
-same-length c =
-    let s = c .before .before .before .before .before in
-    ap length (returns c .1) ∙ laid-length (field (s .args .v)) (s .args .out .now) (s .pre)
+same-length c = written-length (start c .pre) (returns c)
 
 pub put-field-spec : {M : Type 1} → statement M
 put-field-spec =
     tie.close
-    (tie.spec slice-write-out sub-put-decimal part-put-decimal-start (λ c. search needs) put-decimal-requires add-result same-length returns)
+    (tie.spec slice-write-out sub-put-decimal sub-put-decimal (λ c. search needs) put-decimal-requires add-result same-length returns)

@@ -5,7 +5,7 @@ use Rattle.listing_parts.proofs.put_closing.Tie as tie
 
 put-e-requires : tie.Need-put-e-requires
 unfolding closingLine
-put-e-requires c κs = c .before .before .before .before .before .before .pre
+put-e-requires c κs = search needs
 
 returns : tie.Need-returns
 unfolding closingLine

@@ -1,89 +1,56 @@
-use Prim.Native.Nat.{_+_, _-_, _≤_}
-use mathlib.Core.Path.{_≡_}
-use mathlib.Core.List.{_++_}
+use Prim.Native.Nat.{ℕ, _+_, _-_}
+use mathlib.Core.List.{List}
 use native.Mathlib.Omega.{arith}
 use borrow.Author.Needs.{needs}
-use lib.ListN.{length, getD}
+use lib.ListN.{getD}
 use Rattle.lines.specs.Lines.{fLine}
-use Rattle.lines.proofs.Decimals.{part-length}
-use Rattle.listing_parts.proofs.Laws.{Laying, lay-none, lay-room, lay-next, lay-more, lay-all, fates-left, fates-more, fates-none}
+use Rattle.lines.proofs.Laying.{UpTo, Laying, Next, Room, lay-none, lay-room, lay-next, lay-more, lay-all, room-tail}
+use Rattle.listing_parts.proofs.Laws.{fates-left, fates-more, fates-none}
 use Rattle.listing_parts.proofs.put_fates.Statement.{statement}
 use Rattle.listing_parts.proofs.put_fates.Tie as tie
 
 abbrev Inv-loop : tie.InvT-loop
-Inv-loop out₀ count fates n at₀ i₀ out at i = (i ≤ n) × Laying (fates-left fates count 0) (fates-left fates count i) out₀ out at
+Inv-loop out₀ count fates n at₀ i₀ out at i = UpTo i n (Laying (fates-left fates count 0) (fates-left fates count i) out₀ out at)
 
 abbrev μ-loop : tie.MeasureT-loop
 μ-loop out₀ count fates n at₀ i₀ out at i = n - i
 
--- within the loop: the next line, and its room
-next : (c : tie.In-loop Inv-loop μ-loop) →
-    let a = c .before .before .before .before .args in
-    let i = c .before .loop .i in
-    fates-left (a .t2) (a .count) i ≡ fLine (i + 1) (getD (a .t2) i 0) ++ fates-left (a .t2) (a .count) (i + 1)
-next c =
-    let s = c .before .before .before .before in
-    fates-more (s .args .t2) (s .args .count) (c .before .loop .i) (omega (arith, s .good .1 .0 .1 .0 .1))
+-- where the loop's test is reached, the function's start; after a line is written, the turn
+abbrev start : tie.At-loop Inv-loop μ-loop → tie.Start Inv-loop μ-loop
+start k = k .before .before .before
 
-room : (c : tie.In-loop Inv-loop μ-loop) →
-    let a = c .before .before .before .before .args in
-    let l = c .before .loop in
-    (l .at + length (fLine (l .i + 1) (getD (a .t2) (l .i) 0)) ≤ length (l .out)) × (length (l .out) ≡ length (a .out .now))
-room c =
-    let s = c .before .before .before .before in
-    let a = s .args in
-    let l = c .before .loop in
-    let left = fates-left (a .t2) (a .count) in
-    lay-next (left 0) (left (l .i)) (fLine (l .i + 1) (getD (a .t2) (l .i) 0)) (left (l .i + 1)) (a .out .now) (l .out) (l .at) (s .pre) (next c)
-    (l .inv .1)
+abbrev turn : tie.After-slice-known2 Inv-loop μ-loop → tie.In-loop Inv-loop μ-loop
+turn c = c .before .before .before .before
 
-loop-holds : tie.Need-loop-holds Inv-loop μ-loop
-loop-holds c = let a = c .before .before .args in (omega arith, lay-none (fates-left (a .t2) (a .count) 0) (a .out .now))
+-- the lines left from the place i on; the next line, and its room
+abbrev left : tie.At-loop Inv-loop μ-loop → ℕ → List ℕ
+left k i = fates-left (start k .args .t2) (start k .args .count) i
 
-sub-put-f : tie.Need-sub-put-f Inv-loop μ-loop
-sub-put-f c = omega (arith, room c)
+abbrev line-of : tie.At-loop Inv-loop μ-loop → List ℕ
+line-of k = fLine (k .loop .i + 1) (getD (start k .args .t2) (k .loop .i) 0)
 
-part-put-f-start : tie.Need-part-put-f-start Inv-loop μ-loop
-part-put-f-start c = omega (arith, room c)
+next : (c : tie.In-loop Inv-loop μ-loop) → let k = c .before in Next (left k (k .loop .i)) (line-of k) (left k (k .loop .i + 1))
+next c = let s = start (c .before) in fates-more (s .args .t2) (s .args .count) (c .before .loop .i) (omega (arith, s .good))
 
-put-f-requires : tie.Need-put-f-requires Inv-loop μ-loop
-put-f-requires c κs = omega (arith, part-length (c .before .before .loop .at) (c .before .before .loop .out), room (c .before))
+room : (c : tie.In-loop Inv-loop μ-loop) → let k = c .before in Room (line-of k) (start k .args .out .now) (k .loop .out) (k .loop .at)
+room c = lay-next (next c) (c .before .loop .inv .lines)
 
 add-at : tie.Need-add-at Inv-loop μ-loop
-add-at c = omega (arith, room (c .before .before .before .before), c .before .before .put-f .ensures .0)
+add-at c = omega (arith, room (turn c), c .before .before .put-f .ensures .count-is)
 
 loop-again : tie.Need-loop-again Inv-loop μ-loop
 loop-again c =
-    let w = c .before .before .before .before in
-    let s = w .before .before .before .before in
-    let a = s .args in
-    let l = w .before .loop in
-    let p = c .before .before .put-f in
-    let left = fates-left (a .t2) (a .count) in (
-      omega arith,
-      lay-more (left 0) (left (l .i)) (fLine (l .i + 1) (getD (a .t2) (l .i) 0)) (left (l .i + 1)) (a .out .now) (l .out) (p .last .0) (l .at)
-          (p .result) (s .pre) (next w) (l .inv .1) (p .ensures .0) (p .ensures .1),
-    )
-
-same-length : tie.Need-same-length Inv-loop μ-loop
-same-length c =
-    let s = c .before .before .before .before in
-    let a = s .args in
-    let l = c .before .loop in
-    let left = fates-left (a .t2) (a .count) in
-    lay-room (left 0) (left (l .i)) (a .out .now) (l .out) (l .at) (s .pre) (l .inv .1) .1
+    record { within = omega arith; lines = lay-more (next (turn c)) (turn c .before .loop .inv .lines) (c .before .before .put-f .ensures) }
 
 returns : tie.Need-returns Inv-loop μ-loop
 returns c =
-    let s = c .before .before .before .before in
-    let a = s .args in
-    let l = c .before .loop in
-    let left = fates-left (a .t2) (a .count) in
-    lay-all (left 0) (left (l .i)) (a .out .now) (l .out) (l .at) (fates-none (a .t2) (a .count) (l .i) (omega (arith, s .good .1 .0 .1 .0 .1)))
-    (l .inv .1)
+    let k = c .before in
+    let s = start k in
+    lay-all (fates-none (s .args .t2) (s .args .count) (k .loop .i) (omega (arith, s .good))) (k .loop .inv .lines)
 
 pub put-fates-spec : {M : Type 1} → statement M
 put-fates-spec =
     tie.close
-    (tie.spec Inv-loop μ-loop (λ c κs. search needs) loop-holds (λ c. omega arith) (λ c. omega arith) (λ c. search needs) sub-put-f part-put-f-start
-    (λ c. search needs) put-f-requires add-at (λ c. omega arith) (λ c. omega arith) loop-again same-length returns)
+    (tie.spec Inv-loop μ-loop (λ c κs. search needs) (λ c. record { within = omega arith; lines = lay-none (c .before .before .pre) }) (λ c. omega arith) (λ c. omega arith)
+    (λ c. search needs) (λ c. omega (arith, room c)) (λ c. omega (arith, room c)) (λ c. search needs) (λ c κs. room-tail (room (c .before))) add-at
+    (λ c. omega arith) (λ c. omega arith) loop-again (λ c. lay-room (c .before .loop .inv .lines) .same) returns)

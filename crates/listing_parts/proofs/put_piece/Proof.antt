@@ -5,7 +5,7 @@ use Rattle.listing_parts.proofs.put_piece.Tie as tie
 
 put-s-requires : tie.Need-put-s-requires
 unfolding pieceLine
-put-s-requires c κs = c .before .before .before .before .pre
+put-s-requires c κs = search needs
 
 returns : tie.Need-returns
 unfolding pieceLine

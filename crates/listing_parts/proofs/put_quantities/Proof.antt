@@ -1,109 +1,81 @@
-use Prim.Native.Nat.{ℕ, _+_, _-_, _≤_}
-use mathlib.Core.Path.{_≡_, ap, _∙_}
-use mathlib.Core.List.{List, _++_}
+use Prim.Native.Nat.{ℕ, _+_, _-_}
+use mathlib.Core.List.{List}
 use native.Mathlib.Omega.{arith}
 use borrow.Author.Needs.{needs}
-use lib.ListN.{length}
 use Rattle.lines.specs.Lines.{qLine}
-use Rattle.lines.specs.Text.{laid}
-use Rattle.lines.proofs.Decimals.{part-length}
+use Rattle.lines.proofs.Laying.{UpTo, Laying, Next, Room, lay-none, lay-room, lay-next, lay-more, lay-all, room-tail}
 use Rattle.profile.specs.Finding.{quantityAt}
-use Rattle.listing_parts.proofs.Laws.{Laying, lay-none, lay-room, lay-next, lay-more, lay-all, quantities-left, quantities-more, quantities-none, quantities-all, quantity-here}
+use Rattle.listing_parts.specs.Rest.{quantityLines}
+use Rattle.listing_parts.proofs.Laws.{quantities-left, quantities-next, quantities-none, quantities-all}
 use Rattle.listing_parts.proofs.put_quantities.Statement.{statement}
 use Rattle.listing_parts.proofs.put_quantities.Tie as tie
 
 abbrev Inv-loop : tie.InvT-loop
 Inv-loop out₀ sums halves end at₀ i₀ out at i =
-    (i ≤ halves) × Laying (quantities-left (quantityAt sums) halves 0) (quantities-left (quantityAt sums) halves i) out₀ out at
+    UpTo i halves (Laying (quantityLines halves sums) (quantities-left (quantityAt sums) halves i) out₀ out at)
 
 abbrev μ-loop : tie.MeasureT-loop
 μ-loop out₀ sums halves end at₀ i₀ out at i = halves - i
 
--- all of it has room
-fits : (c : tie.At-loop Inv-loop μ-loop) →
-    let a = c .before .before .args in length (quantities-left (quantityAt (a .sums .now)) (a .halves) 0) ≤ length (a .out .now)
-fits c = let s = c .before .before in rw (quantities-all (quantityAt (s .args .sums .now)) (s .args .halves)) (s .pre .1)
+-- after the end of the next run is found, where the loop's test was reached, and from there the function's start
+abbrev at-loop : tie.After-run-end Inv-loop μ-loop → tie.At-loop Inv-loop μ-loop
+at-loop c = c .before .before .before .before
 
--- the next line, and its room
+abbrev start : tie.At-loop Inv-loop μ-loop → tie.Start Inv-loop μ-loop
+start k = k .before .before
+
+-- after its line is written
+abbrev found : tie.After-slice-known2 Inv-loop μ-loop → tie.After-run-end Inv-loop μ-loop
+found c = c .before .before .before .before
+
+-- the lines left from the boundary i on; the next line, and its room
+abbrev left : tie.At-loop Inv-loop μ-loop → ℕ → List ℕ
+left k i = quantities-left (quantityAt (start k .args .sums .now)) (start k .args .halves) i
+
+abbrev line-of : tie.After-run-end Inv-loop μ-loop → List ℕ
+line-of c = qLine (at-loop c .loop .i + 1) (c .run-end .result) (c .before .quantity-of .result)
+
 next : (c : tie.After-run-end Inv-loop μ-loop) →
-    let a = c .before .before .before .before .before .before .args in
-    let left = quantities-left (quantityAt (a .sums .now)) (a .halves) in
-    let i = c .before .before .before .before .loop .i in
-    left i ≡ qLine (i + 1) (c .run-end .result) (c .before .quantity-of .result) ++ left (c .run-end .result)
+    let k = at-loop c in Next (left k (k .loop .i)) (line-of c) (left k (c .run-end .result))
 next c =
-    let a = c .before .before .before .before .before .before .args in
-    let sums = a .sums .now in
-    let i = c .before .before .before .before .loop .i in
-    let kw = c .before .quantity-of in
-    quantities-more (quantityAt sums) (a .halves) i (kw .result) (c .run-end .result) (omega arith)
-    (quantity-here sums i _ _ (c .before .before .twice-at .ensures) (kw .ensures)) (c .run-end .ensures .0)
+    let a = start (at-loop c) .args in
+    quantities-next (a .sums .now) (at-loop c .loop .i) (a .halves) (omega arith) (c .before .before .twice-at .ensures)
+    (c .before .quantity-of .ensures) (c .run-end .ensures)
 
 room : (c : tie.After-run-end Inv-loop μ-loop) →
-    let l = c .before .before .before .before .loop in
-    (l .at + length (qLine (l .i + 1) (c .run-end .result) (c .before .quantity-of .result)) ≤ length (l .out)) ×
-    (length (l .out) ≡ length (c .before .before .before .before .before .before .args .out .now))
-room c =
-    let a = c .before .before .before .before .before .before .args in
-    let l = c .before .before .before .before .loop in
-    let left = quantities-left (quantityAt (a .sums .now)) (a .halves) in
-    let end = c .run-end .result in
-    lay-next (left 0) (left (l .i)) (qLine (l .i + 1) end (c .before .quantity-of .result)) (left end) (a .out .now) (l .out) (l .at)
-    (fits (c .before .before .before .before)) (next c) (l .inv .1)
+    let k = at-loop c in Room (line-of c) (start k .args .out .now) (k .loop .out) (k .loop .at)
+room c = lay-next (next c) (at-loop c .loop .inv .lines)
 
 loop-holds : tie.Need-loop-holds Inv-loop μ-loop
-loop-holds c = let a = c .before .args in (omega arith, lay-none (quantities-left (quantityAt (a .sums .now)) (a .halves) 0) (a .out .now))
+loop-holds c =
+    let s = c .before in
+    record { within = omega arith; lines = rw (quantities-all (quantityAt (s .args .sums .now)) (s .args .halves)) (lay-none (s .pre .1)) }
 
 run-end-requires : tie.Need-run-end-requires Inv-loop μ-loop
-run-end-requires c κs = (omega arith, omega arith, c .quantity-of .ensures)
-
-sub-put-q : tie.Need-sub-put-q Inv-loop μ-loop
-sub-put-q c = omega (arith, room c)
-
-part-put-q-start : tie.Need-part-put-q-start Inv-loop μ-loop
-part-put-q-start c = omega (arith, room c)
-
-put-q-requires : tie.Need-put-q-requires Inv-loop μ-loop
-put-q-requires c κs = let l = c .before .before .before .before .before .loop in omega (arith, part-length (l .at) (l .out), room (c .before))
+run-end-requires c κs = record { ordered = omega arith; within = omega arith; quantity = c .quantity-of .ensures }
 
 add-at : tie.Need-add-at Inv-loop μ-loop
-add-at c = omega (arith, room (c .before .before .before .before), c .before .before .put-q .ensures .0)
+add-at c = omega (arith, room (found c), c .before .before .put-q .ensures .count-is)
 
 loop-less : tie.Need-loop-less Inv-loop μ-loop
-loop-less c = let end = c .before .before .before .before .run-end in omega (arith, end .ensures .1, end .ensures .2)
+loop-less c = omega (arith, found c .run-end .ensures)
 
 loop-again : tie.Need-loop-again Inv-loop μ-loop
 loop-again c =
-    let w = c .before .before .before .before in
-    let a = c .before .before .before .before .before .before .before .before .before .before .args in
-    let l = c .before .before .before .before .before .before .before .before .loop in
-    let p = c .before .before .put-q in
-    let end = w .run-end .result in
-    let left = quantities-left (quantityAt (a .sums .now)) (a .halves) in (
-      w .run-end .ensures .2,
-      lay-more (left 0) (left (l .i)) (qLine (l .i + 1) end (c .before .before .before .before .before .quantity-of .result)) (left end) (a .out .now)
-          (l .out) (p .last .0) (l .at) (p .result)
-          (fits (c .before .before .before .before .before .before .before .before)) (next w) (l .inv .1) (p .ensures .0) (p .ensures .1),
-    )
-
-same-length : tie.Need-same-length Inv-loop μ-loop
-same-length c =
-    let a = c .before .before .before .args in
-    let l = c .before .loop in
-    let left = quantities-left (quantityAt (a .sums .now)) (a .halves) in
-    lay-room (left 0) (left (l .i)) (a .out .now) (l .out) (l .at) (fits (c .before)) (l .inv .1) .1
+    record {
+      within = found c .run-end .ensures .within;
+      lines = lay-more (next (found c)) (at-loop (found c) .loop .inv .lines) (c .before .before .put-q .ensures);
+    }
 
 returns : tie.Need-returns Inv-loop μ-loop
 returns c =
-    let a = c .before .before .before .args in
-    let l = c .before .loop in
-    let f = quantityAt (a .sums .now) in
-    let left = quantities-left f (a .halves) in
-    let r = lay-all (left 0) (left (l .i)) (a .out .now) (l .out) (l .at) (quantities-none f (a .halves) (l .i) (omega arith)) (l .inv .1) in
-    let all = quantities-all f (a .halves) in
-    (r .0 ∙ ap length all, r .1 ∙ ap (λ (d : List ℕ). laid d (a .out .now)) all)
+    let k = c .before in
+    let a = start k .args in
+    lay-all (quantities-none (quantityAt (a .sums .now)) (a .halves) (k .loop .i) (omega arith)) (k .loop .inv .lines)
 
 pub put-quantities-spec : {M : Type 1} → statement M
 put-quantities-spec =
     tie.close
-    (tie.spec Inv-loop μ-loop loop-holds (λ c κs. omega arith) (λ c κs. search needs) (λ c. omega arith) run-end-requires sub-put-q part-put-q-start
-    (λ c. search needs) put-q-requires add-at loop-less loop-again same-length returns)
+    (tie.spec Inv-loop μ-loop loop-holds (λ c κs. omega arith) (λ c κs. search needs) (λ c. omega arith) run-end-requires
+    (λ c. omega (arith, room c)) (λ c. omega (arith, room c)) (λ c. search needs) (λ c κs. room-tail (room (c .before))) add-at loop-less loop-again
+    (λ c. lay-room (c .before .loop .inv .lines) .same) returns)

@@ -1,7 +1,8 @@
 use mathlib.Core.Path.{_∙_}
 use borrow.Author.Needs.{needs}
+use borrow.Author.Tests.{not-false}
 use Rattle.day.proofs.Answers.{never}
-use Rattle.listing_print.proofs.Whole.{holds, ask-open}
+use Rattle.listing_print.proofs.Whole.{ask-open}
 use Rattle.listing_print.proofs.list.Statement.{statement}
 use Rattle.listing_print.proofs.list.Tie as tie
 
@@ -12,7 +13,7 @@ returns c =
     (c .refused .ensures ∙ a .0, a .1)
 
 list-closed-requires : tie.Need-list-closed-requires
-list-closed-requires c κs = (holds (c .before .before .before .before .args .day .closed) (c .before .if1 .left), λ e. never e)
+list-closed-requires c κs = (not-false (c .before .before .before .before .args .day .closed) (c .before .if1 .left), λ e. never e)
 
 pub list-spec : {M : Type 1} → statement M
 list-spec = tie.close (tie.spec (λ c κs. search needs) returns list-closed-requires (λ c. search needs) (λ c. search needs))
