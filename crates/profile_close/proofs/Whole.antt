@@ -33,7 +33,7 @@ use Rattle.profile.proofs.Near.{all-map}
 use Rattle.profile.proofs.Most.{Below, courses-below, start-below}
 use Rattle.profile.proofs.Found.{spans, list-length, list-at, sums-step, found-sums, found-quantities}
 use Rattle.profile_quantity.specs.Summing.{someAbove}
-use Rattle.profile_follow.specs.declared.Followed.{Followed as Following}
+use Rattle.profile_follow.specs.declared.FollowedDay.{FollowedDay}
 use Rattle.profile_follow.specs.declared.Walk.{Walk}
 use Rattle.profile_follow.specs.Walk.{fateIn, walkOf, walkAll}
 use Rattle.profile_follow.specs.Following.{Ordered, LowStart, coursesFrom, lastIn, Followable, FollowedBy}
@@ -144,7 +144,7 @@ module _ (t : Taken) (n : ℕ) (places : length (t .instructions) ≡ instructio
       (λ j p. area-to n ss (day-tiles byRule end u (t .start) (numbered 1 (entered t))) j (omega arith)))
 
   -- what following comes to, with its fates laid over
-  pub find-is : (r : Following) → FollowedBy u first (take (v .acting) (v .acts)) n r →
+  pub find-is : (r : FollowedDay) → FollowedBy u first (take (v .acting) (v .acts)) n r →
       (record {
         fates = overlaidAll settled (marksFrom (v .acts) (r .walk .fates) 0 (v .acting)) .fates;
         started = r .walk .started;

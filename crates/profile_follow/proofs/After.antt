@@ -27,7 +27,7 @@ use Rattle.profile.proofs.Following.{comesTo, newCourse, follow-on, follow-new,
 use Rattle.course_rates.specs.declared.OwnLists.{OwnLists}
 use Rattle.course_rates.specs.Ways.{headed, listsIn, ownLists, listsBy}
 use Rattle.course_walk.specs.Walk.{reachedAt, beginning, twiceTo}
-use Rattle.course_walk.proofs.Goes.{standing-here}
+use Rattle.course_walk.proofs.PieceStep.{standing-here}
 use Rattle.course_walk.proofs.Areas.{twice-is}
 use Rattle.course_walk.proofs.Own.{own-twice}
 use Rattle.course_walk.proofs.Rest.{known-at}

@@ -109,14 +109,14 @@ fn place_in(at: usize) -> usize
 }
 
 // What following comes to: the walk, twice the recorded area from 06:00 to each half-hour boundary, and the state at the day's end.
-pub struct Followed {
+pub struct FollowedDay {
     pub walk: Walk,
     pub sums: [u64; level::BOUNDARIES],
     pub end: profile::State,
 }
 
 // At the end of a day of so many half-hours: the places past its last boundary hold 0.
-fn end_day(w: Walk, sums: [u64; level::BOUNDARIES], end: profile::State, halves: u32) -> Followed
+fn end_day(w: Walk, sums: [u64; level::BOUNDARIES], end: profile::State, halves: u32) -> FollowedDay
     requires { ⌜ halves ≤ mostHalfHours ⌝ }
     ensures { λ r. ⌜ r ≡ ended w sums end halves ⌝ }
 {
@@ -126,7 +126,7 @@ fn end_day(w: Walk, sums: [u64; level::BOUNDARIES], end: profile::State, halves:
         kept[b] = 0;
         b += 1;
     }
-    Followed {
+    FollowedDay {
         walk: w,
         sums: kept,
         end,
@@ -142,7 +142,7 @@ pub fn follow_day(
     acts: [validation::Numbered; level::INSTRUCTIONS],
     n: usize,
     halves: u32,
-) -> Followed
+) -> FollowedDay
     requires { ⌜ Followable u first acts n halves ⌝ }
     ensures { λ r. ⌜ FollowedBy u first (take n acts) halves r ⌝ }
 {

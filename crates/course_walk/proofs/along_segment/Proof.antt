@@ -29,7 +29,8 @@ returns-2 c =
     })
 
 after-run-requires : tie.Need-after-run-requires
-after-run-requires c κs = (omega arith, (full-way _ _ _ (omega arith), c .before .before .before .before .before .pre .1))
+after-run-requires c κs =
+    let s = c .before .before .before .before .before in record { within = omega arith; way = full-way _ _ _ (omega arith); room = s .pre .1 }
 
 returns-3 : tie.Need-returns-3
 returns-3 c =
