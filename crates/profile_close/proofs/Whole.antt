@@ -1,5 +1,5 @@
 -- What is followed, with the fates laid over, is what close finds.
-use Prim.Native.Nat.{ℕ, suc, _+_, _*_, _-_, min, _≤_, _<_}
+use Prim.Native.Nat.{ℕ, suc, _+_, _*_, _-_, _^_, min, _≤_, _<_}
 use mathlib.Core.Path.{_≡_, refl, ap, sym, _∙_, subst}
 use mathlib.Core.List.{List, [], _∷_, map}
 use native.Mathlib.Omega.{arith}
@@ -59,11 +59,11 @@ all-from (o ∷ os) = (omega arith, all-from os)
 
 -- figures of 32 bits
 pub record Words (t : Taken) : Type 0 where
-  pub capacity : t .unit .capacity < 4294967296
-  pub maximum : t .unit .maximum < 4294967296
-  pub level : t .start .level < 4294967296
-  pub target : t .start .target < 4294967296
-  pub ordered : t .start .ordered < 4294967296
+  pub capacity : t .unit .capacity < 2 ^ 32
+  pub maximum : t .unit .maximum < 2 ^ 32
+  pub level : t .start .level < 2 ^ 32
+  pub target : t .start .target < 2 ^ 32
+  pub ordered : t .start .ordered < 2 ^ 32
 
 module _ (t : Taken) (n : ℕ) (places : length (t .instructions) ≡ instructionPlaces) where
   abbrev end : ℕ
@@ -117,9 +117,9 @@ module _ (t : Taken) (n : ℕ) (places : length (t .instructions) ≡ instructio
   unfolding grains coursesFrom
   starts-low w =
       rw acts-are
-      (all-map (Below 4294967296) LowStart (λ c b. omega (arith, b .start)) courses
-      (courses-below u 4294967296 (omega (arith, w .capacity)) (omega (arith, w .maximum)) first acts
-      (start-below u 4294967296 (omega (arith, w .capacity)) (omega (arith, w .maximum)) (t .start) (omega (arith, w .level))
+      (all-map (Below (2 ^ 32)) LowStart (λ c b. omega (arith, b .start)) courses
+      (courses-below u (2 ^ 32) (omega (arith, w .capacity)) (omega (arith, w .maximum)) first acts
+      (start-below u (2 ^ 32) (omega (arith, w .capacity)) (omega (arith, w .maximum)) (t .start) (omega (arith, w .level))
       (omega (arith, w .target)) (omega (arith, w .ordered)))))
 
   pub acts-fit : n ≤ mostHalfHours → Words t → Followable u first (v .acts) (v .acting) n

@@ -79,8 +79,14 @@ ignored c = c .before .before .before
 abbrev sets : tie.After-note-piece2 Inv-loop μ-loop → tie.After-outcome-of Inv-loop μ-loop
 sets n = n .before .before .before .before .before
 
+abbrev column : tie.After-set-out2 Inv-loop μ-loop → tie.After-place-of Inv-loop μ-loop
+column c = c .before .before .before .before .before
+
+abbrev turned : tie.After-set-out2 Inv-loop μ-loop → tie.After-is-rising2 Inv-loop μ-loop
+turned c = column c .before
+
 abbrev new-begun : tie.After-set-out2 Inv-loop μ-loop → tie.After-begin-course Inv-loop μ-loop
-new-begun c = c .before .before .before .before .before .before .before .before
+new-begun c = turned c .before .before
 
 -- ---- at the loop's head
 abbrev unit : tie.At-loop Inv-loop μ-loop → UnitData
@@ -342,8 +348,8 @@ loop-again-2 c =
     let a = passed (e .before) in
     let k = here e in
     let f = k .loop .inv .progress in
-    let up = c .before .before .before .before .before .before .is-rising2 in
-    let col = c .before .before .before .before .before .place-of in
+    let up = turned c .is-rising2 in
+    let col = column c .place-of in
     record {
       within = omega (arith, one-left e);
       progress = progress-new (now-acting e) (fate-room e) (comes n)
