@@ -12,16 +12,15 @@ use Rattle.course.specs.declared.Course.{Course}
 use Rattle.course.specs.declared.Segment.{Segment}
 use Rattle.course.specs.Lists.{Lists}
 use Rattle.course.specs.Course.{Heading}
-use Rattle.course.specs.Headings.{Short}
 use Rattle.course_rates.specs.declared.OwnLists.{OwnLists}
 use Rattle.course_walk.specs.declared.Place.{Place}
 use Rattle.course_walk.specs.declared.Reached.{Reached}
 use Rattle.course_rates.specs.Ways.{headed, ownLists, listsBy}
-use Rattle.course_walk.specs.Walk.{Known, onward, standing, twiceTo}
+use Rattle.course_walk.specs.Walk.{Known, onward, twiceTo}
 use Rattle.course_walk.proofs.PieceStep.{PieceStep, onward-step, standing-on, standing-here}
 use Rattle.course_walk.proofs.Own.{own-onward}
 use Rattle.profile_areas.specs.Watching.{offBetween}
-use Rattle.profile_areas.specs.Passing.{Summed, summed, AddsOn, SumsFit, Noted, pieceFrom, Watching, CourseAhead, Passing}
+use Rattle.profile_areas.specs.Passing.{Summed, summed, Noted, pieceFrom, Watching, CourseAhead, PassProgress, Passing}
 use Rattle.profile_areas.proofs.Adding.{noted-none}
 use Rattle.profile_areas.proofs.Areas.{twice-none, stands-on, twice-through, piece-on}
 use Rattle.profile_areas.proofs.Watch.{watching-on}
@@ -36,20 +35,6 @@ step-there g = record {
   moment = g .moment;
   straight = g .straight;
 }
-
--- what has been passed on the way from a place towards the second n, up to where the course is reached: the sums a have become ys and
--- the total
-pub record PassProgress (l : OwnLists) (c : Course) (up : Bool) (from : Place) (before n : ℕ) (a : Summed) (ys : List ℕ) (at : Reached)
-    (off total : ℕ) : Type 0 where
-  pub adds : AddsOn (headed up) (listsBy l c) (grains (c .target)) from a (summed (at .place .second) ys total)
-  pub fits : SumsFit (summed (at .place .second) ys total)
-  pub known : Known (headed up) (listsBy l c) (grains (c .target)) at
-  pub later : from .second ≤ at .place .second
-  pub within : at .place .second ≤ n
-  pub short : Short (headed up) (grains (c .target)) (at .place .level)
-  pub low : at .place .level < levelBound
-  pub stands : at .place ≡ standing (headed up) (listsBy l c) (grains (c .target)) (at .place .second) from
-  pub watched : (u : UnitData) (b : ℕ) → l ≡ ownLists u c up → Watching u c b up from before → Watching u c b up (at .place) off
 
 -- the next piece of the course, from p to q
 pub record NextPiece (l : OwnLists) (c : Course) (up : Bool) (n : ℕ) (p q : Place) : Type 0 where
@@ -95,18 +80,11 @@ module _ {l : OwnLists} {c : Course} {up : Bool} {before n : ℕ} where
     -- n is reached
     pub progress-end : n ≤ p .second → Passing l c up from before n a ys (record { reached = at; ahead = p; off = off; later = off; total = total })
     progress-end le = record {
-      adds = s .adds;
-      fits = s .fits;
-      known = s .known;
-      later = s .later;
-      within = s .within;
-      short = s .short;
-      low = s .low;
-      stands = s .stands;
+      progress = s;
       runs = λ lt. absurd (omega arith);
       there = omega (arith, s .within);
       ahead-low = s .low;
-      watched = λ u b e w. (s .watched u b e w, s .watched u b e w);
+      watched = s .watched;
     }
 
     pub next-piece : {q : Place} → c .target < 2 ^ 32 → p .second < n → q ≡ onward h ls t n p → NextPiece l c up n p q
@@ -123,18 +101,11 @@ module _ {l : OwnLists} {c : Course} {up : Bool} {before n : ℕ} where
       pub progress-cut : n ≤ q .second →
           Passing l c up from before n a ys (record { reached = at; ahead = q; off = off; later = more; total = total })
       progress-cut le = record {
-        adds = s .adds;
-        fits = s .fits;
-        known = s .known;
-        later = s .later;
-        within = s .within;
-        short = s .short;
-        low = s .low;
-        stands = s .stands;
+        progress = s;
         runs = λ lt. x .is;
         there = omega (arith, x .step .within);
         ahead-low = x .low;
-        watched = λ u b k w. (s .watched u b k w, on-watch u b k w);
+        watched = on-watch;
       }
 
       -- it ends before n, and is added

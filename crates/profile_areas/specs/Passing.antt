@@ -123,19 +123,24 @@ pub record Watching (u : UnitData) (c : Course) (before : ℕ) (up : Bool) (p : 
   pub moment : momentOf p ≡ momentAt (trajectoryOf u c) (p .second - c .begin)
   pub off-is : off ≡ watch (trajectoryOf u c) before (p .second - c .begin) .off
 
--- what has come of going from a place with so many seconds off towards the second n, past every piece that ends before it: the
--- sums a have become ys and the total
+-- what has been passed on the way from a place towards the second n, up to where the course is reached: the sums a have become ys and
+-- the total
+pub record PassProgress (l : OwnLists) (c : Course) (up : Bool) (from : Place) (before n : ℕ) (a : Summed) (ys : List ℕ) (at : Reached)
+    (off total : ℕ) : Type 0 where
+  pub adds : AddsOn (headed up) (listsBy l c) (grains (c .target)) from a (summed (at .place .second) ys total)
+  pub fits : SumsFit (summed (at .place .second) ys total)
+  pub known : Known (headed up) (listsBy l c) (grains (c .target)) at
+  pub later : from .second ≤ at .place .second
+  pub within : at .place .second ≤ n
+  pub short : Short (headed up) (grains (c .target)) (at .place .level)
+  pub low : at .place .level < levelBound
+  pub stands : at .place ≡ standing (headed up) (listsBy l c) (grains (c .target)) (at .place .second) from
+  pub watched : (u : UnitData) (b : ℕ) → l ≡ ownLists u c up → Watching u c b up from before → Watching u c b up (at .place) off
+
+-- what has come of going on past every piece that ends before the second n, with the place at n
 pub record Passing (l : OwnLists) (c : Course) (up : Bool) (from : Place) (before n : ℕ) (a : Summed) (ys : List ℕ) (r : Passed) : Type 0 where
-  pub adds : AddsOn (headed up) (listsBy l c) (grains (c .target)) from a (summed (r .reached .place .second) ys (r .total))
-  pub fits : SumsFit (summed (r .reached .place .second) ys (r .total))
-  pub known : Known (headed up) (listsBy l c) (grains (c .target)) (r .reached)
-  pub later : from .second ≤ r .reached .place .second
-  pub within : r .reached .place .second ≤ n
-  pub short : Short (headed up) (grains (c .target)) (r .reached .place .level)
-  pub low : r .reached .place .level < levelBound
-  pub stands : r .reached .place ≡ standing (headed up) (listsBy l c) (grains (c .target)) (r .reached .place .second) from
+  pub progress : PassProgress l c up from before n a ys (r .reached) (r .off) (r .total)
   pub runs : r .reached .place .second < n → r .ahead ≡ onward (headed up) (listsBy l c) (grains (c .target)) n (r .reached .place)
   pub there : r .ahead .second ≡ n
   pub ahead-low : r .ahead .level < levelBound
-  pub watched : (u : UnitData) (b : ℕ) → l ≡ ownLists u c up → Watching u c b up from before →
-      Watching u c b up (r .reached .place) (r .off) × Watching u c b up (r .ahead) (r .later)
+  pub watched : (u : UnitData) (b : ℕ) → l ≡ ownLists u c up → Watching u c b up from before → Watching u c b up (r .ahead) (r .later)

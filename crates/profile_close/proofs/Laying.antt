@@ -31,44 +31,25 @@ use Rattle.profile_close.specs.Laying.{overFate, overAll, overlaid, over
 
 -- ---- one fate, case by case
 module _ (fates : List ℕ) (count number fate : ℕ) where
-  over-none : number ≡ 0 → fates ≡ overFate fates count number fate
+  pub over-none : number ≡ 0 → fates ≡ overFate fates count number fate
   unfolding overFate
   over-none z = simp (eq-eqb number 0 z)
 
-  over-out : (number ≡ 0 → ⊥) → count ≤ number - 1 → fates ≡ overFate fates count number fate
+  pub over-out : (number ≡ 0 → ⊥) → count ≤ number - 1 → fates ≡ overFate fates count number fate
   unfolding overFate
   over-out z h = simp (ne-eqb number 0 z, le-leb count (number - 1) h)
 
-  over-one : (number ≡ 0 → ⊥) → number - 1 < count → getD fates (number - 1) 0 ≡ 1 → fates ≡ overFate fates count number fate
+  pub over-one : (number ≡ 0 → ⊥) → number - 1 < count → getD fates (number - 1) 0 ≡ 1 → fates ≡ overFate fates count number fate
   unfolding overFate
   over-one z h e = simp (ne-eqb number 0 z, lt-leb count (number - 1) h, eq-eqb (getD fates (number - 1) 0) 1 e)
 
-  over-set : (number ≡ 0 → ⊥) → number - 1 < count → (getD fates (number - 1) 0 ≡ 1 → ⊥) →
+  pub over-set : (number ≡ 0 → ⊥) → number - 1 < count → (getD fates (number - 1) 0 ≡ 1 → ⊥) →
       set fates (number - 1) fate ≡ overFate fates count number fate
   unfolding overFate
   over-set z h e = simp (ne-eqb number 0 z, lt-leb count (number - 1) h, ne-eqb (getD fates (number - 1) 0) 1 e)
 
--- the same, of the fates with their count
-module _ (s : Fates) (number fate : ℕ) where
-  abbrev with : List ℕ → Fates
-  with fates = record { count = s .count; fates = fates }
-
-  pub overlaid-none : number ≡ 0 → s ≡ overlaid s number fate
-  unfolding overlaid
-  overlaid-none z = ap with (over-none (s .fates) (s .count) number fate z)
-
-  pub overlaid-out : (number ≡ 0 → ⊥) → s .count ≤ number - 1 → s ≡ overlaid s number fate
-  unfolding overlaid
-  overlaid-out z h = ap with (over-out (s .fates) (s .count) number fate z h)
-
-  pub overlaid-one : (number ≡ 0 → ⊥) → number - 1 < s .count → getD (s .fates) (number - 1) 0 ≡ 1 → s ≡ overlaid s number fate
-  unfolding overlaid
-  overlaid-one z h e = ap with (over-one (s .fates) (s .count) number fate z h e)
-
-  pub overlaid-set : (number ≡ 0 → ⊥) → number - 1 < s .count → (getD (s .fates) (number - 1) 0 ≡ 1 → ⊥) →
-      with (set (s .fates) (number - 1) fate) ≡ overlaid s number fate
-  unfolding overlaid
-  overlaid-set z h e = ap with (over-set (s .fates) (s .count) number fate z h e)
+abbrev pub counted : ℕ → List ℕ → Fates
+counted count fates = record { count = count; fates = fates }
 
 -- the loop from the last to the first
 module _ (acts : List Numbered) (own : List ℕ) (n : ℕ) where

@@ -132,23 +132,25 @@ module _ {u : UnitData} {end : ℕ} {first : UnderWay} {all left : List Numbered
       Passing l (w .now .course) (g .up) (g .reached .place) (g .off) next (sumsAt g ys) zs s →
       FollowProgress u end first all left w (wentTo (g .up) s) l zs
   unfolding sumAfter
-  progress-pass {s} {zs} p = record {
-    walked = f .walked;
-    few = f .few;
-    on = record { lists = f .on .lists; watching = p .watched u (w .now .off) (f .on .lists) (f .on .watching) .0; known = p .known; low = p .low };
-    ordered = ordered-less end (s .reached .place .second) next left (p .within) (order .ordered);
-    starts = f .starts;
-    sums = λ j h.
-        omega (
-          arith,
-          f .sums j h,
-          p .adds j h,
-          twice-through (headed (g .up)) (listsBy l (w .now .course)) (grains (w .now .course .target)) (g .reached .place) (s .reached .place)
-              (p .stands) (p .later) (endOf u end (w .now) left) (halfHour * j)
-              (omega (arith, p .within, end-after u end (w .now) left next (order .ordered))),
-        );
-    fits = p .fits;
-  }
+  progress-pass {s} {zs} passing =
+      let p = passing .progress in
+      record {
+        walked = f .walked;
+        few = f .few;
+        on = record { lists = f .on .lists; watching = p .watched u (w .now .off) (f .on .lists) (f .on .watching); known = p .known; low = p .low };
+        ordered = ordered-less end (s .reached .place .second) next left (p .within) (order .ordered);
+        starts = f .starts;
+        sums = λ j h.
+            omega (
+              arith,
+              f .sums j h,
+              p .adds j h,
+              twice-through (headed (g .up)) (listsBy l (w .now .course)) (grains (w .now .course .target)) (g .reached .place) (s .reached .place)
+                  (p .stands) (p .later) (endOf u end (w .now) left) (halfHour * j)
+                  (omega (arith, p .within, end-after u end (w .now) left next (order .ordered))),
+            );
+        fits = p .fits;
+      }
 
 -- ---- an instruction acts
 module _ {u : UnitData} {end : ℕ} {first : UnderWay} {all : List Numbered} {act : Numbered} {left : List Numbered} {w : Walk} {g : OnCourse}

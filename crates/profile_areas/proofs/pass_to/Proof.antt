@@ -1,8 +1,8 @@
 use Prim.Native.Nat.{_-_, _^_, _<_}
 use native.Mathlib.Omega.{arith}
-use Rattle.profile_areas.specs.Passing.{summed}
+use Rattle.profile_areas.specs.Passing.{summed, PassProgress}
 use Rattle.profile_areas.proofs.Areas.{step-straight}
-use Rattle.profile_areas.proofs.Pass.{PassProgress, NextPiece, progress-start, progress-end, next-piece, progress-cut, progress-more}
+use Rattle.profile_areas.proofs.Pass.{NextPiece, progress-start, progress-end, next-piece, progress-cut, progress-more}
 use Rattle.profile_areas.proofs.pass_to.Statement.{statement}
 use Rattle.profile_areas.proofs.pass_to.Tie as tie
 

@@ -220,13 +220,13 @@ piece-ahead : (a : tie.After-pass-to Inv-loop μ-loop) →
     let r = a .pass-to .result in
     PieceAhead (headed (head a .loop .g .up)) (r .reached .place) (r .ahead) (sumsAt (on-course a) (a .pass-to .last .0))
 piece-ahead a =
-    let p = past a in
+    let p = past a .progress in
     record {
       straight = λ lt. step-straight (last-step (cut-at a) (p .short) lt);
-      later = omega (arith, p .within, p .there);
-      within = omega (arith, p .there, within (head a));
+      later = omega (arith, p .within, past a .there);
+      within = omega (arith, past a .there, within (head a));
       low = p .low;
-      low-too = p .ahead-low;
+      low-too = past a .ahead-low;
       fits = p .fits;
     }
 
@@ -238,7 +238,7 @@ state-is b =
     let f = k .loop .inv .progress in
     b .state-at .ensures
     ∙ watching-at (unit k) (now k) (k .loop .g .up) (a .pass-to .result .ahead) (a .pass-to .result .later) (goal k)
-    (past a .watched (unit k) (now k .off) (f .on .lists) (f .on .watching) .1) (past a .there)
+    (past a .watched (unit k) (now k .off) (f .on .lists) (f .on .watching)) (past a .there)
 
 -- ---- the day's end
 end-day-requires : tie.Need-end-day-requires Inv-loop μ-loop
