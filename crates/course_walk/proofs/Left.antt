@@ -99,8 +99,7 @@ pieces-none h n a v (s ∷ ls) p =
       no-piece a (a + full) v near (omega arith),
       no-piece (a + full) reached near stop (omega arith),
       no-piece reached held stop stop (omega arith),
-    )
-    (pieces-none h n held stop ls (omega arith))
+    ) (pieces-none h n held stop ls (omega arith))
 
 -- the whole seconds that a way takes
 module _ (s : Segment) (some : 1 ≤ s .rate) where
@@ -145,8 +144,7 @@ module _ (h : Heading) (n a v : ℕ) (s : Segment) (ls : List Segment) (some : 1
       let e : near ≡ v = ap (λ (k : ℕ). toward h v (k * s .rate)) f ∙ ap (toward h v) {x = 0 * s .rate} {y = 0} (omega arith) ∙ toward-zero h v in
       let r : reached ≡ a + 1 = omega arith in
       let d : held ≡ min (a + 1 + s .hold) n = omega arith in
-      rw (no-piece a (a + full) v near (omega arith), r, d)
-      (ap (λ (ps : List Piece). ps ++ hold-on h n (a + 1) (s .hold) stop ls)
+      rw (no-piece a (a + full) v near (omega arith), r, d) (ap (λ (ps : List Piece). ps ++ hold-on h n (a + 1) (s .hold) stop ls)
       (some-piece (a + full) (a + 1) near stop (omega arith) ∙ (λ i. record { from = (omega-eq f) i; to = a + 1; enter = e i; leave = stop } ∷ [])))
     where
       omega-eq : {f : ℕ} → f ≡ 0 → a + f ≡ a
@@ -202,9 +200,7 @@ module _ (h : Heading) (n a v : ℕ) (s : Segment) (ls : List Segment) (some : 1
       let r : reached ≡ a + f + 1 = omega arith in
       let d : held ≡ min (a + f + 1 + s .hold) n = omega arith in
       let e : toward h near (rest .way) ≡ end = toward-add h v (f * s .rate) (rest .way) ∙ ap (toward h v) (omega arith) in
-      run-then
-      ∙ (rw (r, d, some-piece (a + f) (a + f + 1) near end (omega arith))
-      (ap (λ (ps : List Piece). run ∷ ps)
+      run-then ∙ (rw (r, d, some-piece (a + f) (a + f + 1) near end (omega arith)) (ap (λ (ps : List Piece). run ∷ ps)
       (ap (λ (w : ℕ). record { from = a + f; to = a + f + 1; enter = near; leave = w } ∷ hold-on h n (a + f + 1) (s .hold) w ls) (sym e)
       ∙ sym (short-pieces h n (a + f) near rest ls some p (omega arith) (omega arith)))))
 
@@ -238,8 +234,7 @@ module _ (h : Heading) (l : Lists) (t n : ℕ) where
 
     rest-first : p .left ≤ 0 → segmentsFrom h l t (p .level) ≡ [] → First (afterRest n p)
     unfolding pieceBetween afterRest piecesOf
-    rest-first z e =
-        no-hold p (omega arith) z
+    rest-first z e = no-hold p (omega arith) z
         ∙ rw (e, some-piece (p .second) n (p .level) (p .level) before, left-none (afterRest n p) (omega arith)) refl
 
     -- along the segment to the next stop
@@ -272,16 +267,14 @@ module _ (h : Heading) (l : Lists) (t n : ℕ) where
 
         whole-first : f * rateAt h l v ≡ gap v next → First there
         unfolding piecesLeft pieceBetween afterRun segmentFrom segmentTo
-        whole-first e =
-            begun ∙ whole-pieces h n (p .second) v seg (segmentsFrom h l t next) some before f is one e
+        whole-first e = begun ∙ whole-pieces h n (p .second) v seg (segmentsFrom h l t next) some before f is one e
             ∙ (rw (eq-eqb (f * rateAt h l v) (gap v next) e)
             (ap (λ (w : ℕ). pieceBetween p there ∷ hold-on h n (p .second + f) (seg .hold) (toward h v (f * rateAt h l v)) (segmentsFrom h l t w))
             (sym (ap (toward h v) e ∙ to-next))))
 
         cut-first : p .second + f ≡ n → First there
         unfolding pieceBetween afterRun segmentFrom segmentTo
-        cut-first e =
-            begun ∙ cut-pieces h n (p .second) v seg (segmentsFrom h l t next) some before f is one e
+        cut-first e = begun ∙ cut-pieces h n (p .second) v seg (segmentsFrom h l t next) some before f is one e
             ∙ ap (λ (ps : List Piece). pieceBetween p there ∷ ps) (sym (left-none there (omega arith)))
 
         part-first : p .second + f < n → f * rateAt h l v < gap v next → First there

@@ -64,8 +64,7 @@ module _ (h : Heading) (l : Lists) (t n : ℕ) (p : Place) (before : p .second <
   module _ (r f : ℕ) (q : Place) where
     straight-step : 1 ≤ f → q .second ≡ p .second + f → q .second ≤ n → Short h t (q .level) → after h l t f (momentOf p) ≡ momentOf q →
         q .level ≡ toward h (p .level) (f * r) → Room h (p .level)
-        (f * r) → ((i : ℕ) → i ≤ f → after h l t i (momentOf p) .level ≡ toward h (p .level) (i * r)) →
-        PieceStep h l t n p q
+        (f * r) → ((i : ℕ) → i ≤ f → after h l t i (momentOf p) .level ≡ toward h (p .level) (i * r)) → PieceStep h l t n p q
     straight-step some to le sh m e room g =
         let x : ℕ = p .second in
         let y : ℕ = q .second in
@@ -76,12 +75,11 @@ module _ (h : Heading) (l : Lists) (t n : ℕ) (p : Place) (before : p .second <
           short = sh;
           low = toward-low h t (p .level) (f * r) (q .level) sh e;
           moment = ap (λ (k : ℕ). after h l t k (momentOf p)) w ∙ m;
-          straight = line h levels (p .level) x y 0 (f * r) r (p .level) (q .level) (omega arith) (sym (toward-zero h (p .level))) e room
-              (λ z. (
-                ap (λ (k : ℕ). k * r) (sym w) ∙ omega arith,
-                λ i k. ap (λ (j : ℕ). after h l t j (momentOf p) .level) {x = x + i - x} {y = i} (omega arith) ∙ g i (omega arith)
-                    ∙ ap (toward h (p .level)) {x = i * r} {y = 0 + i * r} (omega arith),
-              ));
+          straight = line h levels (p .level) x y 0 (f * r) r (p .level) (q .level) (omega arith) (sym (toward-zero h (p .level))) e room (λ z. (
+            ap (λ (k : ℕ). k * r) (sym w) ∙ omega arith,
+            λ i k. ap (λ (j : ℕ). after h l t j (momentOf p) .level) {x = x + i - x} {y = i} (omega arith) ∙ g i (omega arith)
+                ∙ ap (toward h (p .level)) {x = i * r} {y = 0 + i * r} (omega arith),
+          ));
         }
 
   still : (f i v : ℕ) → v ≡ toward h v (i * 0)
@@ -102,8 +100,7 @@ module _ (h : Heading) (l : Lists) (t n : ℕ) (p : Place) (before : p .second <
   rest-step sh g =
       let f : ℕ = n - p .second in
       straight-step 0 f (afterRest n p) (omega arith) (omega arith) (omega arith) sh (g f) (still f f (p .level))
-      (room-less h (p .level) (f * 0) 0 (omega arith) (room-none h (p .level)))
-      (λ i k. ap (λ (m : Moment). m .level) (g i) ∙ still f i (p .level))
+      (room-less h (p .level) (f * 0) 0 (omega arith) (room-none h (p .level))) (λ i k. ap (λ (m : Moment). m .level) (g i) ∙ still f i (p .level))
 
   left : (1 ≤ p .left → ⊥) → p .left ≡ 0
   left none = omega arith
@@ -143,8 +140,7 @@ module _ (h : Heading) (l : Lists) (t n : ℕ) (p : Place) (before : p .second <
         let e : after h l t 1 (momentOf p) ≡ at (toward h v way) (holdAt h l t stop) =
         ap (after h l t 1) begins ∙ stops h l t v ahead some (omega arith) ∙ ap (λ (w : ℕ). at w (holdAt h l t stop)) (sym to-stop) in
         straight-step way 1 (afterShort h p (segmentFrom h l t v)) (omega arith) refl (omega arith) (short-of way (omega arith)) e
-        (ap (toward h v) (omega arith)) (room (1 * way) (omega arith))
-        (λ i le. elim (ℕ-discrete i 0) [
+        (ap (toward h v) (omega arith)) (room (1 * way) (omega arith)) (λ i le. elim (ℕ-discrete i 0) [
           | yes z ↦
               ap (λ (k : ℕ). after h l t k (momentOf p) .level) z ∙ ap (λ (m : Moment). m .level) (after-zero h l t (momentOf p))
               ∙ sym (ap (toward h v) {x = i * way} {y = 0} (omega (arith, ap (λ (k : ℕ). k * way) z)) ∙ toward-zero h v)
@@ -160,8 +156,7 @@ module _ (h : Heading) (l : Lists) (t n : ℕ) (p : Place) (before : p .second <
         let f : ℕ = min (way / rate) (n - p .second) in
         let fw : f * rate ≤ way = full-way way rate f (omega arith) in
         straight-step rate f (afterRun h f p (segmentFrom h l t v)) (omega (arith, full-some way rate some le)) refl (omega arith)
-        (short-of (f * rate) fw)
-        (ap (after h l t f) begins ∙ runs h l t v ahead some f fw) refl (room (f * rate) fw)
+        (short-of (f * rate) fw) (ap (after h l t f) begins ∙ runs h l t v ahead some f fw) refl (room (f * rate) fw)
         (λ i k. ap (λ (m : Moment). after h l t i m .level) begins
         ∙ ap (λ (m : Moment). m .level) (runs h l t v ahead some i (omega (arith, fw, mul-le-mul-right rate k))))
 

@@ -49,8 +49,7 @@ module _ {b s n t : ℕ} {xs : List ℕ} (i : InHalf b s n) (fits : SumsFit (sum
   adds-on : (g : ℕ → ℕ) (a : Summed) → g s + v ≡ g n → Adds g a (summed s xs t) → Adds g a next
   adds-on g a e h j k = elim (decLe (b + 1) j) [
     | yes le ↦
-        let old : t ≡ notedTo a j + g s =
-        omega (arith, noted-total (summed s xs t) j (omega (arith, i .on, i .ends))) ∙ h j k
+        let old : t ≡ notedTo a j + g s = omega (arith, noted-total (summed s xs t) j (omega (arith, i .on, i .ends))) ∙ h j k
         ∙ ap (λ (i : ℕ). notedTo a j + g i) {x = min s (halfHour * j)} {y = s} (omega (arith, i .on, i .ends)) in
         ahead j le ∙ omega (arith, old, e) ∙ ap (λ (i : ℕ). notedTo a j + g i) {x = n} {y = min n (halfHour * j)} (omega (arith, i .ends))
     | no lt ↦

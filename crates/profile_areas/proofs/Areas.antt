@@ -28,8 +28,7 @@ module _ (h : Heading) (l : Lists) (t : ℕ) (p : Place) where
     unfolding standing
     standing-twice =
         let x : ℕ = k - p .second in
-        ap (λ (m : Moment). record { second = n; level = m .level; left = m .left })
-        (sym (after-add h l t x (n - k) (momentOf p))
+        ap (λ (m : Moment). record { second = n; level = m .level; left = m .left }) (sym (after-add h l t x (n - k) (momentOf p))
         ∙ ap (λ (j : ℕ). after h l t j (momentOf p)) {x = x + (n - k)} {y = n - p .second} (omega arith))
 
     pub twice-split : twiceTo h l t k p + twiceTo h l t n (standing h l t k p) ≡ twiceTo h l t n p
@@ -37,8 +36,7 @@ module _ (h : Heading) (l : Lists) (t : ℕ) (p : Place) where
     twice-split =
         let d : ℕ = k - p .second in
         let e : ℕ = n - k in
-        sym (ap (area (path p) 0) {x = n - p .second} {y = d + e} (omega arith)
-        ∙ area-split (path p) 0 d e
+        sym (ap (area (path p) 0) {x = n - p .second} {y = d + e} (omega arith) ∙ area-split (path p) 0 d e
         ∙ ap (λ (i : ℕ). area (path p) 0 d + area (path p) i e) {x = 0 + d} {y = d} (omega arith)
         ∙ ap (λ (i : ℕ). area (path p) 0 d + i) (area-from (path p) d e
         ∙ area-same (λ j. path p (d + j)) (path (standing h l t k p)) (λ j. ap (λ (m : Moment). m .level) (after-add h l t d j (momentOf p))) 0 e))
@@ -51,8 +49,7 @@ module _ (h : Heading) (l : Lists) (t : ℕ) (p : Place) where
     second-on = ap (λ (r : Place). r .second) e
 
     pub stands-on : q ≡ standing h l t (q .second) p
-    stands-on =
-        e ∙ ap (standing h l t n) there ∙ standing-twice (a .second) n from on ∙ ap (λ (i : ℕ). standing h l t i p) (sym second-on)
+    stands-on = e ∙ ap (standing h l t n) there ∙ standing-twice (a .second) n from on ∙ ap (λ (i : ℕ). standing h l t i p) (sym second-on)
 
   -- nothing before p
   pub twice-none : (i : ℕ) → i ≤ p .second → twiceTo h l t i p ≡ 0
@@ -89,8 +86,7 @@ module _ {h : Heading} {l : Lists} {t n : ℕ} {p q : Place} (g : PieceStep h l 
         sym (sym (area-from levels (p .second) i ∙ area-same (λ j. levels (p .second + j)) (path h l t p p)
         (λ j. ap (path h l t p p) {x = p .second + j - p .second} {y = j} (omega arith)) 0 i)
         ∙ piece-cut levels (record { from = p .second; to = q .second; enter = p .level; leave = q .level }) (p .second) s (omega arith) lo hi h
-        (step-line g)
-        ∙ ap (λ (v : ℕ). i * (v + levels s)) begins ∙ ap (λ (v : ℕ). i * (p .level + v)) (line-there s lo hi))
+        (step-line g) ∙ ap (λ (v : ℕ). i * (v + levels s)) begins ∙ ap (λ (v : ℕ). i * (p .level + v)) (line-there s lo hi))
     | no lt ↦ line-none h (p .level) (pieceRate p q) (s - p .second) (omega arith) ∙ sym (twice-here h l t s p (omega arith))
   ]
 
@@ -98,8 +94,7 @@ module _ {h : Heading} {l : Lists} {t n : ℕ} {p q : Place} (g : PieceStep h l 
 pub piece-on : (h : Heading) (l : Lists) (t n : ℕ) (p q : Place) {a : Summed} {ys : List ℕ} {total : ℕ} →
     (p .second < q .second → PieceStep h l t n p q) → p .second ≤ q .second → Noted (pieceFrom h p q) a (summed (q .second) ys total) →
     AddsOn h l t p a (summed (q .second) ys total)
-piece-on h l t n p q {a} {ys} {total} go le noted =
-    adds-same (pieceFrom h p q) (λ (i : ℕ). twiceTo h l t i p) a (summed (q .second) ys total)
+piece-on h l t n p q {a} {ys} {total} go le noted = adds-same (pieceFrom h p q) (λ (i : ℕ). twiceTo h l t i p) a (summed (q .second) ys total)
     (λ i k. elim (decLe (q .second) (p .second)) [
       | yes same ↦ line-none h (p .level) (pieceRate p q) (i - p .second) (omega arith) ∙ sym (twice-here h l t i p (omega arith))
       | no lt ↦ line-area (go (omega arith)) i (omega arith)

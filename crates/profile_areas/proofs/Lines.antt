@@ -58,8 +58,7 @@ module _ (v r k m d : ℕ) (le : k + m ≤ d) where
       lineTwice h v r k + m * (toward h v (k * r) + toward h v ((k + m) * r)) ≡ lineTwice h v r (k + m)
   unfolding lineTwice toward
   line-more rising s = rise-more v r k m
-  line-more falling s =
-      fall-more v (v - (k + m) * r) (v - k * r) (v - (k + m) * r) r k m (omega (arith, less, s .0)) (omega (arith, less, s .0)) refl
+  line-more falling s = fall-more v (v - (k + m) * r) (v - k * r) (v - (k + m) * r) r k m (omega (arith, less, s .0)) (omega (arith, less, s .0)) refl
 
 -- ---- along a line, half-hour by half-hour
 
@@ -137,10 +136,8 @@ module _ {h : Heading} {level rate from to : ℕ} where
         }
 
     adds-up : lineFrom h level rate from at + m * (v + w) ≡ lineFrom h level rate from n
-    adds-up =
-        ap (λ (y : ℕ). lineTwice h level rate k + m * (y + w)) (l .there)
-        ∙ ap (λ (y : ℕ). lineTwice h level rate k + m * (toward h level (k * rate) + y)) moves
-        ∙ line-more level rate k m d on-line h (p .low)
+    adds-up = ap (λ (y : ℕ). lineTwice h level rate k + m * (y + w)) (l .there)
+        ∙ ap (λ (y : ℕ). lineTwice h level rate k + m * (toward h level (k * rate) + y)) moves ∙ line-more level rate k m d on-line h (p .low)
         ∙ ap (lineTwice h level rate) {x = k + m} {y = n - from} (omega (arith, half-step .on, l .after))
 
     pub line-further : AlongLine h level rate from to a (set xs (b + 1) (t + m * (v + w))) (b + 1) (x + halfHour) n w (t + m * (v + w))
@@ -171,8 +168,7 @@ stays rising v m w a lv lw = omega arith
 stays falling v m w a lv lw = omega arith
 
 pub straight-rate : {h : Heading} {p q : Place} → p .second < q .second → (s : Straight h p q) → pieceRate p q ≡ s .rate
-straight-rate {h} {p} {q} lt s =
-    div-eq-of-eq-mul-right (omega arith) (way-is h (p .level) ((q .second - p .second) * s .rate) (q .level) (s .along))
+straight-rate {h} {p} {q} lt s = div-eq-of-eq-mul-right (omega arith) (way-is h (p .level) ((q .second - p .second) * s .rate) (q .level) (s .along))
 
 module _ {h : Heading} {p q : Place} {xs : List ℕ} {t : ℕ} (a : PieceAhead h p q (summed (p .second) xs t)) (lt : p .second < q .second) where
   abbrev time : ℕ
@@ -206,11 +202,9 @@ module _ {h : Heading} {p q : Place} {xs : List ℕ} {t : ℕ} (a : PieceAhead h
 
     whole : lineFrom h (p .level) rate (p .second) (p .second) + more ≡ lineFrom h (p .level) rate (p .second) (q .second)
     unfolding lineTwice
-    whole =
-        ap (λ (v : ℕ). v + more) (line-none h (p .level) rate (p .second - p .second) (omega arith)) ∙ omega arith
+    whole = ap (λ (v : ℕ). v + more) (line-none h (p .level) rate (p .second - p .second) (omega arith)) ∙ omega arith
         ∙ ap (λ (v : ℕ). time * (p .level + v)) (along-toward h (p .level) (time * rate) (q .level) along)
 
     pub piece-noted : Noted (pieceFrom h p q) (summed (p .second) xs t) (summed (q .second) (set xs (half + 1) (t + more)) (t + more))
-    piece-noted =
-        noted-on one-half (a .fits) more (pieceFrom h p q) whole more-low
+    piece-noted = noted-on one-half (a .fits) more (pieceFrom h p q) whole more-low
         (noted-none (pieceFrom h p q) (λ i le. line-none h (p .level) rate (i - p .second) (omega arith)) (a .fits) .adds)

@@ -37,12 +37,9 @@ module _ {h : Heading} {l : Lists} {t n : ℕ} {p q : Place} (a : ℕ) (begun : 
   own-line : Line h own (record { from = p .second - a; to = q .second - a; enter = p .level; leave = q .level })
   own-line = record {
     rate = step-line g .rate;
-    along =
-        λ i le. rw (ap (λ (k : ℕ). after h l t k (momentOf p) .level) {x = p .second + i - p .second} {y = p .second - a + i - (p .second - a)}
-        (omega arith))
-        at (step-line g .along i (omega (arith, g .later)));
-    ends =
-        step-line g .ends ∙ ap (λ (k : ℕ). after h l t k (momentOf p) .level) {x = q .second - p .second} {y = q .second - a - (p .second - a)}
+    along = λ i le. rw (ap (λ (k : ℕ). after h l t k (momentOf p) .level) {x = p .second + i - p .second} {y = p .second - a + i - (p .second - a)}
+        (omega arith)) at (step-line g .along i (omega (arith, g .later)));
+    ends = step-line g .ends ∙ ap (λ (k : ℕ). after h l t k (momentOf p) .level) {x = q .second - p .second} {y = q .second - a - (p .second - a)}
         (omega (arith, g .later));
   }
 
@@ -53,8 +50,7 @@ module _ {h : Heading} {l : Lists} {t n : ℕ} {p q : Place} (a : ℕ) (begun : 
     within = omega (arith, g .within);
     short = g .short;
     low = g .low;
-    moment =
-        ap (λ (k : ℕ). after h l t k (momentOf p)) {x = q .second - a - (p .second - a)} {y = q .second - p .second} (omega (arith, g .later))
+    moment = ap (λ (k : ℕ). after h l t k (momentOf p)) {x = q .second - a - (p .second - a)} {y = q .second - p .second} (omega (arith, g .later))
         ∙ g .moment;
     straight = rw (lt-ltb (p .second - a) (q .second - a) (omega (arith, g .later))) (refl, omega (arith, g .later), own-line, refl);
   }
@@ -90,8 +86,7 @@ module _ (u : UnitData) (c : Course) (before : ℕ) (up : Bool) where
         PieceStep (heading (trajectoryOf u c)) (trajectoryOf u c .lists) (trajectoryOf u c .target) (n - c .begin) (back (c .begin) p)
         (back (c .begin) q)
     unfolding trajectoryOf
-    turned q e =
-        rw (heading-is u c up (w .rises)) (step-back (c .begin) (w .begun) (rw e watching-step))
+    turned q e = rw (heading-is u c up (w .rises)) (step-back (c .begin) (w .begun) (rw e watching-step))
 
     pub watching-on : (q : Place) (o : ℕ) → q ≡ onward (headed up) (listsIn u c) (grains (c .target)) n p → o ≡ offBetween p q off →
         Watching u c before up q o
@@ -103,15 +98,13 @@ module _ (u : UnitData) (c : Course) (before : ℕ) (up : Bool) where
           begun = omega (arith, w .begun, g .later);
           short = g .short;
           moment = moment-on (trajectoryOf u c) before (n - a) (back a p) (back a q) (w .moment) (turned q e);
-          off-is =
-              f ∙ between-back a p q off (w .begun) (g .later) ∙ ap (offBetween (back a p) (back a q)) (w .off-is)
+          off-is = f ∙ between-back a p q off (w .begun) (g .later) ∙ ap (offBetween (back a p) (back a q)) (w .off-is)
               ∙ sym (off-on (trajectoryOf u c) before (n - a) (back a p) (back a q) (w .moment) (turned q e));
         }
 
   pub watching-state : (p : Place) (off : ℕ) → Watching u c before up p off →
       (record { level = p .level; off = off }) ≡ byRule (trajectoryOf u c) before (p .second - c .begin)
-  watching-state p off w =
-      (λ i. record { level = p .level; off = (w .off-is) i })
+  watching-state p off w = (λ i. record { level = p .level; off = (w .off-is) i })
       ∙ state-there (trajectoryOf u c) before (back (c .begin) p) (p .second - c .begin) refl (w .moment)
 
 -- the state at the second t, of the course under way

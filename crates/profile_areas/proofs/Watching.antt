@@ -57,8 +57,7 @@ module _ (c : Trajectory) (off : ℕ) where
   off-while : (a d : ℕ) → ((i : ℕ) → i ≤ d → levelAt c (a + i) ≡ 0) → watch c off (a + d) .off ≡ held (watch c off a .off + d)
   unfolding held
   off-while a zero z = ap (λ (k : ℕ). watch c off k .off) {x = a + 0} {y = a} (omega arith) ∙ omega (arith, off-low a)
-  off-while a (suc d) z =
-      ap (λ (k : ℕ). watch c off k .off) {x = a + suc d} {y = suc (a + d)} (omega arith)
+  off-while a (suc d) z = ap (λ (k : ℕ). watch c off k .off) {x = a + suc d} {y = suc (a + d)} (omega arith)
       ∙ off-more c off (a + d) (z d (omega arith)) (ap (levelAt c) {x = suc (a + d)} {y = a + suc d} (omega arith) ∙ z (suc d) (omega arith))
       ∙ omega (arith, off-while a d (λ i h. z i (omega arith)))
 
@@ -66,8 +65,7 @@ module _ (c : Trajectory) (off : ℕ) where
   module _ (n : ℕ) (p q : Place) (e : momentOf p ≡ momentAt c (p .second)) (g : PieceStep (heading c) (c .lists) (c .target) n p q) where
     pub moment-on : momentOf q ≡ momentAt c (q .second)
     unfolding momentAt
-    moment-on =
-        sym (g .moment) ∙ ap (after (heading c) (c .lists) (c .target) (q .second - p .second)) e
+    moment-on = sym (g .moment) ∙ ap (after (heading c) (c .lists) (c .target) (q .second - p .second)) e
         ∙ sym (after-add (heading c) (c .lists) (c .target) (p .second) (q .second - p .second) (record { level = c .start; left = 0 }))
         ∙ ap (momentAt c) {x = p .second + (q .second - p .second)} {y = q .second} (omega (arith, g .later))
 
@@ -79,8 +77,7 @@ module _ (c : Trajectory) (off : ℕ) where
 
     on-path : (i : ℕ) → path (p .second + i) ≡ levelAt c (p .second + i)
     unfolding levelAt momentAt
-    on-path i =
-        ap (λ (k : ℕ). after (heading c) (c .lists) (c .target) k (momentOf p) .level) {x = p .second + i - p .second} {y = i} (omega arith)
+    on-path i = ap (λ (k : ℕ). after (heading c) (c .lists) (c .target) k (momentOf p) .level) {x = p .second + i - p .second} {y = i} (omega arith)
         ∙ ap (λ (m : Moment). after (heading c) (c .lists) (c .target) i m .level) e
         ∙ sym (ap (λ (m : Moment). m .level) (after-add (heading c) (c .lists) (c .target) (p .second) i (record { level = c .start; left = 0 })))
 
@@ -111,12 +108,10 @@ module _ (c : Trajectory) (off : ℕ) where
                 ap (λ (k : ℕ). watch c off k .off) last
                 ∙ off-new c off (a + b) (sinks (heading c) b (straight .rate) (p .level) (levelAt c (a + b)) (q .level) np zq
                 (line-at b (omega (arith, g .later)))
-                (ap-along (heading c) (p .level) (straight .rate) (q .level) d (suc b) (omega (arith, g .later)) end))
-                ∙ sym (simp (ne-eqb _ _ np))
+                (ap-along (heading c) (p .level) (straight .rate) (q .level) d (suc b) (omega (arith, g .later)) end)) ∙ sym (simp (ne-eqb _ _ np))
           ]
           | no nq ↦
-              ap (λ (k : ℕ). watch c off k .off) last
-              ∙ off-none c off (a + b) (λ z. nq (here ∙ ap (levelAt c) last ∙ z))
+              ap (λ (k : ℕ). watch c off k .off) last ∙ off-none c off (a + b) (λ z. nq (here ∙ ap (levelAt c) last ∙ z))
               ∙ sym (neither (eqb (p .level) 0) (eqb (q .level) 0) (held (watch c off a .off + d)) (ne-eqb _ _ nq))
         ]
 

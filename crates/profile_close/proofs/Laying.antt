@@ -61,8 +61,7 @@ module _ (acts : List Numbered) (own : List ℕ) (n : ℕ) where
       marksFrom acts own (i - 1) (n - (i - 1)) ≡ record { number = getD acts (i - 1) noNumbered .number; fate = getD own (i - 1) 0 } ∷ marksFrom acts
       own i (n - i)
   unfolding marksFrom
-  marks-back i h k =
-      ap (marksFrom acts own (i - 1)) {x = n - (i - 1)} {y = suc (n - i)} (omega arith)
+  marks-back i h k = ap (marksFrom acts own (i - 1)) {x = n - (i - 1)} {y = suc (n - i)} (omega arith)
       ∙ ap (λ (j : ℕ). record { number = getD acts (i - 1) noNumbered .number; fate = getD own (i - 1) 0 } ∷ marksFrom acts own j (n - i))
       {x = suc (i - 1)} {y = i} (omega arith)
 
@@ -77,8 +76,7 @@ module _ (acts : List Numbered) (own : List ℕ) (n : ℕ) where
       ap (λ (x : Fates). overlaid x (getD acts (i - 1) noNumbered .number) (getD own (i - 1) 0)) e ∙ sym (ap (overlaidAll s) (marks-back i h k))
 
   pub overlaid-end : (s r : Fates) (i : ℕ) → i ≡ 0 → r ≡ overlaidAll s (marksFrom acts own i (n - i)) → r ≡ overlaidAll s (marksFrom acts own 0 n)
-  overlaid-end s r i z e =
-      e ∙ ap (λ (k : ℕ). overlaidAll s (marksFrom acts own k (n - k))) z
+  overlaid-end s r i z e = e ∙ ap (λ (k : ℕ). overlaidAll s (marksFrom acts own k (n - k))) z
       ∙ ap (λ (k : ℕ). overlaidAll s (marksFrom acts own 0 k)) {x = n - 0} {y = n} (omega arith)
 
 -- the fates of those from the place i on are laid over
@@ -101,11 +99,8 @@ fours (k ∷ ks) = (refl, fours ks)
 
 one-not : (s : Checked) (o : Numbered) → NotOne (s .marks) → NotOne (checkOne s o .marks)
 unfolding checkOne failed
-one-not s o d =
-    by-bool (same (effectOf o) Fail)
-    (λ e. by-bool (syncWithinHour (effectiveOf o) (s .kept))
-    (λ f. rw (e, f) (refl, all-append (map (mark 4) (fromSync (s .kept))) (s .marks) (fours (fromSync (s .kept))) d))
-    (λ f. rw (e, f) (refl, d)))
+one-not s o d = by-bool (same (effectOf o) Fail) (λ e. by-bool (syncWithinHour (effectiveOf o) (s .kept))
+    (λ f. rw (e, f) (refl, all-append (map (mark 4) (fromSync (s .kept))) (s .marks) (fours (fromSync (s .kept))) d)) (λ f. rw (e, f) (refl, d)))
     (λ e. by-bool (repeats o (s .kept)) (λ f. rw (e, f) (refl, d)) (λ f. rw (e, f) d))
 
 check-not : (s : Checked) (os : List Numbered) → NotOne (s .marks) → NotOne (check s os .marks)
@@ -229,8 +224,7 @@ module _ (all : List Numbered) (is : List Instruction) (few : length is ≤ inst
       overAll (filled instructionPlaces 0 (fatesBy ms)) (length is) ns ≡ filled instructionPlaces 0 (fatesBy (ns ++ ms))
   unfolding overAll
   over-marks [] ms p q = refl
-  over-marks (n ∷ ns) ms p q =
-      ap (λ (xs : List ℕ). overFate xs (length is) (n .number) (n .fate)) (over-marks ns ms (p .1) q)
+  over-marks (n ∷ ns) ms p q = ap (λ (xs : List ℕ). overFate xs (length is) (n .number) (n .fate)) (over-marks ns ms (p .1) q)
       ∙ over-mark n (ns ++ ms) (all-append ns ms (p .1) q)
 
 -- ---- the marks of those that act
@@ -267,10 +261,8 @@ one-more o os fate e ms a = record { many = ap suc (a .many); numbers = at; not-
     at (suc j) = a .numbers j
 
 follow-marks : (u : UnitData) (now : UnderWay) (os : List Numbered) → Are (follow byRule u now os .marks) os
-follow-marks u = follow-ind byRule u (λ now os f. Are (f .marks) os)
-    (λ now. record { many = refl; numbers = λ j. refl; not-one = tt })
-    (λ now o os f e a. unfold goesOn in one-more o os 7 refl (f .marks) a)
-    (λ now o os g f e a. unfold replaces in one-more o os 0 refl (f .marks) a)
+follow-marks u = follow-ind byRule u (λ now os f. Are (f .marks) os) (λ now. record { many = refl; numbers = λ j. refl; not-one = tt })
+    (λ now o os f e a. unfold goesOn in one-more o os 7 refl (f .marks) a) (λ now o os g f e a. unfold replaces in one-more o os 0 refl (f .marks) a)
 
 -- ---- all together
 
@@ -283,8 +275,7 @@ module _ (u : UnitData) (now : UnderWay) (os : List Numbered) (few : length os �
   own-marks =
       let f = follow-marks u now os in
       ap (marksFrom (filled instructionPlaces noNumbered os) (filled instructionPlaces 0 (map fateIn own)) 0) (sym (f .many))
-      ∙ marks-are (filled instructionPlaces noNumbered os) (filled instructionPlaces 0 (map fateIn own)) 0 own
-      (λ j p.
+      ∙ marks-are (filled instructionPlaces noNumbered os) (filled instructionPlaces 0 (map fateIn own)) 0 own (λ j p.
       let e : 0 + j ≡ j = omega arith in
       let q : j < length (map fateIn own) = omega (arith, length-map own fateIn) in (
         ap (λ (k : ℕ). getD (filled instructionPlaces noNumbered os) k noNumbered .number) e

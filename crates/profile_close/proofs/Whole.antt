@@ -115,9 +115,7 @@ module _ (t : Taken) (n : ℕ) (places : length (t .instructions) ≡ instructio
 
   starts-low : Words t → All LowStart (coursesFrom u first (take (v .acting) (v .acts)))
   unfolding grains coursesFrom
-  starts-low w =
-      rw acts-are
-      (all-map (Below (2 ^ 32)) LowStart (λ c b. omega (arith, b .start)) courses
+  starts-low w = rw acts-are (all-map (Below (2 ^ 32)) LowStart (λ c b. omega (arith, b .start)) courses
       (courses-below u (2 ^ 32) (omega (arith, w .capacity)) (omega (arith, w .maximum)) first acts
       (start-below u (2 ^ 32) (omega (arith, w .capacity)) (omega (arith, w .maximum)) (t .start) (omega (arith, w .level))
       (omega (arith, w .target)) (omega (arith, w .ordered)))))
@@ -131,10 +129,8 @@ module _ (t : Taken) (n : ℕ) (places : length (t .instructions) ≡ instructio
   fates-are : overAll (v .fates) (min (t .count) instructionPlaces)
       (marksFrom (v .acts) (filled instructionPlaces 0 (map fateIn (f .marks))) 0 (v .acting)) ≡ arraysOf (found paper n t) .fates
   unfolding validationOf outcomeOf arraysOf found foundBy entered
-  fates-are =
-      ap (overAll (v .fates) (min (t .count) instructionPlaces)) (own-marks u first acts few-acts)
-      ∙ ap (λ (k : ℕ). overAll (v .fates) k (f .marks)) (sym as-many)
-      ∙ fates-found u first acts few-acts end (entered t) (omega (arith, as-many))
+  fates-are = ap (overAll (v .fates) (min (t .count) instructionPlaces)) (own-marks u first acts few-acts)
+      ∙ ap (λ (k : ℕ). overAll (v .fates) k (f .marks)) (sym as-many) ∙ fates-found u first acts few-acts end (entered t) (omega (arith, as-many))
 
   sums-are : listFrom (twinTo (spansOf u end courses)) 0 (suc n) ≡ found paper n t .sums
   unfolding found foundBy
@@ -144,15 +140,14 @@ module _ (t : Taken) (n : ℕ) (places : length (t .instructions) ≡ instructio
       (λ j p. area-to n ss (day-tiles byRule end u (t .start) (numbered 1 (entered t))) j (omega arith)))
 
   -- what following comes to, with its fates laid over
-  pub find-is : (r : FollowedDay) → FollowedBy u first (take (v .acting) (v .acts)) n r →
-      (record {
-        fates = overlaidAll settled (marksFrom (v .acts) (r .walk .fates) 0 (v .acting)) .fates;
-        started = r .walk .started;
-        courses = r .walk .courses;
-        sums = r .sums;
-        last = r .walk .now;
-        end = r .end;
-      }) ≡ arraysOf (found paper n t)
+  pub find-is : (r : FollowedDay) → FollowedBy u first (take (v .acting) (v .acts)) n r → (record {
+    fates = overlaidAll settled (marksFrom (v .acts) (r .walk .fates) 0 (v .acting)) .fates;
+    started = r .walk .started;
+    courses = r .walk .courses;
+    sums = r .sums;
+    last = r .walk .now;
+    end = r .end;
+  }) ≡ arraysOf (found paper n t)
   unfolding arraysOf overlaidAll walkAll walkOf coursesFrom found foundBy
   find-is r by =
       let walk : r .walk ≡ walkAll u first acts = by .walk ∙ ap (walkAll u first) acts-are in
@@ -162,8 +157,7 @@ module _ (t : Taken) (n : ℕ) (places : length (t .instructions) ≡ instructio
             i;
         started = (ap (λ (x : Walk). x .started) walk ∙ sym (length-map (f .courses) courseOf)) i;
         courses = (ap (λ (x : Walk). x .courses) walk) i;
-        sums = (
-            by .sums
+        sums = (by .sums
             ∙ ap (λ (os : List Numbered). filled boundaryPlaces 0 (listFrom (twinTo (spansOf u end (coursesFrom u first os))) 0 (suc n))) acts-are
             ∙ ap (filled boundaryPlaces 0) sums-are
             ) i;
@@ -201,7 +195,5 @@ module _ (t : Taken) (n : ℕ) (long : n ≤ mostHalfHours) where
   -- refusal 27: by the sums, and by the quantities
   pub too-high-is : someAbove (t .unit .maximum) sums 0 n ≡ some (λ q. ltb (t .unit .maximum) q) (found paper n t .quantities)
   unfolding someAbove
-  too-high-is =
-      ap (some (λ q. ltb (t .unit .maximum) q))
-      (list-same (quantityAt sums) (λ i. rounded (recordedIn recorded i)) 0 n (λ i h. noted-quantity i (omega arith))
-      ∙ sym (found-quantities n t))
+  too-high-is = ap (some (λ q. ltb (t .unit .maximum) q))
+      (list-same (quantityAt sums) (λ i. rounded (recordedIn recorded i)) 0 n (λ i h. noted-quantity i (omega arith)) ∙ sym (found-quantities n t))

@@ -62,8 +62,7 @@ module _ (u : UnitData) where
       ends : (a : ℕ) → Ordered end a os → a ≤ beginOf end (drop 1 (map courseOf (f .courses)))
 
     headed-by : (now : UnderWay) (os : List Numbered) → Headed now os (follow byRule u now os)
-    headed-by = follow-ind byRule u Headed
-        (λ now. unfold beginOf in record { head = refl; ends = λ a h. h })
+    headed-by = follow-ind byRule u Headed (λ now. unfold beginOf in record { head = refl; ends = λ a h. h })
         (λ now o os f e t. unfold goesOn in record { head = t .head; ends = λ a h. omega (arith, h .0, t .ends (acting o) (h .1)) })
         (λ now o os g f e t. unfold replaces in record {
           head = refl;
@@ -120,8 +119,7 @@ module _ (u : UnitData) (c : Course) where
   course-area n =
       let a : ℕ = c .begin in
       pieces-area (trajectoryOf u c) (n - a)
-      ∙ ap (λ (k : ℕ). area (levelAt (trajectoryOf u c)) k (n - a)) {x = 0} {y = a - a} (omega arith)
-      ∙ sym (twice-is u c up refl a a n)
+      ∙ ap (λ (k : ℕ). area (levelAt (trajectoryOf u c)) k (n - a)) {x = 0} {y = a - a} (omega arith) ∙ sym (twice-is u c up refl a a n)
       ∙ ap (twiceTo (headed up) (listsIn u c) (grains (c .target)) n)
       (standing-here (headed up) (listsIn u c) (grains (c .target)) a (beginning c a) (begins a))
       ∙ sym (own-twice u c up (ownLists u c up) refl (grains (c .target)) n (beginning c a))

@@ -128,8 +128,7 @@ module _ {u : UnitData} {end : ℕ} {first : UnderWay} {all left : List Numbered
   pub order : Next end (g .reached .place .second) left
   order = ordered-next end (g .reached .place .second) left (f .ordered)
 
-  pub progress-pass : {s : Passed} {zs : List ℕ} →
-      Passing l (w .now .course) (g .up) (g .reached .place) (g .off) next (sumsAt g ys) zs s →
+  pub progress-pass : {s : Passed} {zs : List ℕ} → Passing l (w .now .course) (g .up) (g .reached .place) (g .off) next (sumsAt g ys) zs s →
       FollowProgress u end first all left w (wentTo (g .up) s) l zs
   unfolding sumAfter
   progress-pass {s} {zs} passing =
@@ -140,15 +139,14 @@ module _ {u : UnitData} {end : ℕ} {first : UnderWay} {all left : List Numbered
         on = record { lists = f .on .lists; watching = p .watched u (w .now .off) (f .on .lists) (f .on .watching); known = p .known; low = p .low };
         ordered = ordered-less end (s .reached .place .second) next left (p .within) (order .ordered);
         starts = f .starts;
-        sums = λ j h.
-            omega (
-              arith,
-              f .sums j h,
-              p .adds j h,
-              twice-through (headed (g .up)) (listsBy l (w .now .course)) (grains (w .now .course .target)) (g .reached .place) (s .reached .place)
-                  (p .stands) (p .later) (endOf u end (w .now) left) (halfHour * j)
-                  (omega (arith, p .within, end-after u end (w .now) left next (order .ordered))),
-            );
+        sums = λ j h. omega (
+          arith,
+          f .sums j h,
+          p .adds j h,
+          twice-through (headed (g .up)) (listsBy l (w .now .course)) (grains (w .now .course .target)) (g .reached .place) (s .reached .place)
+              (p .stands) (p .later) (endOf u end (w .now) left) (halfHour * j)
+              (omega (arith, p .within, end-after u end (w .now) left next (order .ordered))),
+        );
         fits = p .fits;
       }
 
@@ -180,8 +178,7 @@ module _ {u : UnitData} {end : ℕ} {first : UnderWay} {all : List Numbered} {ac
         few = omega (arith, f .few);
         on = f .on;
         ordered = ordered-less end (p .second) (acting act) left (f .ordered .0) (f .ordered .1);
-        starts =
-            subst (All LowStart) (from-head u (w .now) (act ∷ left) ∙ ap (λ (cs : List Course). w .now .course ∷ cs) same
+        starts = subst (All LowStart) (from-head u (w .now) (act ∷ left) ∙ ap (λ (cs : List Course). w .now .course ∷ cs) same
             ∙ sym (from-head u (w .now) left)) (f .starts);
         sums = subst (λ (cs : List Course). (j : ℕ) → j ≤ mostHalfHours → notedTo (sumsAt g ys) j
             + (twiceTo h ls t (min (beginOf end cs) (halfHour * j)) p + piecesTo (spansOf u end cs) (halfHour * j))
@@ -194,17 +191,14 @@ module _ {u : UnitData} {end : ℕ} {first : UnderWay} {all : List Numbered} {ac
     abbrev then : UnderWay
     then = newCourse byRule u (w .now) act set
 
-    by-end : (j : ℕ) →
-        sumAfter u end (w .now) l g (act ∷ left) j
+    by-end : (j : ℕ) → sumAfter u end (w .now) l g (act ∷ left) j
         ≡ twiceTo h ls t (min (q .second) (halfHour * j)) p + piecesTo (spansOf u end (coursesFrom u then left)) (halfHour * j)
     unfolding sumAfter
-    by-end j = λ k.
-        twiceTo h ls t (min ((end-new u end (w .now) act left set new ∙ sym (cut .there)) k) (halfHour * j)) p
+    by-end j = λ k. twiceTo h ls t (min ((end-new u end (w .now) act left set new ∙ sym (cut .there)) k) (halfHour * j)) p
         + piecesTo (spansOf u end (after-new u (w .now) act left set new k)) (halfHour * j)
 
     later-starts : All LowStart (coursesFrom u then left)
-    later-starts =
-        (subst (All LowStart) (from-head u (w .now) (act ∷ left)
+    later-starts = (subst (All LowStart) (from-head u (w .now) (act ∷ left)
         ∙ ap (λ (cs : List Course). w .now .course ∷ cs) (after-new u (w .now) act left set new)) (f .starts)) .1
 
     begins-here : then .course .begin ≡ q .second
@@ -223,16 +217,15 @@ module _ {u : UnitData} {end : ℕ} {first : UnderWay} {all : List Numbered} {ac
           on = out-on u then l′ up total rises own ((rw (from-head u then left) at later-starts) .0);
           ordered = subst (λ (k : ℕ). Ordered end k left) (sym (begins-here ∙ cut .there)) (f .ordered .1);
           starts = later-starts;
-          sums = λ j k.
-              omega (
-                arith,
-                f .sums j k,
-                by-end j,
-                subst (λ (i : ℕ). notedTo (summed i zs total) j ≡ notedTo (sumsAt g ys) j + twiceTo h ls t (min (q .second) (halfHour * j)) p)
-                    (sym begins-here)
-                    (piece-on h ls t (q .second) p q (last-step cut (f .on .watching .short)) (omega (arith, f .ordered .0, cut .there)) noted j k),
-                set-out-sum u then l′ up total rises own end left j,
-              );
+          sums = λ j k. omega (
+            arith,
+            f .sums j k,
+            by-end j,
+            subst (λ (i : ℕ). notedTo (summed i zs total) j ≡ notedTo (sumsAt g ys) j + twiceTo h ls t (min (q .second) (halfHour * j)) p)
+                (sym begins-here)
+                (piece-on h ls t (q .second) p q (last-step cut (f .on .watching .short)) (omega (arith, f .ordered .0, cut .there)) noted j k),
+            set-out-sum u then l′ up total rises own end left j,
+          );
           fits = subst (λ (k : ℕ). SumsFit (summed k zs total)) (sym begins-here) (noted .fits);
         })
 
@@ -254,25 +247,22 @@ module _ {u : UnitData} {halves : ℕ} {first : UnderWay} {all left : List Numbe
 
   sum-last : (j : ℕ) → sumAfter u end (w .now) l g [] j ≡ twiceThere (min (q .second) (halfHour * j))
   unfolding sumAfter spansOf piecesTo
-  sum-last j =
-      (λ k. twiceThere (min ((end-none u end (w .now) ∙ sym (cut .there)) k) (halfHour * j))
-      + piecesTo (spansOf u end (after-none u (w .now) k)) (halfHour * j))
-      ∙ omega arith
+  sum-last j = (λ k. twiceThere (min ((end-none u end (w .now) ∙ sym (cut .there)) k) (halfHour * j))
+      + piecesTo (spansOf u end (after-none u (w .now) k)) (halfHour * j)) ∙ omega arith
 
   module _ {zs : List ℕ} {total : ℕ} (noted : Noted (pieceFrom (headed (g .up)) (g .reached .place) q) (sumsAt g ys) (summed (q .second) zs total))
     where
       -- what is noted at a boundary of the day
       noted-at : (j : ℕ) → j ≤ halves → getD zs j 0 ≡ twinTo ss j
       unfolding twinTo
-      noted-at j h =
-          omega (
-            arith,
-            v .sums j (omega arith),
-            sum-last j,
-            noted-there (summed (q .second) zs total) j (omega (arith, cut .there)),
-            piece-on (headed (g .up)) (listsBy l (w .now .course)) (grains (w .now .course .target)) (q .second) (g .reached .place) q
-                (last-step cut (v .on .watching .short)) (omega (arith, v .ordered, cut .there)) noted j (omega arith),
-          )
+      noted-at j h = omega (
+        arith,
+        v .sums j (omega arith),
+        sum-last j,
+        noted-there (summed (q .second) zs total) j (omega (arith, cut .there)),
+        piece-on (headed (g .up)) (listsBy l (w .now .course)) (grains (w .now .course .target)) (q .second) (g .reached .place) q
+            (last-step cut (v .on .watching .short)) (omega (arith, v .ordered, cut .there)) noted j (omega arith),
+      )
 
       all-noted : take (suc halves) zs ≡ listFrom (twinTo ss) 0 (suc halves)
       all-noted =

@@ -24,10 +24,8 @@ use Rattle.profile_follow.specs.Walk.{fateIn, walkOf, wentOn, replacedBy
 -- an array that begins with f of each, and one more
 map-push : {A B : Type 0} (f : A → B) (z : B) (n : ℕ) (xs : List A) (x : A) → length xs < n →
     set (filled n z (map f xs)) (length xs) (f x) ≡ filled n z (map f (xs ++ (x ∷ [])))
-map-push f z n xs x h =
-    ap (λ (k : ℕ). set (filled n z (map f xs)) k (f x)) (sym (length-map xs f))
-    ∙ filled-push z n (map f xs) (f x) (omega (arith, length-map xs f))
-    ∙ ap (filled n z) (sym (over xs))
+map-push f z n xs x h = ap (λ (k : ℕ). set (filled n z (map f xs)) k (f x)) (sym (length-map xs f))
+    ∙ filled-push z n (map f xs) (f x) (omega (arith, length-map xs f)) ∙ ap (filled n z) (sym (over xs))
   where
     over : (ys : List _) → map f (ys ++ (x ∷ [])) ≡ map f ys ++ (f x ∷ [])
     over [] = refl
@@ -63,8 +61,7 @@ module _ (u : UnitData) where
     fated : (fate : ℕ) → w .acted < instructionPlaces →
         set (w .fates) (w .acted) fate ≡ filled instructionPlaces 0 (map fateIn (ms ++ (mark fate o ∷ [])))
     unfolding walkOf
-    fated fate h =
-        ap (λ (x : Walk). set (x .fates) (x .acted) fate) e
+    fated fate h = ap (λ (x : Walk). set (x .fates) (x .acted) fate) e
         ∙ map-push fateIn 0 instructionPlaces ms (mark fate o) (omega (arith, ap (λ (x : Walk). x .acted) e))
 
     more : (fate : ℕ) → w .acted + 1 ≡ length (ms ++ (mark fate o ∷ []))
@@ -86,8 +83,7 @@ module _ (u : UnitData) where
     unfolding walkOf replacedBy
     changed next h k = λ i. record {
       now = next;
-      courses = (
-          ap (λ (x : Walk). set (x .courses) (x .started) (next .course)) e
+      courses = (ap (λ (x : Walk). set (x .courses) (x .started) (next .course)) e
           ∙ map-push courseOf noCourse coursePlaces (us ++ (w .now ∷ [])) next (omega (arith, ap (λ (x : Walk). x .started) e))
           ) i;
       started = (ap (λ (x : Walk). x .started + 1) e ∙ one-more (us ++ (w .now ∷ [])) next) i;

@@ -17,8 +17,7 @@ returns-2 : tie.Need-returns-2
 unfolding listsBy ratesOf
 returns-2 c =
     let s = c .before .before .before .before .before in
-    c .rate-of-deload .ensures
-    ∙ rate-deload (listsBy (s .args .l) (s .args .c)) _ _ _ (c .before .before .before .before .grains-of .ensures .0)
+    c .rate-of-deload .ensures ∙ rate-deload (listsBy (s .args .l) (s .args .c)) _ _ _ (c .before .before .before .before .grains-of .ensures .0)
     (c .before .before .before .in-ramp .ensures) (c .before .before .if1 .left)
 
 pub rate-falling-spec : {M : Type 1} → statement M

@@ -11,8 +11,7 @@ returns : tie.Need-returns
 returns c =
     let s = c .before .before in (
       sym (hold-target (listsBy (s .args .l) (s .args .c)) (grains (s .args .c .target)) (s .args .w) (headed (s .args .up)) (omega arith)),
-      omega
-          arith,
+      omega arith,
     )
 
 returns-3 : tie.Need-returns-3
@@ -25,6 +24,5 @@ returns-3 c =
     )
 
 pub hold-at-spec : {M : Type 1} → statement M
-hold-at-spec =
-    tie.close
+hold-at-spec = tie.close
     (tie.spec (λ c κs. search needs) returns (λ c κs. search needs) (λ c κs. search needs) (λ c. search needs) (λ c κs. search needs) returns-3)

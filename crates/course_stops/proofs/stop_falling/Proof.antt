@@ -20,11 +20,9 @@ returns-2 c =
       c .before .before .before .before .before .nearer .ensures,
       c .before .before .before .before .before .before .before .«grains-of2» .ensures .0,
       c .before .before .before .before .before .before .before .before .grains-of .ensures .0,
-    )
-    (falling-above (s .args .l) (s .args .c) (grains (s .args .c .target)) (s .args .v) (omega arith))
+    ) (falling-above (s .args .l) (s .args .c) (grains (s .args .c .target)) (s .args .v) (omega arith))
 
 pub stop-falling-spec : {M : Type 1} → statement M
-stop-falling-spec =
-    tie.close
+stop-falling-spec = tie.close
     (tie.spec (λ c κs. search needs) (λ c κs. search needs) (λ c κs. search needs) returns (λ c κs. search needs) (λ c κs. search needs)
     (λ c κs. search needs) returns-2)

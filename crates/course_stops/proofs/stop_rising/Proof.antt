@@ -12,8 +12,7 @@ returns c =
       c .ramp-breaks .ensures,
       c .before .before .before .dwell-stops .ensures,
       c .before .before .before .before .before .before .before .grains-of .ensures .0,
-    )
-    (rising-above (s .args .l) (s .args .c) (grains (s .args .c .target)) (s .args .v) (omega arith))
+    ) (rising-above (s .args .l) (s .args .c) (grains (s .args .c .target)) (s .args .v) (omega arith))
 
 returns-2 : tie.Need-returns-2
 returns-2 c =
@@ -24,11 +23,9 @@ returns-2 c =
       c .before .before .before .before .before .nearer .ensures,
       c .before .before .before .before .before .before .before .«grains-of2» .ensures .0,
       c .before .before .before .before .before .before .before .before .grains-of .ensures .0,
-    )
-    (rising-below (s .args .l) (s .args .c) (grains (s .args .c .target)) (s .args .v) (omega arith))
+    ) (rising-below (s .args .l) (s .args .c) (grains (s .args .c .target)) (s .args .v) (omega arith))
 
 pub stop-rising-spec : {M : Type 1} → statement M
-stop-rising-spec =
-    tie.close
+stop-rising-spec = tie.close
     (tie.spec (λ c κs. search needs) (λ c κs. search needs) (λ c κs. search needs) (λ c κs. search needs) returns (λ c κs. search needs)
     (λ c κs. search needs) (λ c κs. search needs) returns-2)

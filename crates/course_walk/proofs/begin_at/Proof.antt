@@ -22,8 +22,7 @@ returns-2 : tie.Need-returns-2
 returns-2 c =
     let s = c .before .before .before .before in
     ap (λ (x : Segment). record { place = record { second = s .args .c .begin; level = s .args .c .start .grains; left = s .args .left }; rest = x })
-    (c .segment-from .ensures)
-    ∙ reached-found (headed (s .args .up)) (listsBy (s .args .l) (s .args .c)) (grains (s .args .c .target))
+    (c .segment-from .ensures) ∙ reached-found (headed (s .args .up)) (listsBy (s .args .l) (s .args .c)) (grains (s .args .c .target))
     (record { second = s .args .c .begin; level = s .args .c .start .grains; left = s .args .left })
     (ap (λ (t : ℕ). ltb 0 (s .args .left) || eqb (s .args .c .start .grains) t) (sym (c .before .before .grains-of .ensures .0))
     ∙ c .before .if1 .left)

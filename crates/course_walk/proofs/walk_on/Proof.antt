@@ -56,23 +56,20 @@ abbrev Onward : tie.Start → Reached → Type 0
 Onward s r = (r .place ≡ onward (h s) (ls s) (target s) (s .args .n) (place s)) × Known (h s) (ls s) (target s) r
 
 by-place : (s : tie.Start) (q : Place) (r : Reached) → r ≡ unknown q → q ≡ onward (h s) (ls s) (target s) (s .args .n) (place s) → Onward s r
-by-place s q r e to =
-    (ap (λ (r : Reached). r .place) e ∙ to, subst (Known (h s) (ls s) (target s)) (sym e) (λ lt. absurd (omega arith)))
+by-place s q r e to = (ap (λ (r : Reached). r .place) e ∙ to, subst (Known (h s) (ls s) (target s)) (sym e) (λ lt. absurd (omega arith)))
 
 by-segment : (s : tie.Start) (x : Segment) (r : Reached) → place s .left ≤ 0 → Past (h s) (place s .level) (target s) → x ≡ ahead s →
     r ≡ record { place = along (h s) (s .args .n) (place s) x; rest = restAlong (s .args .n) (place s) x } → Onward s r
 by-segment s x r none past is e =
     let n = s .args .n in
     let to = e ∙ ap (λ (x : Segment). record { place = along (h s) n (place s) x; rest = restAlong n (place s) x }) is in (
-      ap (λ (r : Reached). r .place) to
-          ∙ onward-along (h s) (ls s) (target s) n (place s) none (past-not (h s) (place s .level) (target s) past),
+      ap (λ (r : Reached). r .place) to ∙ onward-along (h s) (ls s) (target s) n (place s) none (past-not (h s) (place s .level) (target s) past),
       subst (Known (h s) (ls s) (target s)) (sym to) (along-known (h s) (ls s) (target s) n (place s) past),
     )
 
 reaches : (s : tie.Start) (x : Segment) → Past (h s) (place s .level) (target s) → x ≡ ahead s → Reaches (h s) (place s .level) (x .way)
 unfolding grains
-reaches s x past is =
-    subst (λ (x : Segment). Reaches (h s) (place s .level) (x .way)) (sym is)
+reaches s x past is = subst (λ (x : Segment). Reaches (h s) (place s .level) (x .way)) (sym is)
     (reaches-stop (h s) (ls s) (target s) (place s .level) past (omega (arith, s .good .1 .0)))
 
 -- ---- a segment is known
@@ -117,7 +114,6 @@ returns-4 c =
     by-segment (no-hold (on-way e)) _ _ (on-way e .if2 .left) (past-here e) (c .before .segment-from .ensures) (c .along-segment2 .ensures)
 
 pub walk-on-spec : {M : Type 1} → statement M
-walk-on-spec =
-    tie.close
+walk-on-spec = tie.close
     (tie.spec along-segment-requires returns (λ c κs. search needs) (λ c κs. search needs) returns-2 (λ c κs. search needs) (λ c κs. search needs)
     (λ c κs. search needs) returns-3 (λ c κs. search needs) along-segment-requires-2 returns-4)

@@ -86,10 +86,8 @@ returns c =
       sums = r .sums;
       last = r .walk .now;
       end = r .end;
-    }) (over (laid c))
-    ∙ find-is (s .args .t) (s .args .halves) (places s) r (by f)
+    }) (over (laid c)) ∙ find-is (s .args .t) (s .args .halves) (places s) r (by f)
 
 pub find-spec : {M : Type 1} → statement M
-find-spec =
-    tie.close
+find-spec = tie.close
     (tie.spec (λ c. search needs) (λ c κs. search needs) (λ c κs. search needs) follow-day-requires (λ c κs. search needs) lay-fates-requires returns)

@@ -34,8 +34,7 @@ use Rattle.profile_follow.proofs.follow_day.Tie as tie
 
 -- as a turn of the loop begins
 record FollowTurn (n : ℕ) (u : UnitData) (end : ℕ) (first : UnderWay) (all : List Numbered) (w : Walk) (g : OnCourse) (l : OwnLists)
-    (ys : List ℕ) : Type
-    0 where
+    (ys : List ℕ) : Type 0 where
   within : w .acted ≤ n
   progress : FollowProgress u end first all (drop (w .acted) all) w g l ys
 
@@ -152,8 +151,7 @@ forty : (k : tie.At-loop Inv-loop μ-loop) → length (start k .args .t3) ≡ in
 forty k = start k .good .1 .1 .0 .1 .0 .1
 
 left-is : (k : tie.At-loop Inv-loop μ-loop) → k .loop .w .acted < start k .args .n → left k ≡ act k ∷ later k
-left-is k lt =
-    left-cons (start k .args .t3) (start k .args .n) (k .loop .w .acted) noNumbered lt (omega (arith, forty k, start k .pre .few))
+left-is k lt = left-cons (start k .args .t3) (start k .args .n) (k .loop .w .acted) noNumbered lt (omega (arith, forty k, start k .pre .few))
     ∙ ap (λ (i : ℕ). getD (start k .args .t3) i noNumbered ∷ later k) {x = k .loop .w .acted} {y = placeIn (k .loop .w .acted)}
     (omega (arith, lt, start k .pre .few))
 
@@ -175,8 +173,7 @@ next-second-requires c κs = λ e. omega (arith, acts-soon (c .before .before) (
 second-there : (n : tie.After-next-second Inv-loop μ-loop) → n .next-second .result ≡ goal (placed n .before)
 second-there n =
     let k = placed n .before in
-    n .next-second .ensures
-    ∙ ap (λ (o : Numbered). pick (ltb (k .loop .w .acted) (start k .args .n)) (acting o) (end k)) (act-is (placed n))
+    n .next-second .ensures ∙ ap (λ (o : Numbered). pick (ltb (k .loop .w .acted) (start k .args .n)) (acting o) (end k)) (act-is (placed n))
     ∙ second-is (end k) (start k .args .t3) (start k .args .n) (k .loop .w .acted) (start k .pre .few) (forty k)
 
 pass-to-requires : tie.Need-pass-to-requires Inv-loop μ-loop
@@ -236,8 +233,7 @@ state-is b =
     let a = passed b in
     let k = head a in
     let f = k .loop .inv .progress in
-    b .state-at .ensures
-    ∙ watching-at (unit k) (now k) (k .loop .g .up) (a .pass-to .result .ahead) (a .pass-to .result .later) (goal k)
+    b .state-at .ensures ∙ watching-at (unit k) (now k) (k .loop .g .up) (a .pass-to .result .ahead) (a .pass-to .result .later) (goal k)
     (past a .watched (unit k) (now k .off) (f .on .lists) (f .on .watching)) (past a .there)
 
 -- ---- the day's end
@@ -290,10 +286,8 @@ course-room e = omega (arith, fate-room e, here e .loop .inv .progress .few)
 outcome-is : (c : tie.After-outcome-of Inv-loop μ-loop) → let k = here (acts c) in c .outcome-of .result ≡ comesTo byRule (unit k) (now k) (act k)
 outcome-is c =
     let k = here (acts c) in
-    c .outcome-of .ensures
-    ∙ ap (λ (o : Numbered). outcome (unit k) (now k) (o .instruction) (acts c .before .state-at .result))
-    (act-is (placed (timed (passed (acts c .before)))))
-    ∙ ap (outcome (unit k) (now k) (act k .instruction)) (before-it (acts c))
+    c .outcome-of .ensures ∙ ap (λ (o : Numbered). outcome (unit k) (now k) (o .instruction) (acts c .before .state-at .result))
+    (act-is (placed (timed (passed (acts c .before))))) ∙ ap (outcome (unit k) (now k) (act k .instruction)) (before-it (acts c))
 
 -- ---- it is ignored
 loop-less : tie.Need-loop-less Inv-loop μ-loop
@@ -354,16 +348,13 @@ loop-again-2 c =
       within = omega (arith, one-left e);
       progress = progress-new (now-acting e) (fate-room e) (comes n)
           (subst (CutAt (now k) (k .loop .l) (on-course a) (a .pass-to .result .ahead)) (acts-then e) (cut-at a)) (begins d) (c .set-out2 .ensures)
-          (up .ensures)
-          (own-anew (unit k) (k .loop .l) (d .begin-course .result .course) (up .result) (col .result) (c .before .ramp-of .result)
+          (up .ensures) (own-anew (unit k) (k .loop .l) (d .begin-course .result .course) (up .result) (col .result) (c .before .ramp-of .result)
           (shared-own (unit k) (k .loop .l) (now k .course) (k .loop .g .up) (f .on .lists)) (col .ensures .0) (c .before .ramp-of .ensures))
           (n .note-piece2 .ensures);
     }
 
 pub follow-day-spec : {M : Type 1} → statement M
-follow-day-spec =
-    tie.close
-    (tie.spec Inv-loop μ-loop (λ c κs. search needs) (λ c κs. search needs) (λ c κs. search needs) (λ c κs. search needs)
+follow-day-spec = tie.close (tie.spec Inv-loop μ-loop (λ c κs. search needs) (λ c κs. search needs) (λ c κs. search needs) (λ c κs. search needs)
     (λ c. omega (arith, walk-begun c .before .pre .long)) loop-holds (λ c κs. search needs) (λ c. omega (arith, c .place-in .ensures))
     (λ c. omega (arith, c .place-in .ensures, forty (c .before))) next-second-requires pass-to-requires (λ c κs. search needs)
     (λ c κs. piece-ahead (passed (c .before .before))) end-day-requires returns (λ c. omega (arith, fate-room c)) (λ c κs. search needs)
