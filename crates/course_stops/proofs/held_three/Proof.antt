@@ -7,7 +7,8 @@ use Rattle.course_stops.proofs.held_three.Tie as tie
 
 returns : tie.Need-returns
 returns c =
-    let s = c .before .before .before .before .before .before in
+    let a = c .before .before .before .before in
+    let s = a .before .before in
     let d : Trigger = record { level = 0; minutes = 0 } in
     omega (arith, held-three (s .args .w) d (s .args .t2) (s .good .1 .0 .1 .0 .1))
 

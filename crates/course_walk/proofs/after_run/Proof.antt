@@ -14,12 +14,13 @@ moved-requires c κs = reaches-less (headed (c .before .args .up)) _ _ _ (c .bef
 returns : tie.Need-returns
 unfolding afterRun restRun
 returns c =
-    let s = c .before .before .before .before .before in
+    let w = c .before .before .before in
+    let s = w .before .before in
     let m = s .args .f * s .args .s .rate in
     λ i. record {
       place = record {
         second = s .args .p .second + s .args .f;
-        level = c .before .before .before .moved .ensures i;
+        level = w .moved .ensures i;
         left = (c .before .hold-from .ensures ∙ left-is (s .args .s .way) (s .args .s .hold) m (s .pre .way)) i;
       };
       rest = record { way = s .args .s .way - m; rate = s .args .s .rate; hold = s .args .s .hold };
