@@ -1,7 +1,7 @@
 -- One straight piece after another: each is what the rule of one second does.
-use Prim.Native.Nat.{ℕ, _+_, _*_, _-_, _/_, min, _≤_, _<_}
-use mathlib.Core.Path.{_≡_}
-use mathlib.Core.Bool.{Bool, true, false}
+use Prim.Native.Nat.{ℕ, _+_, _*_, _-_, _/_, _^_, min, _≤_, _<_}
+use mathlib.Core.Path.{_≡_, sym}
+use mathlib.Core.Bool.{Bool, true, false, true≢false}
 use native.Mathlib.Decide.{decLe}
 use native.Mathlib.Omega.{arith}
 use native.Mathlib.Nat.{mul-le-mul-right, div-add-mod', div-lt-iff-lt-mul}
@@ -17,13 +17,13 @@ use Rattle.course_rates.specs.Ways.{headed}
 use Rattle.course_stops.specs.Ahead.{segmentTo, segmentFrom}
 use Rattle.course_walk.specs.Walk.{Reaches, afterHold, afterRest, afterRun, afterShort, along, onward}
 
-pub room-up : (up : Bool) (v m : ℕ) → up ≡ true → Reaches (headed up) v m → v + m ≤ 18446744073709551615
+pub room-up : (up : Bool) (v m : ℕ) → up ≡ true → Reaches (headed up) v m → v + m < 2 ^ 64
 room-up true v m e r = r
-room-up false v m e r = let z : false ≡ true = e in let q : _≡_ {A = ℕ} 0 1 = cc in absurd (omega arith)
+room-up false v m e r = absurd (true≢false (sym e))
 
 pub room-down : (up : Bool) (v m : ℕ) → up ≡ false → Reaches (headed up) v m → m ≤ v
 room-down false v m e r = r
-room-down true v m e r = let z : true ≡ false = e in let q : _≡_ {A = ℕ} 0 1 = cc in absurd (omega arith)
+room-down true v m e r = absurd (true≢false e)
 
 pub reaches-less : (h : Heading) (v m n : ℕ) → m ≤ n → Reaches h v n → Reaches h v m
 reaches-less rising v m n p r = omega arith
@@ -66,7 +66,7 @@ module _ (h : Heading) (l : Lists) (t n : ℕ) (p : Place) where
   onward-along e q = simp (le-ltb 0 (p .left) e, ne-eqb (p .level) t q)
 
 -- there is room to the next stop
-pub reaches-stop : (h : Heading) (l : Lists) (t v : ℕ) → Past h v t → t ≤ 18446744073709551615 → Reaches h v (segmentFrom h l t v .way)
+pub reaches-stop : (h : Heading) (l : Lists) (t v : ℕ) → Past h v t → t < 2 ^ 64 → Reaches h v (segmentFrom h l t v .way)
 unfolding segmentFrom segmentTo gap
 reaches-stop rising l t v p m = let n = next-past rising l t v p in omega arith
 reaches-stop falling l t v p m = let n = next-past falling l t v p in omega arith

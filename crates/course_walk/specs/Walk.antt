@@ -1,5 +1,5 @@
 -- Working. Going along a course from one straight piece to the next.
-use Prim.Native.Nat.{ℕ, _+_, _*_, _-_, _/_, min, _≤_, _<_}
+use Prim.Native.Nat.{ℕ, _+_, _*_, _-_, _/_, _^_, min, _≤_, _<_}
 use mathlib.Core.Path.{_≡_}
 use mathlib.Core.Bool.{_||_}
 use mathlib.Core.List.{List, _++_}
@@ -18,9 +18,9 @@ use Rattle.course_walk.specs.declared.Place.{Place}
 use Rattle.course_walk.specs.declared.Reached.{Reached}
 use Rattle.course_stops.specs.Ahead.{segmentFrom}
 
--- room to move v by m: up to the largest number of 64 bits, down to 0
+-- room to move v by m: up within 64 bits, down to 0
 abbrev pub Reaches : Heading → ℕ → ℕ → Type 0
-Reaches rising v m = v + m ≤ 18446744073709551615
+Reaches rising v m = v + m < 2 ^ 64
 Reaches falling v m = m ≤ v
 
 abbrev pub momentOf : Place → Moment
@@ -118,6 +118,6 @@ pub record WalkAhead (h : Heading) (l : Lists) (t : ℕ) (from : Reached) (n : �
 
 -- f seconds along a segment: they end within 32 bits and within the way, which the level has room for
 pub record RunAhead (h : Heading) (p : Place) (s : Segment) (f : ℕ) : Type 0 where
-  pub within : p .second + f ≤ 4294967295
+  pub within : p .second + f < 2 ^ 32
   pub way : f * s .rate ≤ s .way
   pub room : Reaches h (p .level) (s .way)

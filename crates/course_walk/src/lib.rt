@@ -1,7 +1,7 @@
 // Along a course, one straight piece after another: `begin_at`, `walk_on`. A course goes by its own lists; proofs/Own.antt says that
 // they do for it what the unit's do.
 ghost use mathlib.Core.Path.{_≡_};
-ghost use Prim.Native.Nat.{_+_, _*_, _-_, _/_, min, _<_, _≤_};
+ghost use Prim.Native.Nat.{_+_, _*_, _-_, _/_, min, _<_, _≤_, _^_};
 ghost use lib.Dec.{ltb, eqb};
 ghost use Rattle.level.specs.Choice.{pick};
 ghost use Rattle.level.specs.Level.{grains};
@@ -83,7 +83,7 @@ fn after_rest(p: Place, n: u32) -> Place
 
 // A second to the stop of a segment.
 fn after_short(up: bool, p: Place, s: course::Segment) -> Place
-    requires { ⌜ p .second < 4294967295 ⌝ }
+    requires { ⌜ p .second + 1 < 2 ^ 32 ⌝ }
     requires { ⌜ Reaches (headed up) (p .level) (s .way) ⌝ }
     ensures { λ r. ⌜ r ≡ afterShort (headed up) p s ⌝ }
 {

@@ -248,20 +248,20 @@ marks-are acts own i (m ∷ ms) h =
     (ap (λ (k : ℕ). getD acts k noNumbered .number) f ∙ b .0, ap (λ (k : ℕ). getD own k 0) f ∙ b .1))) x
 
 -- as many as act, with their numbers, and none has fate 1
-record Are (ms : List Mark) (ns : List Numbered) : Type 0 where
+record MarksOf (ms : List Mark) (ns : List Numbered) : Type 0 where
   many : length ms ≡ length ns
   numbers : (j : ℕ) → getD ms j noMark .number ≡ getD ns j noNumbered .number
   not-one : NotOne ms
 
-one-more : (o : Numbered) (os : List Numbered) (fate : ℕ) → eqb fate 1 ≡ false → (ms : List Mark) → Are ms os → Are (mark fate o ∷ ms) (o ∷ os)
+one-more : (o : Numbered) (os : List Numbered) (fate : ℕ) → eqb fate 1 ≡ false → (ms : List Mark) → MarksOf ms os → MarksOf (mark fate o ∷ ms) (o ∷ os)
 one-more o os fate e ms a = record { many = ap suc (a .many); numbers = at; not-one = (e, a .not-one) }
   where
     at : (j : ℕ) → getD (mark fate o ∷ ms) j noMark .number ≡ getD (o ∷ os) j noNumbered .number
     at zero = refl
     at (suc j) = a .numbers j
 
-follow-marks : (u : UnitData) (now : UnderWay) (os : List Numbered) → Are (follow byRule u now os .marks) os
-follow-marks u = follow-ind byRule u (λ now os f. Are (f .marks) os) (λ now. record { many = refl; numbers = λ j. refl; not-one = tt })
+follow-marks : (u : UnitData) (now : UnderWay) (os : List Numbered) → MarksOf (follow byRule u now os .marks) os
+follow-marks u = follow-ind byRule u (λ now os f. MarksOf (f .marks) os) (λ now. record { many = refl; numbers = λ j. refl; not-one = tt })
     (λ now o os f e a. unfold goesOn in one-more o os 7 refl (f .marks) a) (λ now o os g f e a. unfold replaces in one-more o os 0 refl (f .marks) a)
 
 -- ---- all together

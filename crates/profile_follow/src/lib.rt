@@ -3,7 +3,7 @@
 ghost use mathlib.Core.Path.{_≡_};
 ghost use mathlib.Core.Bool.{true};
 ghost use mathlib.Core.List.{[], _∷_};
-ghost use Prim.Native.Nat.{_<_, _≤_};
+ghost use Prim.Native.Nat.{_<_, _≤_, _^_};
 ghost use lib.ListN.{take};
 ghost use Rattle.level.specs.Choice.{pick};
 ghost use Rattle.level.specs.Numbers.{mostHalfHours};
@@ -82,7 +82,7 @@ fn went_to(up: bool, s: profile_areas::Passed) -> OnCourse
 
 // The second to which a course is followed next: that at which an instruction acts, or the day's end.
 fn next_second(more: bool, o: validation::Numbered, end: u32) -> u32
-    requires { ⌜ (more ≡ true → acting o < 4294967296) ⌝ }
+    requires { ⌜ (more ≡ true → acting o < 2 ^ 32) ⌝ }
     ensures { λ r. ⌜ r ≡ pick more (acting o) end ⌝ }
 {
     if more {
