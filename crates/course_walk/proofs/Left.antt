@@ -26,9 +26,9 @@ use Rattle.course.proofs.Rule.{segments-more, segments-stuck, segments-none}
 use Rattle.course_walk.specs.declared.Place.{Place}
 use Rattle.course_rates.specs.Ways.{headed, listsIn}
 use Rattle.course_stops.specs.Ahead.{segmentTo, segmentFrom}
-use Rattle.course_walk.specs.Walk.{beginning, pieceBetween, afterHold, afterRest, afterRun, afterShort, along, onward, segmentsFrom, piecesLeft}
+use Rattle.course_walk.specs.Walk.{beginning, pieceBetween, afterHold, afterRest, afterRun, afterShort, onward, segmentsFrom, piecesLeft}
 use Rattle.course_walk.proofs.Courses.{heading-is}
-use Rattle.course_walk.proofs.Onward.{full-way, full-some, along-stuck, along-short, along-run, onward-hold, onward-rest, onward-along}
+use Rattle.course_walk.proofs.Onward.{full-way, full-some, onward-cases}
 
 -- ---- the segments from a level
 module _ (h : Heading) (l : Lists) (t : ℕ) where
@@ -303,28 +303,11 @@ module _ (h : Heading) (l : Lists) (t n : ℕ) where
             | no e ↦ elim (ℕ-discrete (p .second + f) n) [ yes c ↦ cut-first f refl one c | no c ↦ part-first f refl one (omega arith) (omega arith) ]
           ]
 
-    segment-first : p .left ≤ 0 → Past h (p .level) t → First (along h n p (segmentFrom h l t (p .level)))
-    unfolding segmentFrom segmentTo
-    segment-first z ahead =
-        let v : ℕ = p .level in
-        let s : Segment = segmentFrom h l t v in
-        elim (ℕ-discrete (rateAt h l v) 0) [
-          | yes e ↦ rw (sym (along-stuck h n p s e)) (rest-first z (from-stuck h l t v ahead e))
-          | no e ↦ elim (decLe (rateAt h l v) (gap v (nextStop h l t v))) [
-            | yes le ↦ rw (sym (along-run h n p s e le)) (run-first z ahead (omega arith) le)
-            | no le ↦ rw (sym (along-short h n p s e (omega arith))) (short-first z ahead (omega arith) (omega arith))
-          ]
-        ]
-
     -- the next step gives the first piece
     pub onward-first : piecesLeft h l t n p ≡ pieceBetween p (onward h l t n p) ∷ piecesLeft h l t n (onward h l t n p)
-    onward-first = elim (decLe 1 (p .left)) [
-      | yes some ↦ rw (sym (onward-hold h l t n p some)) (hold-first some)
-      | no none ↦ elim (ℕ-discrete (p .level) t) [
-        | yes e ↦ rw (sym (onward-rest h l t n p (omega arith) e)) (rest-first (omega arith) (from-target h l t (p .level) e))
-        | no e ↦ rw (sym (onward-along h l t n p (omega arith) e)) (segment-first (omega arith) (short-past h t (p .level) sh e))
-      ]
-    ]
+    onward-first = onward-cases h l t n p sh First hold-first (λ none e. rest-first none (from-target h l t (p .level) e))
+        (λ none past z. rest-first none (from-stuck h l t (p .level) past z)) (λ none past some lt. short-first none past some lt)
+        (λ none past some le. run-first none past some le)
 
 -- those from a course's beginning are the pieces of the course
 pub all-left : (u : UnitData) (c : Course) (up : Bool) → up ≡ ltb (c .start .grains) (grains (c .target)) → (a n : ℕ) →

@@ -2,22 +2,21 @@
 use Prim.Native.Nat.{ℕ, _+_, _*_, _-_, _/_, min, max, _≤_, _<_}
 use mathlib.Core.Path.{_≡_, refl, ap, sym, _∙_}
 use native.Mathlib.Nat.{mul-le-mul-right}
-use native.Mathlib.Decide.{decLe, ℕ-discrete}
+use native.Mathlib.Decide.{ℕ-discrete}
 use native.Mathlib.Omega.{arith}
 use borrow.Author.Tests.{lt-ltb}
-use Rattle.course.specs.declared.Segment.{Segment}
 use Rattle.course.specs.Lists.{Lists}
 use Rattle.course.specs.Course.{Heading, rising, falling, Moment, toward, gap, rateAt, nextStop, holdAt, after}
 use Rattle.course.specs.Pieces.{piece}
 use Rattle.course.specs.Headings.{Past, Short}
-use Rattle.course.proofs.Near.{short-past, past-short, past-on, gap-to, gap-left, toward-zero}
+use Rattle.course.proofs.Near.{past-short, past-on, gap-to, gap-left, toward-zero}
 use Rattle.course.proofs.Ahead.{next-past}
 use Rattle.course.proofs.Rule.{at, after-rest}
 use Rattle.course.proofs.Pieces.{Room, Line, Traces, line, room-less}
 use Rattle.course_walk.specs.declared.Place.{Place}
 use Rattle.course_stops.specs.Ahead.{segmentTo, segmentFrom}
-use Rattle.course_walk.specs.Walk.{momentOf, afterHold, afterRest, afterRun, afterShort, along, onward, standing}
-use Rattle.course_walk.proofs.Onward.{full-way, full-some, along-stuck, along-short, along-run, onward-hold, onward-rest, onward-along}
+use Rattle.course_walk.specs.Walk.{momentOf, afterHold, afterRest, afterRun, afterShort, onward, standing}
+use Rattle.course_walk.proofs.Onward.{full-way, full-some, onward-cases}
 use Rattle.course_walk.proofs.Seconds.{holds, stuck, runs, stops, after-add}
 
 -- from p to q the rule of one second goes along a straight piece
@@ -102,7 +101,7 @@ module _ (h : Heading) (l : Lists) (t n : ℕ) (p : Place) (before : p .second <
       straight-step 0 f (afterRest n p) (omega arith) (omega arith) (omega arith) sh (g f) (still f f (p .level))
       (room-less h (p .level) (f * 0) 0 (omega arith) (room-none h (p .level))) (λ i k. ap (λ (m : Moment). m .level) (g i) ∙ still f i (p .level))
 
-  left : (1 ≤ p .left → ⊥) → p .left ≡ 0
+  left : p .left ≤ 0 → p .left ≡ 0
   left none = omega arith
 
   -- along the segment to the next stop
@@ -160,32 +159,14 @@ module _ (h : Heading) (l : Lists) (t n : ℕ) (p : Place) (before : p .second <
         (λ i k. ap (λ (m : Moment). after h l t i m .level) begins
         ∙ ap (λ (m : Moment). m .level) (runs h l t v ahead some i (omega (arith, fw, mul-le-mul-right rate k))))
 
-  segment-step : p .left ≤ 0 → Past h (p .level) t → PieceStep h l t n p (along h n p (segmentFrom h l t (p .level)))
-  unfolding segmentFrom segmentTo
-  segment-step none-left ahead =
-      let v : ℕ = p .level in
-      let s : Segment = segmentFrom h l t v in
-      elim (ℕ-discrete (rateAt h l v) 0) [
-        | yes z ↦ rw (sym (along-stuck h n p s z))
-            (rest-step (past-short h v t ahead) (λ k. ap (after h l t k) {x = momentOf p} {y = at v 0} (ap (at v) (omega arith))
-            ∙ stuck h l t k v ahead z))
-        | no z ↦ elim (decLe (rateAt h l v) (gap v (nextStop h l t v))) [
-          | yes le ↦ rw (sym (along-run h n p s z le)) (run-step none-left ahead (omega arith) le)
-          | no le ↦ rw (sym (along-short h n p s z (omega arith))) (short-step none-left ahead (omega arith) (omega arith))
-        ]
-      ]
-
   -- whatever comes next
   pub onward-step : Short h t (p .level) → PieceStep h l t n p (onward h l t n p)
-  onward-step sh = elim (decLe 1 (p .left)) [
-    | yes some ↦ rw (sym (onward-hold h l t n p some)) (hold-step some sh)
-    | no none ↦ elim (ℕ-discrete (p .level) t) [
-      | yes e ↦ rw (sym (onward-rest h l t n p (omega arith) e))
-          (rest-step sh (λ k. ap (after h l t k) {x = momentOf p} {y = at t 0} (λ i. at (e i) (left none i)) ∙ after-rest h l t k
-          ∙ ap (λ (w : ℕ). at w 0) (sym e)))
-      | no e ↦ rw (sym (onward-along h l t n p (omega arith) e)) (segment-step (omega arith) (short-past h t (p .level) sh e))
-    ]
-  ]
+  onward-step sh = onward-cases h l t n p sh (PieceStep h l t n p) (λ some. hold-step some sh)
+      (λ none e. rest-step sh (λ k. ap (after h l t k) {x = momentOf p} {y = at t 0} (λ i. at (e i) (left none i)) ∙ after-rest h l t k
+      ∙ ap (λ (w : ℕ). at w 0) (sym e)))
+      (λ none past z. rest-step sh (λ k. ap (after h l t k) {x = momentOf p} {y = at (p .level) 0} (ap (at (p .level)) (left none))
+      ∙ stuck h l t k (p .level) past z))
+      (λ none past some lt. short-step none past some lt) (λ none past some le. run-step none past some le)
 
 -- ---- one piece after another, to the second n
 pub standing-on : {h : Heading} {l : Lists} {t n : ℕ} {p q : Place} → PieceStep h l t n p q → standing h l t n q ≡ standing h l t n p
