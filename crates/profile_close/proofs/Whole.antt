@@ -151,19 +151,14 @@ module _ (t : Taken) (n : ℕ) (places : length (t .instructions) ≡ instructio
   unfolding arraysOf overlaidAll walkAll walkOf coursesFrom found foundBy
   find-is r by =
       let walk : r .walk ≡ walkAll u first acts = by .walk ∙ ap (walkAll u first) acts-are in
-      λ i. record {
-        fates =
-            (ap (λ (x : Walk). overAll (v .fates) (min (t .count) instructionPlaces) (marksFrom (v .acts) (x .fates) 0 (v .acting))) walk ∙ fates-are)
-            i;
-        started = (ap (λ (x : Walk). x .started) walk ∙ sym (length-map (f .courses) courseOf)) i;
-        courses = (ap (λ (x : Walk). x .courses) walk) i;
-        sums = (by .sums
-            ∙ ap (λ (os : List Numbered). filled boundaryPlaces 0 (listFrom (twinTo (spansOf u end (coursesFrom u first os))) 0 (suc n))) acts-are
-            ∙ ap (filled boundaryPlaces 0) sums-are
-            ) i;
-        last = (ap (λ (x : Walk). x .now) walk) i;
-        end = (by .end ∙ ap (λ (os : List Numbered). stateAt byRule u (lastIn u first os) end) acts-are) i;
-      }
+      let fates =
+      ap (λ (x : Walk). overAll (v .fates) (settled .count) (marksFrom (v .acts) (x .fates) 0 (v .acting))) walk ∙ fates-are in
+      let started = ap (λ (x : Walk). x .started) walk ∙ sym (length-map (f .courses) courseOf) in
+      let sums =
+      by .sums ∙ ap (λ (os : List Numbered). filled boundaryPlaces 0 (listFrom (twinTo (spansOf u end (coursesFrom u first os))) 0 (suc n))) acts-are
+      ∙ ap (filled boundaryPlaces 0) sums-are in
+      let state = by .end ∙ ap (λ (os : List Numbered). stateAt byRule u (lastIn u first os) end) acts-are in
+      λ i. record { fates = fates i; started = started i; courses = walk i .courses; sums = sums i; last = walk i .now; end = state i }
 
 -- ---- the sums that are found, in a day of n half-hours
 

@@ -11,7 +11,7 @@ unfolding listsBy ratesOf
 returns c =
     let g = c .before .before .before .before in
     let a = g .before .args in
-    c .rate-of-ramp .ensures ∙ rate-up (listsBy (a .l) (a .c)) _ _ _ (g .grains-of .ensures .0)
+    c .rate-of-ramp .ensures ∙ rate-up (listsBy (a .l) (a .c)) _ _ _ (g .grains-of .ensures .is)
     (c .before .before .before .in-ramp .ensures) (c .before .before .if1 .taken)
 
 returns-2 : tie.Need-returns-2
@@ -19,7 +19,7 @@ unfolding listsBy ratesOf
 returns-2 c =
     let g = c .before .before .before .before in
     let a = g .before .args in
-    c .rate-of-column .ensures ∙ rate-column (listsBy (a .l) (a .c)) _ _ _ (g .grains-of .ensures .0)
+    c .rate-of-column .ensures ∙ rate-column (listsBy (a .l) (a .c)) _ _ _ (g .grains-of .ensures .is)
     (c .before .before .before .in-ramp .ensures) (c .before .before .if1 .left)
 
 pub rate-rising-spec : {M : Type 1} → statement M

@@ -9,7 +9,7 @@ returns : tie.Need-returns
 returns c =
     let g = c .before .before .before .before in
     let s = g .before .before in
-    rw (c .deload-break .ensures, g .before .grains-of .ensures .0)
+    rw (c .deload-break .ensures, g .before .grains-of .ensures .is)
     (falling-below (s .args .l) (s .args .c) (grains (s .args .c .target)) (s .args .v) (omega arith))
 
 returns-2 : tie.Need-returns-2
@@ -18,7 +18,7 @@ returns-2 c =
     let m = d .before .before in
     let g = m .before .before in
     let s = g .before .before in
-    rw (c .ramp-breaks .ensures, d .dwell-stops .ensures, m .nearer .ensures, g .«grains-of2» .ensures .0, g .before .grains-of .ensures .0)
+    rw (c .ramp-breaks .ensures, d .dwell-stops .ensures, m .nearer .ensures, g .«grains-of2» .ensures .is, g .before .grains-of .ensures .is)
     (falling-above (s .args .l) (s .args .c) (grains (s .args .c .target)) (s .args .v) (omega arith))
 
 pub stop-falling-spec : {M : Type 1} → statement M

@@ -10,7 +10,7 @@ returns c =
     let d = c .before .before .before in
     let g = d .before .before .before in
     let s = g .before .before in
-    rw (c .ramp-breaks .ensures, d .dwell-stops .ensures, g .before .grains-of .ensures .0)
+    rw (c .ramp-breaks .ensures, d .dwell-stops .ensures, g .before .grains-of .ensures .is)
     (rising-above (s .args .l) (s .args .c) (grains (s .args .c .target)) (s .args .v) (omega arith))
 
 returns-2 : tie.Need-returns-2
@@ -19,7 +19,7 @@ returns-2 c =
     let m = k .before .before .before in
     let g = m .before .before in
     let s = g .before .before in
-    rw (c .column-breaks .ensures, k .soak-stops .ensures, m .nearer .ensures, g .«grains-of2» .ensures .0, g .before .grains-of .ensures .0)
+    rw (c .column-breaks .ensures, k .soak-stops .ensures, m .nearer .ensures, g .«grains-of2» .ensures .is, g .before .grains-of .ensures .is)
     (rising-below (s .args .l) (s .args .c) (grains (s .args .c .target)) (s .args .v) (omega arith))
 
 pub stop-rising-spec : {M : Type 1} → statement M

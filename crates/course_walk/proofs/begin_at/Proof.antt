@@ -26,7 +26,7 @@ returns c =
     let g = c .before .before in
     let s = start g in
     c .arrived .ensures ∙ reached-none (headed (s .args .up)) (listsBy (s .args .l) (s .args .c)) (grains (s .args .c .target)) (place s)
-    (ap (still s) (sym (g .grains-of .ensures .0)) ∙ c .before .if1 .taken)
+    (ap (still s) (sym (g .grains-of .ensures .is)) ∙ c .before .if1 .taken)
 
 returns-2 : tie.Need-returns-2
 returns-2 c =
@@ -34,7 +34,7 @@ returns-2 c =
     let s = start g in
     ap (λ (x : Segment). record { place = place s; rest = x }) (c .segment-from .ensures)
     ∙ reached-found (headed (s .args .up)) (listsBy (s .args .l) (s .args .c)) (grains (s .args .c .target)) (place s)
-    (ap (still s) (sym (g .grains-of .ensures .0)) ∙ c .before .if1 .left)
+    (ap (still s) (sym (g .grains-of .ensures .is)) ∙ c .before .if1 .left)
 
 pub begin-at-spec : {M : Type 1} → statement M
 begin-at-spec = tie.close (tie.spec (λ c κs. search needs) (λ c κs. search needs) returns (λ c κs. search needs) returns-2)
