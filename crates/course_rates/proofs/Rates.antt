@@ -57,16 +57,13 @@ module _ (h : Heading) (v : ℕ) where
 
   pub passed-four : (bs : List ℕ) → length bs ≡ 4 →
       one (getD bs 0 0) + one (getD bs 1 0) + one (getD bs 2 0) + one (getD bs 3 0) ≡ passed h v (map grains bs)
-  passed-four bs e =
-      rw (four-of 0 bs e) (omega (
-        arith,
-        none,
-        passed-cons h v (grains (getD bs 0 0))
-            (grains (getD bs 1 0) ∷ grains (getD bs 2 0) ∷ grains (getD bs 3 0) ∷ []),
-        passed-cons h v (grains (getD bs 1 0))
-            (grains (getD bs 2 0) ∷ grains (getD bs 3 0) ∷ []),
-        passed-cons h v (grains (getD bs 2 0)) (grains (getD bs 3 0) ∷ []),
-      ))
+  passed-four bs e = rw (four-of 0 bs e) (omega (
+    arith,
+    none,
+    passed-cons h v (grains (getD bs 0 0)) (grains (getD bs 1 0) ∷ grains (getD bs 2 0) ∷ grains (getD bs 3 0) ∷ []),
+    passed-cons h v (grains (getD bs 1 0)) (grains (getD bs 2 0) ∷ grains (getD bs 3 0) ∷ []),
+    passed-cons h v (grains (getD bs 2 0)) (grains (getD bs 3 0) ∷ []),
+  ))
 
   pub passed-two : (bs : List ℕ) → length bs ≡ 2 → one (getD bs 0 0) + one (getD bs 1 0) ≡ passed h v (map grains bs)
   passed-two bs e = rw (two-of 0 bs e) (omega (arith, none, passed-cons h v (grains (getD bs 0 0)) (grains (getD bs 1 0) ∷ [])))

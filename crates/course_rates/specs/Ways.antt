@@ -1,10 +1,12 @@
 -- Working. A course as the code goes along it.
-use Prim.Native.Nat.{ℕ}
+use Prim.Native.Nat.{ℕ, _<_}
+use mathlib.Core.Path.{_≡_}
 use mathlib.Core.Bool.{Bool, true, false}
 use mathlib.Core.List.{List, map}
 use lib.Dec.{leb, ltb}
 use Rattle.level.specs.Lists.{those}
 use Rattle.level.specs.Level.{grains}
+use Rattle.level.specs.Bounds.{levelBound}
 use Rattle.records.specs.declared.Trigger.{Trigger}
 use Rattle.records.specs.declared.Ramp.{Ramp}
 use Rattle.records.specs.declared.UnitData.{UnitData}
@@ -12,6 +14,11 @@ use Rattle.course.specs.declared.Course.{Course}
 use Rattle.course.specs.Lists.{Lists, ratesOf, inGrains, columnFor, replaced, listsOf}
 use Rattle.course.specs.Course.{Heading, rising, falling}
 use Rattle.course_rates.specs.declared.OwnLists.{OwnLists}
+
+-- so many kW in grains
+pub record GrainsOf (kw r : ℕ) : Type 0 where
+  pub is : r ≡ grains kw
+  pub low : r < levelBound
 
 -- the heading, rising or not
 abbrev pub headed : Bool → Heading

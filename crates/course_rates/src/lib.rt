@@ -5,10 +5,9 @@ ghost use mathlib.Core.List.{[], _∷_, map};
 ghost use lib.ListN.{getD};
 ghost use Rattle.level.specs.Choice.{pick};
 ghost use Rattle.level.specs.Level.{grains};
-ghost use Rattle.level.specs.Bounds.{levelBound};
 ghost use Rattle.course.specs.Lists.{placeOf, columnFor, replaced};
 ghost use Rattle.course.specs.Course.{rising, falling, passed, rateAt, noCourse};
-ghost use Rattle.course_rates.specs.Ways.{headed, ownLists, listsBy, ramping};
+ghost use Rattle.course_rates.specs.Ways.{GrainsOf, headed, ownLists, listsBy, ramping};
 
 // What a place for a course holds that none has taken.
 pub fn no_course() -> course::Course
@@ -27,7 +26,7 @@ pub fn no_course() -> course::Course
 
 // So many kW in grains.
 pub fn grains_of(kw: u32) -> u64
-    ensures { λ r. ⌜ (r ≡ grains kw) × (r < levelBound) ⌝ }
+    ensures { λ r. ⌜ GrainsOf kw r ⌝ }
 {
     let l = level::Level::from_kw(kw);
     l.grains

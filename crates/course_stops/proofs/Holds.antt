@@ -54,15 +54,12 @@ module _ (w : ℕ) where
 
   pub held-three : (d : Trigger) (gs : List Trigger) → length gs ≡ 3 →
       one (getD gs 0 d) + one (getD gs 1 d) + one (getD gs 2 d) ≡ holding w (map inGrains gs)
-  held-three d gs e =
-      rw (three-of d gs e)
-      (omega (
-        arith,
-        none,
-        holding-cons (inGrains (getD gs 0 d)) (inGrains (getD gs 1 d) ∷ inGrains (getD gs 2 d) ∷ []),
-        holding-cons
-            (inGrains (getD gs 1 d)) (inGrains (getD gs 2 d) ∷ []),
-      ))
+  held-three d gs e = rw (three-of d gs e) (omega (
+    arith,
+    none,
+    holding-cons (inGrains (getD gs 0 d)) (inGrains (getD gs 1 d) ∷ inGrains (getD gs 2 d) ∷ []),
+    holding-cons (inGrains (getD gs 1 d)) (inGrains (getD gs 2 d) ∷ []),
+  ))
 
   pub held-two : (d : Trigger) (gs : List Trigger) → length gs ≡ 2 → one (getD gs 0 d) + one (getD gs 1 d) ≡ holding w (map inGrains gs)
   held-two d gs e = rw (two-of d gs e) (omega (arith, none, holding-cons (inGrains (getD gs 0 d)) (inGrains (getD gs 1 d) ∷ [])))

@@ -80,15 +80,12 @@ module _ {A : Type 0} (d : A) (f : List A → List ℕ) (f-cons : (x : A) (xs : 
   two-steps xs e = rw (two-of d xs e) (sym (cons (getD xs 0 d) (getD xs 1 d ∷ [])))
 
   three-steps : (xs : List A) → length xs ≡ 3 → step (getD xs 0 d) (step (getD xs 1 d) (step (getD xs 2 d) n)) ≡ nearest h v n (f xs)
-  three-steps xs e =
-      rw (three-of d xs e)
+  three-steps xs e = rw (three-of d xs e)
       (ap (step (getD xs 0 d)) (sym (cons (getD xs 1 d) (getD xs 2 d ∷ []))) ∙ sym (cons (getD xs 0 d) (getD xs 1 d ∷ getD xs 2 d ∷ [])))
 
   four-steps : (xs : List A) → length xs ≡ 4 →
       step (getD xs 0 d) (step (getD xs 1 d) (step (getD xs 2 d) (step (getD xs 3 d) n))) ≡ nearest h v n (f xs)
-  four-steps xs e =
-      rw (four-of d xs e)
-      (ap (λ (k : ℕ). step (getD xs 0 d) (step (getD xs 1 d) k)) (sym (cons (getD xs 2 d) (getD xs 3 d ∷ [])))
+  four-steps xs e = rw (four-of d xs e) (ap (λ (k : ℕ). step (getD xs 0 d) (step (getD xs 1 d) k)) (sym (cons (getD xs 2 d) (getD xs 3 d ∷ [])))
       ∙ ap (step (getD xs 0 d)) (sym (cons (getD xs 1 d) (getD xs 2 d ∷ getD xs 3 d ∷ [])))
       ∙ sym (cons (getD xs 0 d) (getD xs 1 d ∷ getD xs 2 d ∷ getD xs 3 d ∷ [])))
 
@@ -102,8 +99,7 @@ those-cons f x xs = go (f x)
 
 timed-cons : (g : Trigger) (gs : List Trigger) → timedLevels (g ∷ gs) ≡ timedLevels (g ∷ []) ++ timedLevels gs
 unfolding timedLevels
-timed-cons g gs =
-    ap (map (λ (g : Trigger). grains (g .level))) (those-cons (λ (g : Trigger). ltb 0 (g .minutes)) g gs)
+timed-cons g gs = ap (map (λ (g : Trigger). grains (g .level))) (those-cons (λ (g : Trigger). ltb 0 (g .minutes)) g gs)
     ∙ map-append (λ (g : Trigger). grains (g .level)) (those (λ (g : Trigger). ltb 0 (g .minutes)) (g ∷ []))
     (those (λ (g : Trigger). ltb 0 (g .minutes)) gs)
 

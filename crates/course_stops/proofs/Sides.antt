@@ -141,10 +141,8 @@ module _ (v t m : ℕ) (rs ls ds ss : List ℕ) where
         sym (up-behind v t m p),
         near-all-of rising v t (leb m) (out t) ds,
         near-none-of rising v d under (behind d) ss,
-        near-all-of rising v d
-            (leb m) (out d) rs,
-      )
-      (near-none-of rising v (up d rs) under (behind (up d rs)) ls)
+        near-all-of rising v d (leb m) (out d) rs,
+      ) (near-none-of rising v (up d rs) under (behind (up d rs)) ls)
 
   -- below it, MSG comes before what is above
   up-below : v < m → up-all ≡ up (up (up t (m ∷ [])) ss) ls
@@ -158,10 +156,8 @@ module _ (v t m : ℕ) (rs ls ds ss : List ℕ) where
       rw (
         near-none-of rising v n (leb m) (beyond n first) ds,
         near-all-of rising v n under (out n first) ss,
-        near-none-of rising v s (leb m)
-            (beyond s then) rs,
-      )
-      (near-all-of rising v s under (out s then) ls)
+        near-none-of rising v s (leb m) (beyond s then) rs,
+      ) (near-all-of rising v s under (out s then) ls)
 
   -- falling
   abbrev down : ℕ → List ℕ → ℕ
@@ -175,14 +171,11 @@ module _ (v t m : ℕ) (rs ls ds ss : List ℕ) where
 
   -- at or below MSG what is above it lies behind
   down-below : v ≤ m → down-all ≡ down t ls
-  down-below p =
-      rw (
-        sym (down-behind v t m p),
-        near-none-of falling v t (leb m) (λ w e q. omega (arith, leb-true m w e)) ds,
-        near-all-of falling v t upto
-            (λ w e q. omega (arith, leb-false w m e)) ls,
-      )
-      (near-none-of falling v (down t ls) (ltb m) (λ w e q. omega (arith, ltb-true m w e)) rs)
+  down-below p = rw (
+    sym (down-behind v t m p),
+    near-none-of falling v t (leb m) (λ w e q. omega (arith, leb-true m w e)) ds,
+    near-all-of falling v t upto (λ w e q. omega (arith, leb-false w m e)) ls,
+  ) (near-none-of falling v (down t ls) (ltb m) (λ w e q. omega (arith, ltb-true m w e)) rs)
 
   -- above it, MSG comes before what is below
   down-above : m < v → down-all ≡ down (down (down t (m ∷ [])) ds) rs
@@ -193,10 +186,8 @@ module _ (v t m : ℕ) (rs ls ds ss : List ℕ) where
       let then : m ≤ d = omega (arith, down-least v n ds) in
       rw (
         near-all-of falling v n (leb m) (λ w e q. omega (arith, leb-false m w e)) ds,
-        near-none-of falling v d upto
-            (λ w e q. omega (arith, leb-true w m e)) ls,
-      )
-      (near-all-of falling v d (ltb m) (λ w e q. omega (arith, ltb-false m w e)) rs)
+        near-none-of falling v d upto (λ w e q. omega (arith, leb-true w m e)) ls,
+      ) (near-all-of falling v d (ltb m) (λ w e q. omega (arith, ltb-false m w e)) rs)
 
 -- the triggers that count are those with minutes whose level passes the test
 counted : (f : ℕ → Bool) (gs : List Trigger) → map (λ (g : Trigger). g .level) (counting f (map inGrains gs)) ≡ those f (timedLevels gs)
@@ -248,17 +239,14 @@ module _ (l : OwnLists) (c : Course) (t v : ℕ) where
       let ys : List ℕ = those (leb msg) ramp in
       let ss : List Trigger = counting below (map inGrains (l .column .soaks)) in
       let ds : List Trigger = counting (leb msg) (map inGrains (l .dwells)) in
-      rw (sym (counted below (l .column .soaks)), sym (counted (leb msg) (l .dwells)))
-      (ap (λ (k : ℕ). nearest rising v (nearest rising v k ys) xs)
+      rw (sym (counted below (l .column .soaks)), sym (counted (leb msg) (l .dwells))) (ap (λ (k : ℕ). nearest rising v (nearest rising v k ys) xs)
       (sym (near-append rising v n (map (λ (g : Trigger). g .level) ss) (map (λ (g : Trigger). g .level) ds))
       ∙ ap (nearest rising v n) (sym (map-append (λ (g : Trigger). g .level) ss ds)))
       ∙ all-of rising v t msg xs ys (map (λ (g : Trigger). g .level) (ss ++ ds)))
 
   next-falling : down-all v t msg ramp deload dwells soaks ≡ nextStop falling (listsBy l c) t v
   unfolding nextStop candidates breaksInUse triggers listsBy ratesOf
-  next-falling =
-      rw (sym (counted (leb msg) (l .dwells)))
-      (all-of falling v t msg (those (ltb msg) ramp) (those (λ w. leb w msg) deload)
+  next-falling = rw (sym (counted (leb msg) (l .dwells))) (all-of falling v t msg (those (ltb msg) ramp) (those (λ w. leb w msg) deload)
       (map (λ (g : Trigger). g .level) (counting (leb msg) (map inGrains (l .dwells)))))
 
   pub rising-above : msg ≤ v → nearest rising v (nearest rising v t dwells) ramp ≡ nextStop rising (listsBy l c) t v

@@ -1,6 +1,6 @@
 // A course at a level: its next stop, the hold there, the segment that lies ahead.
 ghost use mathlib.Core.Path.{_≡_};
-ghost use Prim.Native.Nat.{_+_, _*_, _-_, _<_, _≤_};
+ghost use Prim.Native.Nat.{_+_, _*_, _-_, _<_, _≤_, _^_};
 ghost use mathlib.Core.List.{[], _∷_, map};
 ghost use lib.Dec.{ltb};
 ghost use Rattle.level.specs.Choice.{pick};
@@ -14,7 +14,7 @@ ghost use Rattle.course_stops.specs.Ahead.{segmentTo, segmentFrom};
 
 // The seconds for which a trigger holds the level w.
 fn held_one(w: u64, g: records::Trigger) -> u64
-    ensures { λ r. ⌜ (r ≡ holding w (inGrains g ∷ [])) × (r ≤ 257698037760) ⌝ }
+    ensures { λ r. ⌜ (r ≡ holding w (inGrains g ∷ [])) × (r ≤ 60 * 2 ^ 32) ⌝ }
 {
     let at = course_rates::grains_of(g.level);
     if at == w {
@@ -25,7 +25,7 @@ fn held_one(w: u64, g: records::Trigger) -> u64
 
 // Added where triggers coincide.
 fn held_three(w: u64, gs: [records::Trigger; 3]) -> u64
-    ensures { λ r. ⌜ (r ≡ holding w (map inGrains gs)) × (r ≤ 773094113280) ⌝ }
+    ensures { λ r. ⌜ (r ≡ holding w (map inGrains gs)) × (r ≤ 180 * 2 ^ 32) ⌝ }
 {
     let a = held_one(w, gs[0]);
     let b = held_one(w, gs[1]);
@@ -34,7 +34,7 @@ fn held_three(w: u64, gs: [records::Trigger; 3]) -> u64
 }
 
 fn held_two(w: u64, gs: [records::Trigger; 2]) -> u64
-    ensures { λ r. ⌜ (r ≡ holding w (map inGrains gs)) × (r ≤ 773094113280) ⌝ }
+    ensures { λ r. ⌜ (r ≡ holding w (map inGrains gs)) × (r ≤ 180 * 2 ^ 32) ⌝ }
 {
     let a = held_one(w, gs[0]);
     let b = held_one(w, gs[1]);
@@ -45,7 +45,7 @@ fn held_two(w: u64, gs: [records::Trigger; 2]) -> u64
 fn soaked(l: course_rates::OwnLists, c: course::Course, up: bool, w: u64) -> u64
     requires { ⌜ w < grains (l .msg) ⌝ }
     requires { ⌜ (w ≡ grains (c .target) → ⊥) ⌝ }
-    ensures { λ r. ⌜ (r ≡ holdAt (headed up) (listsBy l c) (grains (c .target)) w) × (r ≤ 773094113280) ⌝ }
+    ensures { λ r. ⌜ (r ≡ holdAt (headed up) (listsBy l c) (grains (c .target)) w) × (r ≤ 180 * 2 ^ 32) ⌝ }
 {
     if up {
         let column = l.column;
@@ -57,7 +57,7 @@ fn soaked(l: course_rates::OwnLists, c: course::Course, up: bool, w: u64) -> u64
 
 // The hold (seconds) at the stop w.
 pub fn hold_at(l: course_rates::OwnLists, c: course::Course, up: bool, w: u64) -> u64
-    ensures { λ r. ⌜ (r ≡ holdAt (headed up) (listsBy l c) (grains (c .target)) w) × (r ≤ 773094113280) ⌝ }
+    ensures { λ r. ⌜ (r ≡ holdAt (headed up) (listsBy l c) (grains (c .target)) w) × (r ≤ 180 * 2 ^ 32) ⌝ }
 {
     let t = course_rates::grains_of(c.target);
     if w == t {

@@ -32,8 +32,7 @@ area-same f g e a n = sum-eq (λ j. f j + f (suc j)) (λ j. g j + g (suc j)) (λ
 -- counted from x on
 pub area-from : (f : ℕ → ℕ) (x n : ℕ) → area f x n ≡ area (λ j. f (x + j)) 0 n
 unfolding area
-area-from f x n =
-    ap (λ (k : ℕ). sum (λ j. f j + f (suc j)) k n) {x = x} {y = x + 0} (omega arith) ∙ sum-from (λ j. f j + f (suc j)) x 0 n
+area-from f x n = ap (λ (k : ℕ). sum (λ j. f j + f (suc j)) k n) {x = x} {y = x + 0} (omega arith) ∙ sum-from (λ j. f j + f (suc j)) x 0 n
     ∙ sum-eq (λ j. f (x + j) + f (suc (x + j))) (λ j. f (x + j) + f (x + suc j)) (λ j. ap (λ (k : ℕ). f (x + j) + f k) (omega arith)) 0 n
 
 module _ (h : Heading) (l : Lists) (t n : ℕ) where
@@ -70,5 +69,4 @@ module _ (u : UnitData) (c : Course) (up : Bool) (rises : up ≡ ltb (c .start .
       let x : ℕ = m - a in
       ap (area (λ k. after (headed up) (listsIn u c) (grains (c .target)) k (momentOf (here a m)) .level) 0) (ap (λ (k : ℕ). n - k) (second-is a m))
       ∙ area-same (λ k. after (headed up) (listsIn u c) (grains (c .target)) k (momentOf (here a m)) .level) (λ j. levelAt (trajectoryOf u c) (x + j))
-      (λ j. ap (λ (q : Moment). q .level) (later-is a m j)) 0 (n - m)
-      ∙ sym (area-from (levelAt (trajectoryOf u c)) x (n - m))
+      (λ j. ap (λ (q : Moment). q .level) (later-is a m j)) 0 (n - m) ∙ sym (area-from (levelAt (trajectoryOf u c)) x (n - m))

@@ -26,9 +26,9 @@ use Rattle.course.proofs.Rule.{segments-more, segments-stuck, segments-none}
 use Rattle.course_walk.specs.declared.Place.{Place}
 use Rattle.course_rates.specs.Ways.{headed, listsIn}
 use Rattle.course_stops.specs.Ahead.{segmentTo, segmentFrom}
-use Rattle.course_walk.specs.Walk.{beginning, pieceBetween, afterHold, afterRest, afterRun, afterShort, along, onward, segmentsFrom, piecesLeft}
+use Rattle.course_walk.specs.Walk.{beginning, pieceBetween, afterHold, afterRest, afterRun, afterShort, onward, segmentsFrom, piecesLeft}
 use Rattle.course_walk.proofs.Courses.{heading-is}
-use Rattle.course_walk.proofs.Onward.{full-way, full-some, along-stuck, along-short, along-run, onward-hold, onward-rest, onward-along}
+use Rattle.course_walk.proofs.Onward.{full-way, full-some, onward-cases}
 
 -- ---- the segments from a level
 module _ (h : Heading) (l : Lists) (t : ℕ) where
@@ -99,8 +99,7 @@ pieces-none h n a v (s ∷ ls) p =
       no-piece a (a + full) v near (omega arith),
       no-piece (a + full) reached near stop (omega arith),
       no-piece reached held stop stop (omega arith),
-    )
-    (pieces-none h n held stop ls (omega arith))
+    ) (pieces-none h n held stop ls (omega arith))
 
 -- the whole seconds that a way takes
 module _ (s : Segment) (some : 1 ≤ s .rate) where
@@ -145,8 +144,7 @@ module _ (h : Heading) (n a v : ℕ) (s : Segment) (ls : List Segment) (some : 1
       let e : near ≡ v = ap (λ (k : ℕ). toward h v (k * s .rate)) f ∙ ap (toward h v) {x = 0 * s .rate} {y = 0} (omega arith) ∙ toward-zero h v in
       let r : reached ≡ a + 1 = omega arith in
       let d : held ≡ min (a + 1 + s .hold) n = omega arith in
-      rw (no-piece a (a + full) v near (omega arith), r, d)
-      (ap (λ (ps : List Piece). ps ++ hold-on h n (a + 1) (s .hold) stop ls)
+      rw (no-piece a (a + full) v near (omega arith), r, d) (ap (λ (ps : List Piece). ps ++ hold-on h n (a + 1) (s .hold) stop ls)
       (some-piece (a + full) (a + 1) near stop (omega arith) ∙ (λ i. record { from = (omega-eq f) i; to = a + 1; enter = e i; leave = stop } ∷ [])))
     where
       omega-eq : {f : ℕ} → f ≡ 0 → a + f ≡ a
@@ -202,9 +200,7 @@ module _ (h : Heading) (n a v : ℕ) (s : Segment) (ls : List Segment) (some : 1
       let r : reached ≡ a + f + 1 = omega arith in
       let d : held ≡ min (a + f + 1 + s .hold) n = omega arith in
       let e : toward h near (rest .way) ≡ end = toward-add h v (f * s .rate) (rest .way) ∙ ap (toward h v) (omega arith) in
-      run-then
-      ∙ (rw (r, d, some-piece (a + f) (a + f + 1) near end (omega arith))
-      (ap (λ (ps : List Piece). run ∷ ps)
+      run-then ∙ (rw (r, d, some-piece (a + f) (a + f + 1) near end (omega arith)) (ap (λ (ps : List Piece). run ∷ ps)
       (ap (λ (w : ℕ). record { from = a + f; to = a + f + 1; enter = near; leave = w } ∷ hold-on h n (a + f + 1) (s .hold) w ls) (sym e)
       ∙ sym (short-pieces h n (a + f) near rest ls some p (omega arith) (omega arith)))))
 
@@ -238,8 +234,7 @@ module _ (h : Heading) (l : Lists) (t n : ℕ) where
 
     rest-first : p .left ≤ 0 → segmentsFrom h l t (p .level) ≡ [] → First (afterRest n p)
     unfolding pieceBetween afterRest piecesOf
-    rest-first z e =
-        no-hold p (omega arith) z
+    rest-first z e = no-hold p (omega arith) z
         ∙ rw (e, some-piece (p .second) n (p .level) (p .level) before, left-none (afterRest n p) (omega arith)) refl
 
     -- along the segment to the next stop
@@ -272,16 +267,14 @@ module _ (h : Heading) (l : Lists) (t n : ℕ) where
 
         whole-first : f * rateAt h l v ≡ gap v next → First there
         unfolding piecesLeft pieceBetween afterRun segmentFrom segmentTo
-        whole-first e =
-            begun ∙ whole-pieces h n (p .second) v seg (segmentsFrom h l t next) some before f is one e
+        whole-first e = begun ∙ whole-pieces h n (p .second) v seg (segmentsFrom h l t next) some before f is one e
             ∙ (rw (eq-eqb (f * rateAt h l v) (gap v next) e)
             (ap (λ (w : ℕ). pieceBetween p there ∷ hold-on h n (p .second + f) (seg .hold) (toward h v (f * rateAt h l v)) (segmentsFrom h l t w))
             (sym (ap (toward h v) e ∙ to-next))))
 
         cut-first : p .second + f ≡ n → First there
         unfolding pieceBetween afterRun segmentFrom segmentTo
-        cut-first e =
-            begun ∙ cut-pieces h n (p .second) v seg (segmentsFrom h l t next) some before f is one e
+        cut-first e = begun ∙ cut-pieces h n (p .second) v seg (segmentsFrom h l t next) some before f is one e
             ∙ ap (λ (ps : List Piece). pieceBetween p there ∷ ps) (sym (left-none there (omega arith)))
 
         part-first : p .second + f < n → f * rateAt h l v < gap v next → First there
@@ -310,28 +303,11 @@ module _ (h : Heading) (l : Lists) (t n : ℕ) where
             | no e ↦ elim (ℕ-discrete (p .second + f) n) [ yes c ↦ cut-first f refl one c | no c ↦ part-first f refl one (omega arith) (omega arith) ]
           ]
 
-    segment-first : p .left ≤ 0 → Past h (p .level) t → First (along h n p (segmentFrom h l t (p .level)))
-    unfolding segmentFrom segmentTo
-    segment-first z ahead =
-        let v : ℕ = p .level in
-        let s : Segment = segmentFrom h l t v in
-        elim (ℕ-discrete (rateAt h l v) 0) [
-          | yes e ↦ rw (sym (along-stuck h n p s e)) (rest-first z (from-stuck h l t v ahead e))
-          | no e ↦ elim (decLe (rateAt h l v) (gap v (nextStop h l t v))) [
-            | yes le ↦ rw (sym (along-run h n p s e le)) (run-first z ahead (omega arith) le)
-            | no le ↦ rw (sym (along-short h n p s e (omega arith))) (short-first z ahead (omega arith) (omega arith))
-          ]
-        ]
-
     -- the next step gives the first piece
     pub onward-first : piecesLeft h l t n p ≡ pieceBetween p (onward h l t n p) ∷ piecesLeft h l t n (onward h l t n p)
-    onward-first = elim (decLe 1 (p .left)) [
-      | yes some ↦ rw (sym (onward-hold h l t n p some)) (hold-first some)
-      | no none ↦ elim (ℕ-discrete (p .level) t) [
-        | yes e ↦ rw (sym (onward-rest h l t n p (omega arith) e)) (rest-first (omega arith) (from-target h l t (p .level) e))
-        | no e ↦ rw (sym (onward-along h l t n p (omega arith) e)) (segment-first (omega arith) (short-past h t (p .level) sh e))
-      ]
-    ]
+    onward-first = onward-cases h l t n p sh First hold-first (λ none e. rest-first none (from-target h l t (p .level) e))
+        (λ none past z. rest-first none (from-stuck h l t (p .level) past z)) (λ none past some lt. short-first none past some lt)
+        (λ none past some le. run-first none past some le)
 
 -- those from a course's beginning are the pieces of the course
 pub all-left : (u : UnitData) (c : Course) (up : Bool) → up ≡ ltb (c .start .grains) (grains (c .target)) → (a n : ℕ) →

@@ -1,6 +1,6 @@
 pub mod Onward
 pub mod Seconds
-pub mod Goes
+pub mod PieceStep
 pub mod Courses
 pub mod Left
 pub mod Areas

@@ -1,29 +1,29 @@
 -- One straight piece after another: each is what the rule of one second does.
-use Prim.Native.Nat.{ℕ, _+_, _*_, _-_, _/_, min, _≤_, _<_}
-use mathlib.Core.Path.{_≡_}
-use mathlib.Core.Bool.{Bool, true, false}
-use native.Mathlib.Decide.{decLe}
+use Prim.Native.Nat.{ℕ, _+_, _*_, _-_, _/_, _^_, min, _≤_, _<_}
+use mathlib.Core.Path.{_≡_, sym, subst}
+use mathlib.Core.Bool.{Bool, true, false, true≢false}
+use native.Mathlib.Decide.{decLe, ℕ-discrete}
 use native.Mathlib.Omega.{arith}
 use native.Mathlib.Nat.{mul-le-mul-right, div-add-mod', div-lt-iff-lt-mul}
 use borrow.Author.Tests.{lt-ltb, le-ltb, eq-eqb, ne-eqb}
 use Rattle.course.specs.declared.Segment.{Segment}
 use Rattle.course.specs.Lists.{Lists}
-use Rattle.course.specs.Course.{Heading, rising, falling, toward, gap, nextStop, second}
-use Rattle.course.specs.Headings.{Past}
-use Rattle.course.proofs.Near.{gap-to}
+use Rattle.course.specs.Course.{Heading, rising, falling, toward, gap, rateAt, nextStop, second}
+use Rattle.course.specs.Headings.{Past, Short}
+use Rattle.course.proofs.Near.{gap-to, short-past}
 use Rattle.course.proofs.Ahead.{next-past}
 use Rattle.course_walk.specs.declared.Place.{Place}
 use Rattle.course_rates.specs.Ways.{headed}
 use Rattle.course_stops.specs.Ahead.{segmentTo, segmentFrom}
 use Rattle.course_walk.specs.Walk.{Reaches, afterHold, afterRest, afterRun, afterShort, along, onward}
 
-pub room-up : (up : Bool) (v m : ℕ) → up ≡ true → Reaches (headed up) v m → v + m ≤ 18446744073709551615
+pub room-up : (up : Bool) (v m : ℕ) → up ≡ true → Reaches (headed up) v m → v + m < 2 ^ 64
 room-up true v m e r = r
-room-up false v m e r = let z : false ≡ true = e in let q : _≡_ {A = ℕ} 0 1 = cc in absurd (omega arith)
+room-up false v m e r = absurd (true≢false (sym e))
 
 pub room-down : (up : Bool) (v m : ℕ) → up ≡ false → Reaches (headed up) v m → m ≤ v
 room-down false v m e r = r
-room-down true v m e r = let z : true ≡ false = e in let q : _≡_ {A = ℕ} 0 1 = cc in absurd (omega arith)
+room-down true v m e r = absurd (true≢false e)
 
 pub reaches-less : (h : Heading) (v m n : ℕ) → m ≤ n → Reaches h v n → Reaches h v m
 reaches-less rising v m n p r = omega arith
@@ -65,8 +65,43 @@ module _ (h : Heading) (l : Lists) (t n : ℕ) (p : Place) where
   unfolding onward
   onward-along e q = simp (le-ltb 0 (p .left) e, ne-eqb (p .level) t q)
 
+-- what holds in each case holds of the next place: a hold, at the target, a rate of 0, a way shorter than the rate, whole seconds of it
+module _ (h : Heading) (l : Lists) (t n : ℕ) (p : Place) (sh : Short h t (p .level)) (P : Place → Type 0) where
+  abbrev v : ℕ
+  v = p .level
+
+  abbrev rate : ℕ
+  rate = rateAt h l v
+
+  abbrev way : ℕ
+  way = gap v (nextStop h l t v)
+
+  abbrev ahead : Segment
+  ahead = segmentFrom h l t v
+
+  pub onward-cases : (0 < p .left → P (afterHold n p)) → (p .left ≤ 0 → v ≡ t → P (afterRest n p)) →
+      (p .left ≤ 0 → Past h v t → rate ≡ 0 → P (afterRest n p)) →
+      (p .left ≤ 0 → Past h v t → 1 ≤ rate → way < rate → P (afterShort h p ahead)) →
+      (p .left ≤ 0 → Past h v t → 1 ≤ rate → rate ≤ way → P (afterRun h (min (way / rate) (n - p .second)) p ahead)) → P (onward h l t n p)
+  unfolding segmentFrom segmentTo
+  onward-cases hold rest stuck short run = elim (decLe 1 (p .left)) [
+    | yes some ↦ subst P (onward-hold h l t n p some) (hold some)
+    | no none ↦ elim (ℕ-discrete v t) [
+      | yes e ↦ subst P (onward-rest h l t n p (omega arith) e) (rest (omega arith) e)
+      | no e ↦
+          let past = short-past h t v sh e in
+          subst P (onward-along h l t n p (omega arith) e) (elim (ℕ-discrete rate 0) [
+            | yes z ↦ subst P (along-stuck h n p ahead z) (stuck (omega arith) past z)
+            | no z ↦ elim (decLe rate way) [
+              | yes le ↦ subst P (along-run h n p ahead z le) (run (omega arith) past (omega arith) le)
+              | no le ↦ subst P (along-short h n p ahead z (omega arith)) (short (omega arith) past (omega arith) (omega arith))
+            ]
+          ])
+    ]
+  ]
+
 -- there is room to the next stop
-pub reaches-stop : (h : Heading) (l : Lists) (t v : ℕ) → Past h v t → t ≤ 18446744073709551615 → Reaches h v (segmentFrom h l t v .way)
+pub reaches-stop : (h : Heading) (l : Lists) (t v : ℕ) → Past h v t → t < 2 ^ 64 → Reaches h v (segmentFrom h l t v .way)
 unfolding segmentFrom segmentTo gap
 reaches-stop rising l t v p m = let n = next-past rising l t v p in omega arith
 reaches-stop falling l t v p m = let n = next-past falling l t v p in omega arith

@@ -52,8 +52,7 @@ module _ (h : Heading) (l m : Lists) (a : Alike h l m) (t : ℕ) where
 
   alike-twice : (n : ℕ) (p : Place) → twiceTo h l t n p ≡ twiceTo h m t n p
   unfolding twiceTo
-  alike-twice n p =
-      area-same (λ k. after h l t k (momentOf p) .level) (λ k. after h m t k (momentOf p) .level)
+  alike-twice n p = area-same (λ k. after h l t k (momentOf p) .level) (λ k. after h m t k (momentOf p) .level)
       (λ k. ap (λ (o : Moment). o .level) (alike-after k (momentOf p))) 0 (n - p .second)
 
   alike-stops : (k v : ℕ) → stopsFrom h l t k v ≡ stopsFrom h m t k v

@@ -34,7 +34,7 @@ module _ (h : Heading) (l : Lists) (t : ℕ) (p : Place) where
     | no hold ↦ elim (ℕ-discrete (p .level) t) [
       | yes e ↦ subst (Known h l t) (reached-none (simp (le-ltb 0 (p .left) (omega arith), eq-eqb (p .level) t e))) (λ lt. absurd (omega arith))
       | no e ↦ subst (Known h l t) (reached-found (simp (le-ltb 0 (p .left) (omega arith), ne-eqb (p .level) t e)))
-          (λ lt. (omega arith, short-past h t (p .level) sh e, refl))
+          (λ lt. record { no-hold = omega arith; past = short-past h t (p .level) sh e; rest = refl })
     ]
   ]
 
@@ -80,11 +80,12 @@ module _ (h : Heading) (l : Lists) (t n : ℕ) (p : Place) (ahead : Past h (p .l
       let m = next-past h l t v ahead in
       let on = gap-left v stop h (f * rate) (m .0) q in
       let same : nextStop h l t x ≡ stop = next-same h l t v x (on .1) (on .0) in
-      let even : rateAt h l x ≡ rate = rate-same h l t v x (on .1) (on .0) in (
-        ap (λ (b : Bool). pick b (holdAt h l t stop) 0) (ne-eqb (f * rate) (gap v stop) (λ e. omega arith)),
-        past-on h x stop t (on .0) (m .1),
-        sym (rw (same, even, on .2) refl),
-      )
+      let even : rateAt h l x ≡ rate = rate-same h l t v x (on .1) (on .0) in
+      record {
+        no-hold = ap (λ (b : Bool). pick b (holdAt h l t stop) 0) (ne-eqb (f * rate) (gap v stop) (λ e. omega arith));
+        past = past-on h x stop t (on .0) (m .1);
+        rest = sym (rw (same, even, on .2) refl);
+      }
 
   pub along-known : Known h l t (record { place = along h n p segment; rest = restAlong n p segment })
   along-known = elim (ℕ-discrete (segment .rate) 0) [

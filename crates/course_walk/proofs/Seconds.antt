@@ -26,8 +26,7 @@ module _ (h : Heading) (l : Lists) (t : ℕ) where
   pub stuck : (f v : ℕ) → Past h v t → rateAt h l v ≡ 0 → after h l t f (at v 0) ≡ at v 0
   unfolding after
   stuck zero v p z = refl
-  stuck (suc f) v p z =
-      ap (second h l t) (stuck f v p z)
+  stuck (suc f) v p z = ap (second h l t) (stuck f v p z)
       ∙ (second-run h l t v p (omega (arith, gap-some v (nextStop h l t v) h (next-past h l t v p .0)))
       ∙ ap (λ (w : ℕ). at w 0) (ap (toward h v) z ∙ toward-zero h v))
 
@@ -63,19 +62,15 @@ module _ (h : Heading) (l : Lists) (t : ℕ) where
         let left : gap x (nextStop h l t x) ≡ way - f * rate = ap (gap x) same ∙ on .2 in
         elim (ℕ-discrete (f * rate + rate) way) [
           | yes e ↦ second-stop h l t x z (omega arith) ∙ ap (λ (w : ℕ). at w (holdAt h l t w)) same ∙ sym (ran-whole (suc f) (omega arith))
-          | no e ↦ second-run h l t x z (omega arith)
-              ∙ ap (λ (w : ℕ). at w 0) (toward-add h v (f * rate) (rateAt h l x)
-              ∙ ap (toward h v) {x = f * rate + rateAt h l x} {y = suc f * rate} (omega arith))
-              ∙ sym (ran-part (suc f) (λ e′. e (omega arith)))
+          | no e ↦ second-run h l t x z (omega arith) ∙ ap (λ (w : ℕ). at w 0) (toward-add h v (f * rate) (rateAt h l x)
+              ∙ ap (toward h v) {x = f * rate + rateAt h l x} {y = suc f * rate} (omega arith)) ∙ sym (ran-part (suc f) (λ e′. e (omega arith)))
         ]
 
     pub runs : (f : ℕ) → f * rate ≤ way → after h l t f (at v 0) ≡ ran f
     unfolding after
-    runs zero q =
-        ap (λ (w : ℕ). at w 0) (sym (toward-zero h v) ∙ ap (toward h v) {x = 0} {y = 0 * rate} (omega arith))
+    runs zero q = ap (λ (w : ℕ). at w 0) (sym (toward-zero h v) ∙ ap (toward h v) {x = 0} {y = 0 * rate} (omega arith))
         ∙ sym (ran-part 0 (λ e. omega (arith, gap-some v stop h (next-past h l t v p .0))))
-    runs (suc f) q =
-        ap (second h l t) (runs f (omega arith) ∙ ran-part f (λ e. omega arith)) ∙ one-more f (omega arith)
+    runs (suc f) q = ap (second h l t) (runs f (omega arith) ∙ ran-part f (λ e. omega arith)) ∙ one-more f (omega arith)
 
     -- a way shorter than the rate
     pub stops : way ≤ rate → after h l t 1 (at v 0) ≡ at stop (holdAt h l t stop)

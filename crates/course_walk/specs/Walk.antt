@@ -1,5 +1,5 @@
 -- Working. Going along a course from one straight piece to the next.
-use Prim.Native.Nat.{ℕ, _+_, _*_, _-_, _/_, min, _≤_, _<_}
+use Prim.Native.Nat.{ℕ, _+_, _*_, _-_, _/_, _^_, min, _≤_, _<_}
 use mathlib.Core.Path.{_≡_}
 use mathlib.Core.Bool.{_||_}
 use mathlib.Core.List.{List, _++_}
@@ -12,15 +12,15 @@ use Rattle.course.specs.declared.Course.{Course}
 use Rattle.course.specs.Lists.{Lists}
 use Rattle.course.specs.Course.{Heading, rising, falling, Moment, toward, candidates, after, stopsFrom, segmentsOf}
 use Rattle.course.specs.declared.Piece.{Piece}
-use Rattle.course.specs.Headings.{Past}
+use Rattle.course.specs.Headings.{Past, Short}
 use Rattle.course.specs.Pieces.{piece, piecesOf}
 use Rattle.course_walk.specs.declared.Place.{Place}
 use Rattle.course_walk.specs.declared.Reached.{Reached}
 use Rattle.course_stops.specs.Ahead.{segmentFrom}
 
--- room to move v by m: up to the largest number of 64 bits, down to 0
+-- room to move v by m: up within 64 bits, down to 0
 abbrev pub Reaches : Heading → ℕ → ℕ → Type 0
-Reaches rising v m = v + m ≤ 18446744073709551615
+Reaches rising v m = v + m < 2 ^ 64
 Reaches falling v m = m ≤ v
 
 abbrev pub momentOf : Place → Moment
@@ -72,9 +72,15 @@ restAlong n p s =
     (pick (ltb (s .way) (s .rate)) (unknown p .rest) (restRun (min (s .way / s .rate) (n - p .second)) s))
 
 module _ (h : Heading) (l : Lists) (t : ℕ) where
+  -- where a course is reached, what is left of the segment under way is the segment that lies ahead
+  pub record SegmentAhead (r : Reached) : Type 0 where
+    pub no-hold : r .place .left ≡ 0
+    pub past : Past h (r .place .level) t
+    pub rest : r .rest ≡ segmentFrom h l t (r .place .level)
+
   -- where a segment is known, it is the one that lies ahead
   abbrev pub Known : Reached → Type 0
-  Known r = 0 < r .rest .way → (r .place .left ≡ 0) × Past h (r .place .level) t × (r .rest ≡ segmentFrom h l t (r .place .level))
+  Known r = 0 < r .rest .way → SegmentAhead r
 
   -- a place with the segment that lies ahead, unless the course holds there or is at its target
   unfoldable pub reachedAt : Place → Reached
@@ -103,3 +109,15 @@ module _ (h : Heading) (l : Lists) (t : ℕ) where
   -- twice the area from p to the second n: the sum over seconds of the levels at start and end
   unfoldable pub twiceTo : ℕ → Place → ℕ
   twiceTo n p = area (λ k. after h l t k (momentOf p) .level) 0 (n - p .second)
+
+-- what going on asks for: a second n ahead, a level short of the target, and that a known segment is the one ahead
+pub record WalkAhead (h : Heading) (l : Lists) (t : ℕ) (from : Reached) (n : ℕ) : Type 0 where
+  pub before : from .place .second < n
+  pub short : Short h t (from .place .level)
+  pub known : Known h l t from
+
+-- f seconds along a segment: they end within 32 bits and within the way, which the level has room for
+pub record RunAhead (h : Heading) (p : Place) (s : Segment) (f : ℕ) : Type 0 where
+  pub within : p .second + f < 2 ^ 32
+  pub way : f * s .rate ≤ s .way
+  pub room : Reaches h (p .level) (s .way)

@@ -1,14 +1,13 @@
 // Along a course, one straight piece after another: `begin_at`, `walk_on`. A course goes by its own lists; proofs/Own.antt says that
 // they do for it what the unit's do.
 ghost use mathlib.Core.Path.{_≡_};
-ghost use Prim.Native.Nat.{_+_, _*_, _-_, _/_, min, _<_, _≤_};
+ghost use Prim.Native.Nat.{_+_, _*_, _-_, _/_, min, _<_, _≤_, _^_};
 ghost use lib.Dec.{ltb, eqb};
 ghost use Rattle.level.specs.Choice.{pick};
 ghost use Rattle.level.specs.Level.{grains};
 ghost use Rattle.course.specs.Course.{toward};
 ghost use Rattle.course_rates.specs.Ways.{headed, listsBy};
-ghost use Rattle.course.specs.Headings.{Short};
-ghost use Rattle.course_walk.specs.Walk.{Reaches, Known, afterHold, afterRest, afterRun, afterShort, along, restAlong, restRun, unknown, reachedAt, onward};
+ghost use Rattle.course_walk.specs.Walk.{Reaches, WalkAhead, RunAhead, Known, afterHold, afterRest, afterRun, afterShort, along, restAlong, restRun, unknown, reachedAt, onward};
 
 // ---- going along a course
 
@@ -84,7 +83,7 @@ fn after_rest(p: Place, n: u32) -> Place
 
 // A second to the stop of a segment.
 fn after_short(up: bool, p: Place, s: course::Segment) -> Place
-    requires { ⌜ p .second < 4294967295 ⌝ }
+    requires { ⌜ p .second + 1 < 2 ^ 32 ⌝ }
     requires { ⌜ Reaches (headed up) (p .level) (s .way) ⌝ }
     ensures { λ r. ⌜ r ≡ afterShort (headed up) p s ⌝ }
 {
@@ -98,9 +97,7 @@ fn after_short(up: bool, p: Place, s: course::Segment) -> Place
 
 // f seconds at the full rate of a segment, with what is left of it.
 fn after_run(up: bool, p: Place, s: course::Segment, f: u32) -> Reached
-    requires { ⌜ p .second + f ≤ 4294967295 ⌝ }
-    requires { ⌜ f * s .rate ≤ s .way ⌝ }
-    requires { ⌜ Reaches (headed up) (p .level) (s .way) ⌝ }
+    requires { ⌜ RunAhead (headed up) p s f ⌝ }
     ensures { λ r. ⌜ r ≡ record { place = afterRun (headed up) f p s; rest = restRun f s } ⌝ }
 {
     let m = (f as u64) * s.rate;
@@ -170,9 +167,7 @@ pub fn walk_on(
     from: Reached,
     n: u32,
 ) -> Reached
-    requires { ⌜ from .place .second < n ⌝ }
-    requires { ⌜ Short (headed up) (grains (c .target)) (from .place .level) ⌝ }
-    requires { ⌜ Known (headed up) (listsBy l c) (grains (c .target)) from ⌝ }
+    requires { ⌜ WalkAhead (headed up) (listsBy l c) (grains (c .target)) from n ⌝ }
     ensures { λ r. ⌜ (r .place ≡ onward (headed up) (listsBy l c) (grains (c .target)) n (from .place)) × Known (headed up) (listsBy l c) (grains (c .target)) r ⌝ }
 {
     let p = from.place;

@@ -34,7 +34,7 @@ use Rattle.course_walk.specs.Walk.{Known, reachedAt, beginning, pieceBetween, o
 use Rattle.course_walk.proofs.Left.{left-none, onward-first, all-left}
 use Rattle.course_walk.proofs.Own.{own-left}
 use Rattle.course_walk.proofs.Courses.{begins-short}
-use Rattle.course_walk.proofs.Goes.{Goes, onward-goes}
+use Rattle.course_walk.proofs.PieceStep.{PieceStep, onward-step}
 use Rattle.course_walk.proofs.Rest.{known-at}
 use Rattle.profile_quantity.proofs.Above.{quantity-is}
 use Rattle.lines.specs.Lines.{fLine, sLine, qLine}
@@ -106,7 +106,7 @@ module _ (l : OwnLists) (c : Course) (up : Bool) where
     unfolding sLines pieceLine pieceBetween
     piece-on {from} {to} h a e =
         let p : Place = from .place in
-        let g : Goes way lists target n p (to .place) = rw (e .0) (onward-goes way lists target n p h (a .short)) in
+        let g : PieceStep way lists target n p (to .place) = rw (e .0) (onward-step way lists target n p h (a .short)) in
         record {
           along = record { short = g .short; known = e .1 };
           later = g .later;

@@ -19,49 +19,38 @@ use Rattle.profile.specs.Effects.{stateAt}
 use Rattle.course_walk.specs.declared.Place.{Place}
 use Rattle.course_rates.specs.Ways.{headed, listsIn}
 use Rattle.course_walk.specs.Walk.{momentOf, beginning, onward}
-use Rattle.course_walk.proofs.Goes.{Goes, onward-goes}
+use Rattle.course_walk.proofs.PieceStep.{PieceStep, step-line, onward-step}
 use Rattle.course_walk.proofs.Courses.{heading-is, begins-short}
 use Rattle.profile_areas.specs.Watching.{offStarting, offBetween}
 use Rattle.profile_areas.proofs.Watching.{moment-on, off-on, state-there}
 use Rattle.profile_areas.specs.Passing.{Watching}
-use Rattle.profile_areas.proofs.Areas.{goes-line}
 
 -- a place, in the seconds of a course that began at the second a
 abbrev pub back : ℕ → Place → Place
 back a p = record { second = p .second - a; level = p .level; left = p .left }
 
 -- a straight piece is as straight there
-module _ (h : Heading) (l : Lists) (t n a : ℕ) (p q : Place) (begun : a ≤ p .second) (g : Goes h l t n p q) where
-  abbrev path : ℕ → ℕ
-  path k = after h l t (k - p .second) (momentOf p) .level
-
+module _ {h : Heading} {l : Lists} {t n : ℕ} {p q : Place} (a : ℕ) (begun : a ≤ p .second) (g : PieceStep h l t n p q) where
   abbrev own : ℕ → ℕ
   own k = after h l t (k - (p .second - a)) (momentOf p) .level
 
-  abbrev the-line : Line h path (record { from = p .second; to = q .second; enter = p .level; leave = q .level })
-  the-line = goes-line h l t n p q g
-
   own-line : Line h own (record { from = p .second - a; to = q .second - a; enter = p .level; leave = q .level })
   own-line = record {
-    rate = the-line .rate;
-    along =
-        λ i le. rw (ap (λ (k : ℕ). after h l t k (momentOf p) .level) {x = p .second + i - p .second} {y = p .second - a + i - (p .second - a)}
-        (omega arith))
-        at (the-line .along i (omega (arith, g .later)));
-    ends =
-        the-line .ends ∙ ap (λ (k : ℕ). after h l t k (momentOf p) .level) {x = q .second - p .second} {y = q .second - a - (p .second - a)}
+    rate = step-line g .rate;
+    along = λ i le. rw (ap (λ (k : ℕ). after h l t k (momentOf p) .level) {x = p .second + i - p .second} {y = p .second - a + i - (p .second - a)}
+        (omega arith)) at (step-line g .along i (omega (arith, g .later)));
+    ends = step-line g .ends ∙ ap (λ (k : ℕ). after h l t k (momentOf p) .level) {x = q .second - p .second} {y = q .second - a - (p .second - a)}
         (omega (arith, g .later));
   }
 
-  pub goes-back : Goes h l t (n - a) (back a p) (back a q)
+  pub step-back : PieceStep h l t (n - a) (back a p) (back a q)
   unfolding piece
-  goes-back = record {
+  step-back = record {
     later = omega (arith, g .later);
     within = omega (arith, g .within);
     short = g .short;
     low = g .low;
-    moment =
-        ap (λ (k : ℕ). after h l t k (momentOf p)) {x = q .second - a - (p .second - a)} {y = q .second - p .second} (omega (arith, g .later))
+    moment = ap (λ (k : ℕ). after h l t k (momentOf p)) {x = q .second - a - (p .second - a)} {y = q .second - p .second} (omega (arith, g .later))
         ∙ g .moment;
     straight = rw (lt-ltb (p .second - a) (q .second - a) (omega (arith, g .later))) (refl, omega (arith, g .later), own-line, refl);
   }
@@ -90,34 +79,32 @@ module _ (u : UnitData) (c : Course) (before : ℕ) (up : Bool) where
       none = refl
 
   module _ (p : Place) (off n : ℕ) (w : Watching u c before up p off) (to-go : p .second < n) where
-    pub watching-goes : Goes (headed up) (listsIn u c) (grains (c .target)) n p (onward (headed up) (listsIn u c) (grains (c .target)) n p)
-    watching-goes = onward-goes (headed up) (listsIn u c) (grains (c .target)) n p to-go (w .short)
+    pub watching-step : PieceStep (headed up) (listsIn u c) (grains (c .target)) n p (onward (headed up) (listsIn u c) (grains (c .target)) n p)
+    watching-step = onward-step (headed up) (listsIn u c) (grains (c .target)) n p to-go (w .short)
 
     turned : (q : Place) → q ≡ onward (headed up) (listsIn u c) (grains (c .target)) n p →
-        Goes (heading (trajectoryOf u c)) (trajectoryOf u c .lists) (trajectoryOf u c .target) (n - c .begin) (back (c .begin) p) (back (c .begin) q)
+        PieceStep (heading (trajectoryOf u c)) (trajectoryOf u c .lists) (trajectoryOf u c .target) (n - c .begin) (back (c .begin) p)
+        (back (c .begin) q)
     unfolding trajectoryOf
-    turned q e =
-        rw (heading-is u c up (w .rises)) (goes-back (headed up) (listsIn u c) (grains (c .target)) n (c .begin) p q (w .begun) (rw e watching-goes))
+    turned q e = rw (heading-is u c up (w .rises)) (step-back (c .begin) (w .begun) (rw e watching-step))
 
     pub watching-on : (q : Place) (o : ℕ) → q ≡ onward (headed up) (listsIn u c) (grains (c .target)) n p → o ≡ offBetween p q off →
         Watching u c before up q o
     watching-on q o e f =
-        let g : Goes (headed up) (listsIn u c) (grains (c .target)) n p q = rw e watching-goes in
+        let g : PieceStep (headed up) (listsIn u c) (grains (c .target)) n p q = rw e watching-step in
         let a : ℕ = c .begin in
         record {
           rises = w .rises;
           begun = omega (arith, w .begun, g .later);
           short = g .short;
           moment = moment-on (trajectoryOf u c) before (n - a) (back a p) (back a q) (w .moment) (turned q e);
-          off-is =
-              f ∙ between-back a p q off (w .begun) (g .later) ∙ ap (offBetween (back a p) (back a q)) (w .off-is)
+          off-is = f ∙ between-back a p q off (w .begun) (g .later) ∙ ap (offBetween (back a p) (back a q)) (w .off-is)
               ∙ sym (off-on (trajectoryOf u c) before (n - a) (back a p) (back a q) (w .moment) (turned q e));
         }
 
   pub watching-state : (p : Place) (off : ℕ) → Watching u c before up p off →
       (record { level = p .level; off = off }) ≡ byRule (trajectoryOf u c) before (p .second - c .begin)
-  watching-state p off w =
-      (λ i. record { level = p .level; off = (w .off-is) i })
+  watching-state p off w = (λ i. record { level = p .level; off = (w .off-is) i })
       ∙ state-there (trajectoryOf u c) before (back (c .begin) p) (p .second - c .begin) refl (w .moment)
 
 -- the state at the second t, of the course under way

@@ -1,5 +1,5 @@
 -- The seconds off after a straight piece are what the rule of one second counts.
-use Prim.Native.Nat.{ℕ, zero, suc, _+_, _*_, _-_, min, _≤_, _<_}
+use Prim.Native.Nat.{ℕ, zero, suc, _+_, _*_, _-_, min, _≤_}
 use mathlib.Core.Path.{_≡_, refl, ap, sym, _∙_}
 use mathlib.Core.Logic.{_≢_}
 use mathlib.Core.Bool.{Bool, true, false, _&&_}
@@ -7,25 +7,18 @@ use native.Mathlib.Nat.{mul-le-mul-right}
 use native.Mathlib.Decide.{ℕ-discrete}
 use native.Mathlib.Omega.{arith}
 use lib.Dec.{eqb}
-use borrow.Author.Tests.{eq-eqb, ne-eqb, lt-ltb}
+use borrow.Author.Tests.{eq-eqb, ne-eqb}
 use Rattle.level.specs.Choice.{pick}
 use Rattle.course.specs.Course.{Trajectory, Heading, rising, falling, Moment, heading, after, momentAt, levelAt}
-use Rattle.course.specs.Pieces.{piece}
 use Rattle.course.specs.Headings.{Along}
-use Rattle.course.proofs.Pieces.{Line, Traces}
+use Rattle.course.proofs.Pieces.{Line}
 use Rattle.course_walk.specs.declared.Place.{Place}
 use Rattle.course_walk.specs.Walk.{momentOf}
 use Rattle.course_walk.proofs.Seconds.{after-add}
-use Rattle.course_walk.proofs.Goes.{Goes}
+use Rattle.course_walk.proofs.PieceStep.{PieceStep, step-line}
 use Rattle.profile.specs.State.{held, watchNext, watch, byRule}
 use Rattle.profile.proofs.States.{watch-moment, watch-off, off-more, off-none, off-new}
 use Rattle.profile_areas.specs.Watching.{offBetween}
-
--- the one piece of a straight part
-the-line : (h : Heading) (f : ℕ → ℕ) (a b v w : ℕ) → a < b → Traces h f a b (piece a b v w) →
-    Line h f (record { from = a; to = b; enter = v; leave = w })
-unfolding piece
-the-line h f a b v w lt t = (rw (lt-ltb a b lt) at t) .2
 
 -- both ends of a line at 0: all of it is
 flat : (h : Heading) (d r i v x w : ℕ) → i ≤ d → v ≡ 0 → w ≡ 0 → Along h v (i * r) x → Along h v (d * r) w → x ≡ 0
@@ -64,17 +57,15 @@ module _ (c : Trajectory) (off : ℕ) where
   off-while : (a d : ℕ) → ((i : ℕ) → i ≤ d → levelAt c (a + i) ≡ 0) → watch c off (a + d) .off ≡ held (watch c off a .off + d)
   unfolding held
   off-while a zero z = ap (λ (k : ℕ). watch c off k .off) {x = a + 0} {y = a} (omega arith) ∙ omega (arith, off-low a)
-  off-while a (suc d) z =
-      ap (λ (k : ℕ). watch c off k .off) {x = a + suc d} {y = suc (a + d)} (omega arith)
+  off-while a (suc d) z = ap (λ (k : ℕ). watch c off k .off) {x = a + suc d} {y = suc (a + d)} (omega arith)
       ∙ off-more c off (a + d) (z d (omega arith)) (ap (levelAt c) {x = suc (a + d)} {y = a + suc d} (omega arith) ∙ z (suc d) (omega arith))
       ∙ omega (arith, off-while a d (λ i h. z i (omega arith)))
 
   -- from p to q along a straight piece
-  module _ (n : ℕ) (p q : Place) (e : momentOf p ≡ momentAt c (p .second)) (g : Goes (heading c) (c .lists) (c .target) n p q) where
+  module _ (n : ℕ) (p q : Place) (e : momentOf p ≡ momentAt c (p .second)) (g : PieceStep (heading c) (c .lists) (c .target) n p q) where
     pub moment-on : momentOf q ≡ momentAt c (q .second)
     unfolding momentAt
-    moment-on =
-        sym (g .moment) ∙ ap (after (heading c) (c .lists) (c .target) (q .second - p .second)) e
+    moment-on = sym (g .moment) ∙ ap (after (heading c) (c .lists) (c .target) (q .second - p .second)) e
         ∙ sym (after-add (heading c) (c .lists) (c .target) (p .second) (q .second - p .second) (record { level = c .start; left = 0 }))
         ∙ ap (momentAt c) {x = p .second + (q .second - p .second)} {y = q .second} (omega (arith, g .later))
 
@@ -82,12 +73,11 @@ module _ (c : Trajectory) (off : ℕ) where
     path k = after (heading c) (c .lists) (c .target) (k - p .second) (momentOf p) .level
 
     abbrev straight : Line (heading c) path (record { from = p .second; to = q .second; enter = p .level; leave = q .level })
-    straight = the-line (heading c) path (p .second) (q .second) (p .level) (q .level) (g .later) (g .straight)
+    straight = step-line g
 
     on-path : (i : ℕ) → path (p .second + i) ≡ levelAt c (p .second + i)
     unfolding levelAt momentAt
-    on-path i =
-        ap (λ (k : ℕ). after (heading c) (c .lists) (c .target) k (momentOf p) .level) {x = p .second + i - p .second} {y = i} (omega arith)
+    on-path i = ap (λ (k : ℕ). after (heading c) (c .lists) (c .target) k (momentOf p) .level) {x = p .second + i - p .second} {y = i} (omega arith)
         ∙ ap (λ (m : Moment). after (heading c) (c .lists) (c .target) i m .level) e
         ∙ sym (ap (λ (m : Moment). m .level) (after-add (heading c) (c .lists) (c .target) (p .second) i (record { level = c .start; left = 0 })))
 
@@ -118,12 +108,10 @@ module _ (c : Trajectory) (off : ℕ) where
                 ap (λ (k : ℕ). watch c off k .off) last
                 ∙ off-new c off (a + b) (sinks (heading c) b (straight .rate) (p .level) (levelAt c (a + b)) (q .level) np zq
                 (line-at b (omega (arith, g .later)))
-                (ap-along (heading c) (p .level) (straight .rate) (q .level) d (suc b) (omega (arith, g .later)) end))
-                ∙ sym (simp (ne-eqb _ _ np))
+                (ap-along (heading c) (p .level) (straight .rate) (q .level) d (suc b) (omega (arith, g .later)) end)) ∙ sym (simp (ne-eqb _ _ np))
           ]
           | no nq ↦
-              ap (λ (k : ℕ). watch c off k .off) last
-              ∙ off-none c off (a + b) (λ z. nq (here ∙ ap (levelAt c) last ∙ z))
+              ap (λ (k : ℕ). watch c off k .off) last ∙ off-none c off (a + b) (λ z. nq (here ∙ ap (levelAt c) last ∙ z))
               ∙ sym (neither (eqb (p .level) 0) (eqb (q .level) 0) (held (watch c off a .off + d)) (ne-eqb _ _ nq))
         ]
 

@@ -34,20 +34,26 @@ abbrev pub summed : ℕ → List ℕ → ℕ → Summed
 summed s xs t = record { second = s; noted = xs; total = t }
 
 -- up to the boundary j: what is noted there, or the total where the boundary is not reached yet
-unfoldable pub upTo : Summed → ℕ → ℕ
-upTo a j = pick (leb (halfHour * j) (a .second)) (getD (a .noted) j 0) (a .total)
+unfoldable pub notedTo : Summed → ℕ → ℕ
+notedTo a j = pick (leb (halfHour * j) (a .second)) (getD (a .noted) j 0) (a .total)
 
 -- from a to b the sums up to each boundary have grown by f, which tells how much lies before a second
 abbrev pub Adds : (ℕ → ℕ) → Summed → Summed → Type 0
-Adds f a b = (j : ℕ) → j ≤ mostHalfHours → upTo b j ≡ upTo a j + f (min (b .second) (halfHour * j))
+Adds f a b = (j : ℕ) → j ≤ mostHalfHours → notedTo b j ≡ notedTo a j + f (min (b .second) (halfHour * j))
 
 -- twice the area of one second lies below this
 abbrev pub twiceBound : ℕ
 twiceBound = 2 * levelBound
 
 -- a place for each boundary, and a total that so many seconds may come to
-abbrev pub Fits : Summed → Type 0
-Fits a = (length (a .noted) ≡ boundaryPlaces) × (a .total ≤ a .second * twiceBound)
+pub record SumsFit (a : Summed) : Type 0 where
+  pub places : length (a .noted) ≡ boundaryPlaces
+  pub total : a .total ≤ a .second * twiceBound
+
+-- the sums a have become b: they have grown by f, and fit
+pub record Noted (f : ℕ → ℕ) (a b : Summed) : Type 0 where
+  pub adds : Adds f a b
+  pub fits : SumsFit b
 
 -- ---- straight lines
 
@@ -69,9 +75,12 @@ pub record Straight (h : Heading) (p q : Place) : Type 0 where
   pub rate : ℕ
   pub along : Along h (p .level) ((q .second - p .second) * rate) (q .level)
 
--- the line from p to q
+-- the line from p to q, and its rate
+abbrev pub pieceRate : Place → Place → ℕ
+pieceRate p q = gap (p .level) (q .level) / (q .second - p .second)
+
 abbrev pub pieceFrom : Heading → Place → Place → ℕ → ℕ
-pieceFrom h p q = lineFrom h (p .level) (gap (p .level) (q .level) / (q .second - p .second)) (p .second)
+pieceFrom h p q = lineFrom h (p .level) (pieceRate p q) (p .second)
 
 -- ---- what going on asks for: a second of the day that is no earlier, levels below the bound, and sums that fit
 
@@ -80,7 +89,7 @@ pub record LineAhead (h : Heading) (level rate from to : ℕ) (a : Summed) : Typ
   pub later : from ≤ to
   pub within : to ≤ mostSeconds
   pub low : StaysLow h level ((to - from) * rate)
-  pub fits : Fits a
+  pub fits : SumsFit a
 
 -- along a straight piece
 pub record PieceAhead (h : Heading) (p q : Place) (a : Summed) : Type 0 where
@@ -89,7 +98,7 @@ pub record PieceAhead (h : Heading) (p q : Place) (a : Summed) : Type 0 where
   pub within : q .second ≤ mostSeconds
   pub low : p .level < levelBound
   pub low-too : q .level < levelBound
-  pub fits : Fits a
+  pub fits : SumsFit a
 
 -- along a course, from where it was reached towards the second n
 pub record CourseAhead (l : OwnLists) (c : Course) (up : Bool) (from : Reached) (n : ℕ) (a : Summed) : Type 0 where
@@ -98,7 +107,7 @@ pub record CourseAhead (l : OwnLists) (c : Course) (up : Bool) (from : Reached) 
   pub low : from .place .level < levelBound
   pub short : Short (headed up) (grains (c .target)) (from .place .level)
   pub known : Known (headed up) (listsBy l c) (grains (c .target)) from
-  pub fits : Fits a
+  pub fits : SumsFit a
 
 -- ---- courses
 
@@ -114,19 +123,24 @@ pub record Watching (u : UnitData) (c : Course) (before : ℕ) (up : Bool) (p : 
   pub moment : momentOf p ≡ momentAt (trajectoryOf u c) (p .second - c .begin)
   pub off-is : off ≡ watch (trajectoryOf u c) before (p .second - c .begin) .off
 
--- what has come of going from a place with so many seconds off towards the second n, past every piece that ends before it: the
--- sums a have become ys and the total
+-- what has been passed on the way from a place towards the second n, up to where the course is reached: the sums a have become ys and
+-- the total
+pub record PassProgress (l : OwnLists) (c : Course) (up : Bool) (from : Place) (before n : ℕ) (a : Summed) (ys : List ℕ) (at : Reached)
+    (off total : ℕ) : Type 0 where
+  pub adds : AddsOn (headed up) (listsBy l c) (grains (c .target)) from a (summed (at .place .second) ys total)
+  pub fits : SumsFit (summed (at .place .second) ys total)
+  pub known : Known (headed up) (listsBy l c) (grains (c .target)) at
+  pub later : from .second ≤ at .place .second
+  pub within : at .place .second ≤ n
+  pub short : Short (headed up) (grains (c .target)) (at .place .level)
+  pub low : at .place .level < levelBound
+  pub stands : at .place ≡ standing (headed up) (listsBy l c) (grains (c .target)) (at .place .second) from
+  pub watched : (u : UnitData) (b : ℕ) → l ≡ ownLists u c up → Watching u c b up from before → Watching u c b up (at .place) off
+
+-- what has come of going on past every piece that ends before the second n, with the place at n
 pub record Passing (l : OwnLists) (c : Course) (up : Bool) (from : Place) (before n : ℕ) (a : Summed) (ys : List ℕ) (r : Passed) : Type 0 where
-  pub adds : AddsOn (headed up) (listsBy l c) (grains (c .target)) from a (summed (r .reached .place .second) ys (r .total))
-  pub fits : Fits (summed (r .reached .place .second) ys (r .total))
-  pub known : Known (headed up) (listsBy l c) (grains (c .target)) (r .reached)
-  pub later : from .second ≤ r .reached .place .second
-  pub within : r .reached .place .second ≤ n
-  pub short : Short (headed up) (grains (c .target)) (r .reached .place .level)
-  pub low : r .reached .place .level < levelBound
-  pub stands : r .reached .place ≡ standing (headed up) (listsBy l c) (grains (c .target)) (r .reached .place .second) from
+  pub progress : PassProgress l c up from before n a ys (r .reached) (r .off) (r .total)
   pub runs : r .reached .place .second < n → r .ahead ≡ onward (headed up) (listsBy l c) (grains (c .target)) n (r .reached .place)
   pub there : r .ahead .second ≡ n
   pub ahead-low : r .ahead .level < levelBound
-  pub watched : (u : UnitData) (b : ℕ) → l ≡ ownLists u c up → Watching u c b up from before →
-      Watching u c b up (r .reached .place) (r .off) × Watching u c b up (r .ahead) (r .later)
+  pub watched : (u : UnitData) (b : ℕ) → l ≡ ownLists u c up → Watching u c b up from before → Watching u c b up (r .ahead) (r .later)

@@ -3,7 +3,7 @@
 ghost use mathlib.Core.Path.{_≡_};
 ghost use Prim.Native.Nat.{_+_, _≤_};
 ghost use Rattle.course_rates.specs.Ways.{headed};
-ghost use Rattle.profile_areas.specs.Passing.{summed, Adds, Fits, lineFrom, pieceFrom, LineAhead, PieceAhead, CourseAhead, Passing};
+ghost use Rattle.profile_areas.specs.Passing.{summed, Noted, lineFrom, pieceFrom, LineAhead, PieceAhead, CourseAhead, Passing};
 ghost use Rattle.profile.specs.State.{held};
 ghost use Rattle.profile_areas.specs.Watching.{offStarting, offBetween};
 
@@ -62,8 +62,7 @@ fn note_line(
     to: u32,
 ) -> u64
     requires { ⌜ LineAhead (headed up) level rate from to (summed from (now sums) total) ⌝ }
-    ensures { λ r. ⌜ Adds (lineFrom (headed up) level rate from) (summed from (now (sums .entry)) total) (summed to (now (sums .exit)) r)
-        × Fits (summed to (now (sums .exit)) r) ⌝ }
+    ensures { λ r. ⌜ Noted (lineFrom (headed up) level rate from) (summed from (now (sums .entry)) total) (summed to (now (sums .exit)) r) ⌝ }
 {
     let half = from / level::HALF_HOUR;
     let mut b = half as usize;
@@ -94,8 +93,7 @@ pub fn note_piece(
     q: course_walk::Place,
 ) -> u64
     requires { ⌜ PieceAhead (headed up) p q (summed (p .second) (now sums) total) ⌝ }
-    ensures { λ r. ⌜ Adds (pieceFrom (headed up) p q) (summed (p .second) (now (sums .entry)) total) (summed (q .second) (now (sums .exit)) r)
-        × Fits (summed (q .second) (now (sums .exit)) r) ⌝ }
+    ensures { λ r. ⌜ Noted (pieceFrom (headed up) p q) (summed (p .second) (now (sums .entry)) total) (summed (q .second) (now (sums .exit)) r) ⌝ }
 {
     if q.second <= p.second {
         return total;

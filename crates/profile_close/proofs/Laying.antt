@@ -31,44 +31,25 @@ use Rattle.profile_close.specs.Laying.{overFate, overAll, overlaid, over
 
 -- ---- one fate, case by case
 module _ (fates : List ℕ) (count number fate : ℕ) where
-  over-none : number ≡ 0 → fates ≡ overFate fates count number fate
+  pub over-none : number ≡ 0 → fates ≡ overFate fates count number fate
   unfolding overFate
   over-none z = simp (eq-eqb number 0 z)
 
-  over-out : (number ≡ 0 → ⊥) → count ≤ number - 1 → fates ≡ overFate fates count number fate
+  pub over-out : (number ≡ 0 → ⊥) → count ≤ number - 1 → fates ≡ overFate fates count number fate
   unfolding overFate
   over-out z h = simp (ne-eqb number 0 z, le-leb count (number - 1) h)
 
-  over-one : (number ≡ 0 → ⊥) → number - 1 < count → getD fates (number - 1) 0 ≡ 1 → fates ≡ overFate fates count number fate
+  pub over-one : (number ≡ 0 → ⊥) → number - 1 < count → getD fates (number - 1) 0 ≡ 1 → fates ≡ overFate fates count number fate
   unfolding overFate
   over-one z h e = simp (ne-eqb number 0 z, lt-leb count (number - 1) h, eq-eqb (getD fates (number - 1) 0) 1 e)
 
-  over-set : (number ≡ 0 → ⊥) → number - 1 < count → (getD fates (number - 1) 0 ≡ 1 → ⊥) →
+  pub over-set : (number ≡ 0 → ⊥) → number - 1 < count → (getD fates (number - 1) 0 ≡ 1 → ⊥) →
       set fates (number - 1) fate ≡ overFate fates count number fate
   unfolding overFate
   over-set z h e = simp (ne-eqb number 0 z, lt-leb count (number - 1) h, ne-eqb (getD fates (number - 1) 0) 1 e)
 
--- the same, of the fates with their count
-module _ (s : Fates) (number fate : ℕ) where
-  abbrev with : List ℕ → Fates
-  with fates = record { count = s .count; fates = fates }
-
-  pub overlaid-none : number ≡ 0 → s ≡ overlaid s number fate
-  unfolding overlaid
-  overlaid-none z = ap with (over-none (s .fates) (s .count) number fate z)
-
-  pub overlaid-out : (number ≡ 0 → ⊥) → s .count ≤ number - 1 → s ≡ overlaid s number fate
-  unfolding overlaid
-  overlaid-out z h = ap with (over-out (s .fates) (s .count) number fate z h)
-
-  pub overlaid-one : (number ≡ 0 → ⊥) → number - 1 < s .count → getD (s .fates) (number - 1) 0 ≡ 1 → s ≡ overlaid s number fate
-  unfolding overlaid
-  overlaid-one z h e = ap with (over-one (s .fates) (s .count) number fate z h e)
-
-  pub overlaid-set : (number ≡ 0 → ⊥) → number - 1 < s .count → (getD (s .fates) (number - 1) 0 ≡ 1 → ⊥) →
-      with (set (s .fates) (number - 1) fate) ≡ overlaid s number fate
-  unfolding overlaid
-  overlaid-set z h e = ap with (over-set (s .fates) (s .count) number fate z h e)
+abbrev pub counted : ℕ → List ℕ → Fates
+counted count fates = record { count = count; fates = fates }
 
 -- the loop from the last to the first
 module _ (acts : List Numbered) (own : List ℕ) (n : ℕ) where
@@ -80,8 +61,7 @@ module _ (acts : List Numbered) (own : List ℕ) (n : ℕ) where
       marksFrom acts own (i - 1) (n - (i - 1)) ≡ record { number = getD acts (i - 1) noNumbered .number; fate = getD own (i - 1) 0 } ∷ marksFrom acts
       own i (n - i)
   unfolding marksFrom
-  marks-back i h k =
-      ap (marksFrom acts own (i - 1)) {x = n - (i - 1)} {y = suc (n - i)} (omega arith)
+  marks-back i h k = ap (marksFrom acts own (i - 1)) {x = n - (i - 1)} {y = suc (n - i)} (omega arith)
       ∙ ap (λ (j : ℕ). record { number = getD acts (i - 1) noNumbered .number; fate = getD own (i - 1) 0 } ∷ marksFrom acts own j (n - i))
       {x = suc (i - 1)} {y = i} (omega arith)
 
@@ -96,8 +76,7 @@ module _ (acts : List Numbered) (own : List ℕ) (n : ℕ) where
       ap (λ (x : Fates). overlaid x (getD acts (i - 1) noNumbered .number) (getD own (i - 1) 0)) e ∙ sym (ap (overlaidAll s) (marks-back i h k))
 
   pub overlaid-end : (s r : Fates) (i : ℕ) → i ≡ 0 → r ≡ overlaidAll s (marksFrom acts own i (n - i)) → r ≡ overlaidAll s (marksFrom acts own 0 n)
-  overlaid-end s r i z e =
-      e ∙ ap (λ (k : ℕ). overlaidAll s (marksFrom acts own k (n - k))) z
+  overlaid-end s r i z e = e ∙ ap (λ (k : ℕ). overlaidAll s (marksFrom acts own k (n - k))) z
       ∙ ap (λ (k : ℕ). overlaidAll s (marksFrom acts own 0 k)) {x = n - 0} {y = n} (omega arith)
 
 -- the fates of those from the place i on are laid over
@@ -120,11 +99,8 @@ fours (k ∷ ks) = (refl, fours ks)
 
 one-not : (s : Checked) (o : Numbered) → NotOne (s .marks) → NotOne (checkOne s o .marks)
 unfolding checkOne failed
-one-not s o d =
-    by-bool (same (effectOf o) Fail)
-    (λ e. by-bool (syncWithinHour (effectiveOf o) (s .kept))
-    (λ f. rw (e, f) (refl, all-append (map (mark 4) (fromSync (s .kept))) (s .marks) (fours (fromSync (s .kept))) d))
-    (λ f. rw (e, f) (refl, d)))
+one-not s o d = by-bool (same (effectOf o) Fail) (λ e. by-bool (syncWithinHour (effectiveOf o) (s .kept))
+    (λ f. rw (e, f) (refl, all-append (map (mark 4) (fromSync (s .kept))) (s .marks) (fours (fromSync (s .kept))) d)) (λ f. rw (e, f) (refl, d)))
     (λ e. by-bool (repeats o (s .kept)) (λ f. rw (e, f) (refl, d)) (λ f. rw (e, f) d))
 
 check-not : (s : Checked) (os : List Numbered) → NotOne (s .marks) → NotOne (check s os .marks)
@@ -248,8 +224,7 @@ module _ (all : List Numbered) (is : List Instruction) (few : length is ≤ inst
       overAll (filled instructionPlaces 0 (fatesBy ms)) (length is) ns ≡ filled instructionPlaces 0 (fatesBy (ns ++ ms))
   unfolding overAll
   over-marks [] ms p q = refl
-  over-marks (n ∷ ns) ms p q =
-      ap (λ (xs : List ℕ). overFate xs (length is) (n .number) (n .fate)) (over-marks ns ms (p .1) q)
+  over-marks (n ∷ ns) ms p q = ap (λ (xs : List ℕ). overFate xs (length is) (n .number) (n .fate)) (over-marks ns ms (p .1) q)
       ∙ over-mark n (ns ++ ms) (all-append ns ms (p .1) q)
 
 -- ---- the marks of those that act
@@ -273,23 +248,21 @@ marks-are acts own i (m ∷ ms) h =
     (ap (λ (k : ℕ). getD acts k noNumbered .number) f ∙ b .0, ap (λ (k : ℕ). getD own k 0) f ∙ b .1))) x
 
 -- as many as act, with their numbers, and none has fate 1
-record Are (ms : List Mark) (ns : List Numbered) : Type 0 where
+record MarksOf (ms : List Mark) (ns : List Numbered) : Type 0 where
   many : length ms ≡ length ns
   numbers : (j : ℕ) → getD ms j noMark .number ≡ getD ns j noNumbered .number
   not-one : NotOne ms
 
-one-more : (o : Numbered) (os : List Numbered) (fate : ℕ) → eqb fate 1 ≡ false → (ms : List Mark) → Are ms os → Are (mark fate o ∷ ms) (o ∷ os)
+one-more : (o : Numbered) (os : List Numbered) (fate : ℕ) → eqb fate 1 ≡ false → (ms : List Mark) → MarksOf ms os → MarksOf (mark fate o ∷ ms) (o ∷ os)
 one-more o os fate e ms a = record { many = ap suc (a .many); numbers = at; not-one = (e, a .not-one) }
   where
     at : (j : ℕ) → getD (mark fate o ∷ ms) j noMark .number ≡ getD (o ∷ os) j noNumbered .number
     at zero = refl
     at (suc j) = a .numbers j
 
-follow-marks : (u : UnitData) (now : UnderWay) (os : List Numbered) → Are (follow byRule u now os .marks) os
-follow-marks u = follow-ind byRule u (λ now os f. Are (f .marks) os)
-    (λ now. record { many = refl; numbers = λ j. refl; not-one = tt })
-    (λ now o os f e a. unfold goesOn in one-more o os 7 refl (f .marks) a)
-    (λ now o os g f e a. unfold replaces in one-more o os 0 refl (f .marks) a)
+follow-marks : (u : UnitData) (now : UnderWay) (os : List Numbered) → MarksOf (follow byRule u now os .marks) os
+follow-marks u = follow-ind byRule u (λ now os f. MarksOf (f .marks) os) (λ now. record { many = refl; numbers = λ j. refl; not-one = tt })
+    (λ now o os f e a. unfold goesOn in one-more o os 7 refl (f .marks) a) (λ now o os g f e a. unfold replaces in one-more o os 0 refl (f .marks) a)
 
 -- ---- all together
 
@@ -302,8 +275,7 @@ module _ (u : UnitData) (now : UnderWay) (os : List Numbered) (few : length os �
   own-marks =
       let f = follow-marks u now os in
       ap (marksFrom (filled instructionPlaces noNumbered os) (filled instructionPlaces 0 (map fateIn own)) 0) (sym (f .many))
-      ∙ marks-are (filled instructionPlaces noNumbered os) (filled instructionPlaces 0 (map fateIn own)) 0 own
-      (λ j p.
+      ∙ marks-are (filled instructionPlaces noNumbered os) (filled instructionPlaces 0 (map fateIn own)) 0 own (λ j p.
       let e : 0 + j ≡ j = omega arith in
       let q : j < length (map fateIn own) = omega (arith, length-map own fateIn) in (
         ap (λ (k : ℕ). getD (filled instructionPlaces noNumbered os) k noNumbered .number) e

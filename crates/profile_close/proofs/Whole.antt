@@ -1,5 +1,5 @@
 -- What is followed, with the fates laid over, is what close finds.
-use Prim.Native.Nat.{ℕ, suc, _+_, _*_, _-_, min, _≤_, _<_}
+use Prim.Native.Nat.{ℕ, suc, _+_, _*_, _-_, _^_, min, _≤_, _<_}
 use mathlib.Core.Path.{_≡_, refl, ap, sym, _∙_, subst}
 use mathlib.Core.List.{List, [], _∷_, map}
 use native.Mathlib.Omega.{arith}
@@ -33,7 +33,7 @@ use Rattle.profile.proofs.Near.{all-map}
 use Rattle.profile.proofs.Most.{Below, courses-below, start-below}
 use Rattle.profile.proofs.Found.{spans, list-length, list-at, sums-step, found-sums, found-quantities}
 use Rattle.profile_quantity.specs.Summing.{someAbove}
-use Rattle.profile_follow.specs.declared.Followed.{Followed as Following}
+use Rattle.profile_follow.specs.declared.FollowedDay.{FollowedDay}
 use Rattle.profile_follow.specs.declared.Walk.{Walk}
 use Rattle.profile_follow.specs.Walk.{fateIn, walkOf, walkAll}
 use Rattle.profile_follow.specs.Following.{Ordered, LowStart, coursesFrom, lastIn, Followable, FollowedBy}
@@ -59,11 +59,11 @@ all-from (o ∷ os) = (omega arith, all-from os)
 
 -- figures of 32 bits
 pub record Words (t : Taken) : Type 0 where
-  pub capacity : t .unit .capacity < 4294967296
-  pub maximum : t .unit .maximum < 4294967296
-  pub level : t .start .level < 4294967296
-  pub target : t .start .target < 4294967296
-  pub ordered : t .start .ordered < 4294967296
+  pub capacity : t .unit .capacity < 2 ^ 32
+  pub maximum : t .unit .maximum < 2 ^ 32
+  pub level : t .start .level < 2 ^ 32
+  pub target : t .start .target < 2 ^ 32
+  pub ordered : t .start .ordered < 2 ^ 32
 
 module _ (t : Taken) (n : ℕ) (places : length (t .instructions) ≡ instructionPlaces) where
   abbrev end : ℕ
@@ -115,11 +115,9 @@ module _ (t : Taken) (n : ℕ) (places : length (t .instructions) ≡ instructio
 
   starts-low : Words t → All LowStart (coursesFrom u first (take (v .acting) (v .acts)))
   unfolding grains coursesFrom
-  starts-low w =
-      rw acts-are
-      (all-map (Below 4294967296) LowStart (λ c b. omega (arith, b .start)) courses
-      (courses-below u 4294967296 (omega (arith, w .capacity)) (omega (arith, w .maximum)) first acts
-      (start-below u 4294967296 (omega (arith, w .capacity)) (omega (arith, w .maximum)) (t .start) (omega (arith, w .level))
+  starts-low w = rw acts-are (all-map (Below (2 ^ 32)) LowStart (λ c b. omega (arith, b .start)) courses
+      (courses-below u (2 ^ 32) (omega (arith, w .capacity)) (omega (arith, w .maximum)) first acts
+      (start-below u (2 ^ 32) (omega (arith, w .capacity)) (omega (arith, w .maximum)) (t .start) (omega (arith, w .level))
       (omega (arith, w .target)) (omega (arith, w .ordered)))))
 
   pub acts-fit : n ≤ mostHalfHours → Words t → Followable u first (v .acts) (v .acting) n
@@ -131,10 +129,8 @@ module _ (t : Taken) (n : ℕ) (places : length (t .instructions) ≡ instructio
   fates-are : overAll (v .fates) (min (t .count) instructionPlaces)
       (marksFrom (v .acts) (filled instructionPlaces 0 (map fateIn (f .marks))) 0 (v .acting)) ≡ arraysOf (found paper n t) .fates
   unfolding validationOf outcomeOf arraysOf found foundBy entered
-  fates-are =
-      ap (overAll (v .fates) (min (t .count) instructionPlaces)) (own-marks u first acts few-acts)
-      ∙ ap (λ (k : ℕ). overAll (v .fates) k (f .marks)) (sym as-many)
-      ∙ fates-found u first acts few-acts end (entered t) (omega (arith, as-many))
+  fates-are = ap (overAll (v .fates) (min (t .count) instructionPlaces)) (own-marks u first acts few-acts)
+      ∙ ap (λ (k : ℕ). overAll (v .fates) k (f .marks)) (sym as-many) ∙ fates-found u first acts few-acts end (entered t) (omega (arith, as-many))
 
   sums-are : listFrom (twinTo (spansOf u end courses)) 0 (suc n) ≡ found paper n t .sums
   unfolding found foundBy
@@ -144,32 +140,25 @@ module _ (t : Taken) (n : ℕ) (places : length (t .instructions) ≡ instructio
       (λ j p. area-to n ss (day-tiles byRule end u (t .start) (numbered 1 (entered t))) j (omega arith)))
 
   -- what following comes to, with its fates laid over
-  pub find-is : (r : Following) → FollowedBy u first (take (v .acting) (v .acts)) n r →
-      (record {
-        fates = overlaidAll settled (marksFrom (v .acts) (r .walk .fates) 0 (v .acting)) .fates;
-        started = r .walk .started;
-        courses = r .walk .courses;
-        sums = r .sums;
-        last = r .walk .now;
-        end = r .end;
-      }) ≡ arraysOf (found paper n t)
+  pub find-is : (r : FollowedDay) → FollowedBy u first (take (v .acting) (v .acts)) n r → (record {
+    fates = overlaidAll settled (marksFrom (v .acts) (r .walk .fates) 0 (v .acting)) .fates;
+    started = r .walk .started;
+    courses = r .walk .courses;
+    sums = r .sums;
+    last = r .walk .now;
+    end = r .end;
+  }) ≡ arraysOf (found paper n t)
   unfolding arraysOf overlaidAll walkAll walkOf coursesFrom found foundBy
   find-is r by =
       let walk : r .walk ≡ walkAll u first acts = by .walk ∙ ap (walkAll u first) acts-are in
-      λ i. record {
-        fates =
-            (ap (λ (x : Walk). overAll (v .fates) (min (t .count) instructionPlaces) (marksFrom (v .acts) (x .fates) 0 (v .acting))) walk ∙ fates-are)
-            i;
-        started = (ap (λ (x : Walk). x .started) walk ∙ sym (length-map (f .courses) courseOf)) i;
-        courses = (ap (λ (x : Walk). x .courses) walk) i;
-        sums = (
-            by .sums
-            ∙ ap (λ (os : List Numbered). filled boundaryPlaces 0 (listFrom (twinTo (spansOf u end (coursesFrom u first os))) 0 (suc n))) acts-are
-            ∙ ap (filled boundaryPlaces 0) sums-are
-            ) i;
-        last = (ap (λ (x : Walk). x .now) walk) i;
-        end = (by .end ∙ ap (λ (os : List Numbered). stateAt byRule u (lastIn u first os) end) acts-are) i;
-      }
+      let fates =
+      ap (λ (x : Walk). overAll (v .fates) (settled .count) (marksFrom (v .acts) (x .fates) 0 (v .acting))) walk ∙ fates-are in
+      let started = ap (λ (x : Walk). x .started) walk ∙ sym (length-map (f .courses) courseOf) in
+      let sums =
+      by .sums ∙ ap (λ (os : List Numbered). filled boundaryPlaces 0 (listFrom (twinTo (spansOf u end (coursesFrom u first os))) 0 (suc n))) acts-are
+      ∙ ap (filled boundaryPlaces 0) sums-are in
+      let state = by .end ∙ ap (λ (os : List Numbered). stateAt byRule u (lastIn u first os) end) acts-are in
+      λ i. record { fates = fates i; started = started i; courses = walk i .courses; sums = sums i; last = walk i .now; end = state i }
 
 -- ---- the sums that are found, in a day of n half-hours
 
@@ -201,7 +190,5 @@ module _ (t : Taken) (n : ℕ) (long : n ≤ mostHalfHours) where
   -- refusal 27: by the sums, and by the quantities
   pub too-high-is : someAbove (t .unit .maximum) sums 0 n ≡ some (λ q. ltb (t .unit .maximum) q) (found paper n t .quantities)
   unfolding someAbove
-  too-high-is =
-      ap (some (λ q. ltb (t .unit .maximum) q))
-      (list-same (quantityAt sums) (λ i. rounded (recordedIn recorded i)) 0 n (λ i h. noted-quantity i (omega arith))
-      ∙ sym (found-quantities n t))
+  too-high-is = ap (some (λ q. ltb (t .unit .maximum) q))
+      (list-same (quantityAt sums) (λ i. rounded (recordedIn recorded i)) 0 n (λ i h. noted-quantity i (omega arith)) ∙ sym (found-quantities n t))

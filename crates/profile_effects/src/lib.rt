@@ -1,6 +1,6 @@
 // What an instruction comes to at its acting second, and the course that it begins.
 ghost use mathlib.Core.Path.{_≡_};
-ghost use Prim.Native.Nat.{_+_, _<_};
+ghost use Prim.Native.Nat.{_+_, _<_, _^_};
 ghost use lib.Dec.{eqb};
 ghost use Rattle.level.specs.Choice.{pick};
 ghost use Rattle.records.specs.declared.UnitData.{UnitData};
@@ -265,7 +265,7 @@ pub fn start_course(u: records::UnitData, s: profile::Start) -> profile::UnderWa
 
 // The second at which an instruction acts, where it fits.
 pub fn acting_second(o: validation::Numbered) -> u32
-    requires { ⌜ acting o < 4294967296 ⌝ }
+    requires { ⌜ acting o < 2 ^ 32 ⌝ }
     ensures { λ r. ⌜ r ≡ acting o ⌝ }
 {
     let i = o.instruction;
@@ -280,7 +280,7 @@ pub fn begin_course(
     g: profile::Setting,
     s: profile::State,
 ) -> profile::UnderWay
-    requires { ⌜ acting o < 4294967296 ⌝ }
+    requires { ⌜ acting o < 2 ^ 32 ⌝ }
     ensures { λ r. ⌜ r ≡ begun u o g s ⌝ }
 {
     let at = acting_second(o);

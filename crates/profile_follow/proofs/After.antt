@@ -27,7 +27,7 @@ use Rattle.profile.proofs.Following.{comesTo, newCourse, follow-on, follow-new,
 use Rattle.course_rates.specs.declared.OwnLists.{OwnLists}
 use Rattle.course_rates.specs.Ways.{headed, listsIn, ownLists, listsBy}
 use Rattle.course_walk.specs.Walk.{reachedAt, beginning, twiceTo}
-use Rattle.course_walk.proofs.Goes.{standing-here}
+use Rattle.course_walk.proofs.PieceStep.{standing-here}
 use Rattle.course_walk.proofs.Areas.{twice-is}
 use Rattle.course_walk.proofs.Own.{own-twice}
 use Rattle.course_walk.proofs.Rest.{known-at}
@@ -57,13 +57,12 @@ module _ (u : UnitData) where
 
   module _ (end : ℕ) where
     -- the course under way comes first, and ends no earlier than the first of those that act does so
-    record Headed (now : UnderWay) (os : List Numbered) (f : Followed) : Type 0 where
+    record CourseFirst (now : UnderWay) (os : List Numbered) (f : Followed) : Type 0 where
       head : map courseOf (f .courses) ≡ now .course ∷ drop 1 (map courseOf (f .courses))
       ends : (a : ℕ) → Ordered end a os → a ≤ beginOf end (drop 1 (map courseOf (f .courses)))
 
-    headed-by : (now : UnderWay) (os : List Numbered) → Headed now os (follow byRule u now os)
-    headed-by = follow-ind byRule u Headed
-        (λ now. unfold beginOf in record { head = refl; ends = λ a h. h })
+    course-first : (now : UnderWay) (os : List Numbered) → CourseFirst now os (follow byRule u now os)
+    course-first = follow-ind byRule u CourseFirst (λ now. unfold beginOf in record { head = refl; ends = λ a h. h })
         (λ now o os f e t. unfold goesOn in record { head = t .head; ends = λ a h. omega (arith, h .0, t .ends (acting o) (h .1)) })
         (λ now o os g f e t. unfold replaces in record {
           head = refl;
@@ -76,11 +75,11 @@ module _ (u : UnitData) where
 
     pub end-after : (now : UnderWay) (os : List Numbered) (a : ℕ) → Ordered end a os → a ≤ endOf u end now os
     unfolding coursesFrom coursesAfter
-    end-after now os a h = headed-by now os .ends a h
+    end-after now os a h = course-first now os .ends a h
 
   pub from-head : (now : UnderWay) (os : List Numbered) → coursesFrom u now os ≡ now .course ∷ coursesAfter u now os
   unfolding coursesFrom coursesAfter
-  from-head now os = headed-by 0 now os .head
+  from-head now os = course-first 0 now os .head
 
   pub end-new : (end : ℕ) (now : UnderWay) (o : Numbered) (os : List Numbered) (g : Setting) → comesTo byRule u now o ≡ Sets g →
       endOf u end now (o ∷ os) ≡ acting o
@@ -120,8 +119,7 @@ module _ (u : UnitData) (c : Course) where
   course-area n =
       let a : ℕ = c .begin in
       pieces-area (trajectoryOf u c) (n - a)
-      ∙ ap (λ (k : ℕ). area (levelAt (trajectoryOf u c)) k (n - a)) {x = 0} {y = a - a} (omega arith)
-      ∙ sym (twice-is u c up refl a a n)
+      ∙ ap (λ (k : ℕ). area (levelAt (trajectoryOf u c)) k (n - a)) {x = 0} {y = a - a} (omega arith) ∙ sym (twice-is u c up refl a a n)
       ∙ ap (twiceTo (headed up) (listsIn u c) (grains (c .target)) n)
       (standing-here (headed up) (listsIn u c) (grains (c .target)) a (beginning c a) (begins a))
       ∙ sym (own-twice u c up (ownLists u c up) refl (grains (c .target)) n (beginning c a))

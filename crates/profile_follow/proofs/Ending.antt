@@ -39,8 +39,7 @@ module _ (halves : ℕ) (xs : List ℕ) (size : length xs ≡ boundaryPlaces) wh
     clearing-end h =
         let first : List ℕ = take (suc halves) xs in
         let many : length first ≡ suc halves = length-take-le (suc halves) xs (omega (arith, size, c .past, c .within)) in
-        places-same 0 ys (filled boundaryPlaces 0 first) (c .size ∙ sym (filled-length 0 boundaryPlaces first))
-        (λ j l. elim (decLe j halves) [
+        places-same 0 ys (filled boundaryPlaces 0 first) (c .size ∙ sym (filled-length 0 boundaryPlaces first)) (λ j l. elim (decLe j halves) [
           | yes k ↦
               c .kept j k ∙ sym (filled-at 0 boundaryPlaces first j 0 (omega (arith, many)) (omega (arith, c .size))
               ∙ getD-take (suc halves) xs j 0 (omega arith))

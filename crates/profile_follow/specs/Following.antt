@@ -23,10 +23,10 @@ use Rattle.course_rates.specs.Ways.{headed, ownLists, listsBy}
 use Rattle.course_walk.specs.Walk.{reachedAt, Known, beginning, twiceTo}
 use Rattle.profile_areas.specs.Watching.{offStarting}
 use Rattle.profile_areas.specs.declared.Passed.{Passed}
-use Rattle.profile_areas.specs.Passing.{Watching}
+use Rattle.profile_areas.specs.Passing.{Summed, summed, Watching}
 use Rattle.profile_follow.specs.declared.Walk.{Walk}
 use Rattle.profile_follow.specs.declared.OnCourse.{OnCourse}
-use Rattle.profile_follow.specs.declared.Followed.{Followed}
+use Rattle.profile_follow.specs.declared.FollowedDay.{FollowedDay}
 use Rattle.profile_follow.specs.Walk.{walkAll}
 
 -- a course at its beginning, with its lists and the total up to there
@@ -43,6 +43,10 @@ setOut now l up total =
 -- the same course further on
 abbrev pub wentTo : Bool → Passed → OnCourse
 wentTo up s = record { up = up; reached = s .reached; off = s .off; total = s .total }
+
+-- the day summed up to where it is reached
+abbrev pub sumsAt : OnCourse → List ℕ → Summed
+sumsAt g ys = summed (g .reached .place .second) ys (g .total)
 
 -- the place of an instruction; past the last one the last
 abbrev pub placeIn : ℕ → ℕ
@@ -97,11 +101,11 @@ pub record Followable (u : UnitData) (first : UnderWay) (acts : List Numbered) (
   pub starts : All LowStart (coursesFrom u first (take n acts))
 
 -- the day's end: of the sums those up to its last boundary
-unfoldable pub ended : Walk → List ℕ → State → ℕ → Followed
+unfoldable pub ended : Walk → List ℕ → State → ℕ → FollowedDay
 ended w xs s halves = record { walk = w; sums = filled boundaryPlaces 0 (take (suc halves) xs); end = s }
 
 -- what has come of following them to the day's end
-pub record FollowedBy (u : UnitData) (first : UnderWay) (os : List Numbered) (halves : ℕ) (r : Followed) : Type 0 where
+pub record FollowedBy (u : UnitData) (first : UnderWay) (os : List Numbered) (halves : ℕ) (r : FollowedDay) : Type 0 where
   pub walk : r .walk ≡ walkAll u first os
   pub sums : r .sums ≡ filled boundaryPlaces 0 (listFrom (twinTo (spansOf u (halfHour * halves) (coursesFrom u first os))) 0 (suc halves))
   pub end : r .end ≡ stateAt byRule u (lastIn u first os) (halfHour * halves)

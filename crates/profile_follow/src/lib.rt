@@ -3,7 +3,7 @@
 ghost use mathlib.Core.Path.{_≡_};
 ghost use mathlib.Core.Bool.{true};
 ghost use mathlib.Core.List.{[], _∷_};
-ghost use Prim.Native.Nat.{_<_, _≤_};
+ghost use Prim.Native.Nat.{_<_, _≤_, _^_};
 ghost use lib.ListN.{take};
 ghost use Rattle.level.specs.Choice.{pick};
 ghost use Rattle.level.specs.Numbers.{mostHalfHours};
@@ -82,7 +82,7 @@ fn went_to(up: bool, s: profile_areas::Passed) -> OnCourse
 
 // The second to which a course is followed next: that at which an instruction acts, or the day's end.
 fn next_second(more: bool, o: validation::Numbered, end: u32) -> u32
-    requires { ⌜ (more ≡ true → acting o < 4294967296) ⌝ }
+    requires { ⌜ (more ≡ true → acting o < 2 ^ 32) ⌝ }
     ensures { λ r. ⌜ r ≡ pick more (acting o) end ⌝ }
 {
     if more {
@@ -109,14 +109,14 @@ fn place_in(at: usize) -> usize
 }
 
 // What following comes to: the walk, twice the recorded area from 06:00 to each half-hour boundary, and the state at the day's end.
-pub struct Followed {
+pub struct FollowedDay {
     pub walk: Walk,
     pub sums: [u64; level::BOUNDARIES],
     pub end: profile::State,
 }
 
 // At the end of a day of so many half-hours: the places past its last boundary hold 0.
-fn end_day(w: Walk, sums: [u64; level::BOUNDARIES], end: profile::State, halves: u32) -> Followed
+fn end_day(w: Walk, sums: [u64; level::BOUNDARIES], end: profile::State, halves: u32) -> FollowedDay
     requires { ⌜ halves ≤ mostHalfHours ⌝ }
     ensures { λ r. ⌜ r ≡ ended w sums end halves ⌝ }
 {
@@ -126,7 +126,7 @@ fn end_day(w: Walk, sums: [u64; level::BOUNDARIES], end: profile::State, halves:
         kept[b] = 0;
         b += 1;
     }
-    Followed {
+    FollowedDay {
         walk: w,
         sums: kept,
         end,
@@ -142,7 +142,7 @@ pub fn follow_day(
     acts: [validation::Numbered; level::INSTRUCTIONS],
     n: usize,
     halves: u32,
-) -> Followed
+) -> FollowedDay
     requires { ⌜ Followable u first acts n halves ⌝ }
     ensures { λ r. ⌜ FollowedBy u first (take n acts) halves r ⌝ }
 {

@@ -22,8 +22,7 @@ module _ (sums : List ℕ) (i : ℕ) where
 module _ (most : ℕ) (sums : List ℕ) (e i : ℕ) where
   above-one : i < e → someAbove most sums i (e - i) ≡ (ltb most (quantityAt sums i) || someAbove most sums (i + 1) (e - (i + 1)))
   unfolding someAbove some listFrom
-  above-one h =
-      ap (λ (n : ℕ). some (λ q. ltb most q) (listFrom (quantityAt sums) i n)) {x = e - i} {y = suc (e - (i + 1))} (omega arith)
+  above-one h = ap (λ (n : ℕ). some (λ q. ltb most q) (listFrom (quantityAt sums) i n)) {x = e - i} {y = suc (e - (i + 1))} (omega arith)
       ∙ ap (λ (k : ℕ). ltb most (quantityAt sums i) || some (λ q. ltb most q) (listFrom (quantityAt sums) k (e - (i + 1)))) (sym (add-one i))
 
   -- the quantity lies above it where twice the area comes to half a kW more

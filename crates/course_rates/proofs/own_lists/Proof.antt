@@ -12,10 +12,8 @@ returns c =
     λ i. record {
       msg = s .args .u .msg;
       column = (c .before .before .before .column-for .ensures) i;
-      ramp =
-          (c .before .before .ramp-of .ensures ∙ ramp-picked (s .args .u) (s .args .up)) i;
-      dwells =
-          s .args .u .dwells;
+      ramp = (c .before .before .ramp-of .ensures ∙ ramp-picked (s .args .u) (s .args .up)) i;
+      dwells = s .args .u .dwells;
       deload = s .args .u .deload;
     }
 

@@ -12,11 +12,9 @@ returns c =
       c .before .«break-stop3» .ensures,
       c .before .before .«break-stop2» .ensures,
       c .before .before .before .break-stop .ensures,
-    )
-    (four-breaks (headed (s .args .up)) (s .args .v) (s .args .n) (s .args .t3) (s .good .1 .1 .0 .1 .0 .1))
+    ) (four-breaks (headed (s .args .up)) (s .args .v) (s .args .n) (s .args .t3) (s .good .1 .1 .0 .1 .0 .1))
 
 pub ramp-breaks-spec : {M : Type 1} → statement M
-ramp-breaks-spec =
-    tie.close
+ramp-breaks-spec = tie.close
     (tie.spec (λ c. search needs) (λ c κs. search needs) (λ c. search needs) (λ c κs. search needs) (λ c. search needs) (λ c κs. search needs)
     (λ c. search needs) (λ c κs. search needs) returns)

@@ -7,24 +7,21 @@ use Rattle.course_stops.proofs.stop_falling.Tie as tie
 
 returns : tie.Need-returns
 returns c =
-    let s = c .before .before .before .before .before .before in
-    rw (c .deload-break .ensures, c .before .before .before .before .before .grains-of .ensures .0)
+    let g = c .before .before .before .before in
+    let s = g .before .before in
+    rw (c .deload-break .ensures, g .before .grains-of .ensures .is)
     (falling-below (s .args .l) (s .args .c) (grains (s .args .c .target)) (s .args .v) (omega arith))
 
 returns-2 : tie.Need-returns-2
 returns-2 c =
-    let s = c .before .before .before .before .before .before .before .before .before in
-    rw (
-      c .ramp-breaks .ensures,
-      c .before .before .before .dwell-stops .ensures,
-      c .before .before .before .before .before .nearer .ensures,
-      c .before .before .before .before .before .before .before .«grains-of2» .ensures .0,
-      c .before .before .before .before .before .before .before .before .grains-of .ensures .0,
-    )
+    let d = c .before .before .before in
+    let m = d .before .before in
+    let g = m .before .before in
+    let s = g .before .before in
+    rw (c .ramp-breaks .ensures, d .dwell-stops .ensures, m .nearer .ensures, g .«grains-of2» .ensures .is, g .before .grains-of .ensures .is)
     (falling-above (s .args .l) (s .args .c) (grains (s .args .c .target)) (s .args .v) (omega arith))
 
 pub stop-falling-spec : {M : Type 1} → statement M
-stop-falling-spec =
-    tie.close
+stop-falling-spec = tie.close
     (tie.spec (λ c κs. search needs) (λ c κs. search needs) (λ c κs. search needs) returns (λ c κs. search needs) (λ c κs. search needs)
     (λ c κs. search needs) returns-2)

@@ -12,7 +12,7 @@ returns c =
 returns-2 : tie.Need-returns-2
 returns-2 c =
     let s = c .before .before .before in
-    simp (lt-ltb 0 (s .args .g .minutes) (omega arith)) (c .before .before .grains-of .ensures .0)
+    simp (lt-ltb 0 (s .args .g .minutes) (omega arith)) (c .before .before .grains-of .ensures .is)
 
 pub trigger-level-spec : {M : Type 1} → statement M
 trigger-level-spec = tie.close (tie.spec (λ c κs. search needs) returns returns-2)

@@ -18,13 +18,13 @@ returns c =
 returns-2 : tie.Need-returns-2
 unfolding afterHold
 returns-2 c =
-    let p = c .before .before .before .before .before .args .p in
-    let n = c .before .before .before .before .before .args .n in
+    let e = c .before .before .before in
+    let p = e .before .before .args .p in
+    let n = e .before .before .args .n in
     let e : p .second + p .left ≡ min (p .second + p .left) n = omega arith in
     let f : 0 ≡ p .second + p .left - n = omega arith in
     λ i. record { second = e i; level = p .level; left = f i }
 
 pub after-hold-spec : {M : Type 1} → statement M
-after-hold-spec =
-    tie.close
+after-hold-spec = tie.close
     (tie.spec (λ c. search needs) (λ c. search needs) (λ c. search needs) returns (λ c. search needs) (λ c. search needs) returns-2)

@@ -9,18 +9,19 @@ use Rattle.course_walk.proofs.after_run.Statement.{statement}
 use Rattle.course_walk.proofs.after_run.Tie as tie
 
 moved-requires : tie.Need-moved-requires
-moved-requires c κs = reaches-less (headed (c .before .args .up)) _ _ _ (c .before .pre .1 .0) (c .before .pre .1 .1)
+moved-requires c κs = reaches-less (headed (c .before .args .up)) _ _ _ (c .before .pre .way) (c .before .pre .room)
 
 returns : tie.Need-returns
 unfolding afterRun restRun
 returns c =
-    let s = c .before .before .before .before .before in
+    let w = c .before .before .before in
+    let s = w .before .before in
     let m = s .args .f * s .args .s .rate in
     λ i. record {
       place = record {
         second = s .args .p .second + s .args .f;
-        level = c .before .before .before .moved .ensures i;
-        left = (c .before .hold-from .ensures ∙ left-is (s .args .s .way) (s .args .s .hold) m (s .pre .1 .0)) i;
+        level = w .moved .ensures i;
+        left = (c .before .hold-from .ensures ∙ left-is (s .args .s .way) (s .args .s .hold) m (s .pre .way)) i;
       };
       rest = record { way = s .args .s .way - m; rate = s .args .s .rate; hold = s .args .s .hold };
     }

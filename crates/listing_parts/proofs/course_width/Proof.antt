@@ -50,7 +50,7 @@ loop-holds c =
     (record { along = along-begins (s .args .l) (s .args .c) (s .args .up) (s .pre); begun = omega arith; measured = measure-none })
 
 walk-on-requires : tie.Need-walk-on-requires Inv-loop μ-loop
-walk-on-requires c κs = let a = c .before .before .loop .inv .along in (c .if1 .taken, (a .short, a .known))
+walk-on-requires c κs = let a = c .before .before .loop .inv .along in record { before = c .if1 .taken; short = a .short; known = a .known }
 
 add-width : tie.Need-add-width Inv-loop μ-loop
 add-width c = omega (arith, next (walked c), at-loop (walked c) .loop .inv, c .piece-width .ensures)

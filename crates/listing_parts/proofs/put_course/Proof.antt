@@ -54,7 +54,7 @@ loop-holds c =
     rw (c .begin-at .ensures) (record { along = along-begins (s .args .l) (s .args .c) (s .args .up) (s .pre .0); lines = lay-none (s .pre .1) })
 
 walk-on-requires : tie.Need-walk-on-requires Inv-loop μ-loop
-walk-on-requires c κs = let a = c .before .before .loop .inv .along in (c .if1 .taken, (a .short, a .known))
+walk-on-requires c κs = let a = c .before .before .loop .inv .along in record { before = c .if1 .taken; short = a .short; known = a .known }
 
 add-at : tie.Need-add-at Inv-loop μ-loop
 add-at c = omega (arith, room (walked c), c .before .before .put-piece .ensures .count-is)

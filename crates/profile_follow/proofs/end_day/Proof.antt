@@ -19,8 +19,7 @@ loop-holds c = clearing-start (c .args .halves) (c .args .sums) (c .good .1 .0 .
 
 loop-again : tie.Need-loop-again Inv-loop μ-loop
 loop-again c =
-    let s =
-    c .before .before in clearing-next (s .args .halves) (s .args .sums) (s .good .1 .0 .1 .0 .1) (c .before .loop .kept) (c .before .loop .b)
+    let s = c .before .before in clearing-next (s .args .halves) (s .args .sums) (s .good .1 .0 .1 .0 .1) (c .before .loop .kept) (c .before .loop .b)
     (c .before .loop .inv) (omega arith)
 
 returns : tie.Need-returns Inv-loop μ-loop
@@ -32,7 +31,6 @@ returns c =
     (omega arith))
 
 pub end-day-spec : {M : Type 1} → statement M
-end-day-spec =
-    tie.close
+end-day-spec = tie.close
     (tie.spec Inv-loop μ-loop (λ c. omega arith) loop-holds (λ c. omega arith) (λ c. omega arith) (λ c. omega arith) (λ c. omega arith) loop-again
     returns)

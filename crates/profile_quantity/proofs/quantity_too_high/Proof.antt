@@ -26,15 +26,15 @@ loop-again c =
 
 returns : tie.Need-returns Inv-loop μ-loop
 returns c =
-    let s = c .before .before .before .before .before in
-    let l = c .before .before .before .loop in
-    sym (above-here (s .args .u .maximum) (s .args .t2) (s .args .halves) (l .i) (omega arith) (omega arith)) ∙ l .inv .1 (s .args .u .maximum) refl
+    let k = c .before .before .before in
+    let s = k .before .before in
+    sym (above-here (s .args .u .maximum) (s .args .t2) (s .args .halves) (k .loop .i) (omega arith) (omega arith)) ∙ k .loop .inv .1 (s .args .u .maximum) refl
 
 loop-again-2 : tie.Need-loop-again-2 Inv-loop μ-loop
 loop-again-2 c =
-    let s = c .before .before .before .before .before in
-    let l = c .before .before .before .loop in
-    (omega arith, λ m e. sym (above-next m (s .args .t2) (s .args .halves) (l .i) (omega arith) (omega arith)) ∙ l .inv .1 m e)
+    let k = c .before .before .before in
+    let s = k .before .before in
+    (omega arith, λ m e. sym (above-next m (s .args .t2) (s .args .halves) (k .loop .i) (omega arith) (omega arith)) ∙ k .loop .inv .1 m e)
 
 returns-2 : tie.Need-returns-2 Inv-loop μ-loop
 returns-2 c =
@@ -43,7 +43,6 @@ returns-2 c =
     sym (above-none (s .args .u .maximum) (s .args .t2) (s .args .halves) (l .i) (omega arith)) ∙ l .inv .1 (s .args .u .maximum) refl
 
 pub quantity-too-high-spec : {M : Type 1} → statement M
-quantity-too-high-spec =
-    tie.close
+quantity-too-high-spec = tie.close
     (tie.spec Inv-loop μ-loop (λ c. search needs) (λ c. omega arith) (λ c. omega arith) loop-holds (λ c. omega arith) (λ c. omega arith)
     (λ c. omega arith) (λ c. omega arith) (λ c. omega arith) (λ c. omega arith) loop-again returns (λ c. omega arith) loop-again-2 returns-2)

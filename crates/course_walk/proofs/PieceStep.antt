@@ -2,25 +2,25 @@
 use Prim.Native.Nat.{ℕ, _+_, _*_, _-_, _/_, min, max, _≤_, _<_}
 use mathlib.Core.Path.{_≡_, refl, ap, sym, _∙_}
 use native.Mathlib.Nat.{mul-le-mul-right}
-use native.Mathlib.Decide.{decLe, ℕ-discrete}
+use native.Mathlib.Decide.{ℕ-discrete}
 use native.Mathlib.Omega.{arith}
-use Rattle.course.specs.declared.Segment.{Segment}
+use borrow.Author.Tests.{lt-ltb}
 use Rattle.course.specs.Lists.{Lists}
 use Rattle.course.specs.Course.{Heading, rising, falling, Moment, toward, gap, rateAt, nextStop, holdAt, after}
 use Rattle.course.specs.Pieces.{piece}
 use Rattle.course.specs.Headings.{Past, Short}
-use Rattle.course.proofs.Near.{short-past, past-short, past-on, gap-to, gap-left, toward-zero}
+use Rattle.course.proofs.Near.{past-short, past-on, gap-to, gap-left, toward-zero}
 use Rattle.course.proofs.Ahead.{next-past}
 use Rattle.course.proofs.Rule.{at, after-rest}
-use Rattle.course.proofs.Pieces.{Room, Traces, line, room-less}
+use Rattle.course.proofs.Pieces.{Room, Line, Traces, line, room-less}
 use Rattle.course_walk.specs.declared.Place.{Place}
 use Rattle.course_stops.specs.Ahead.{segmentTo, segmentFrom}
-use Rattle.course_walk.specs.Walk.{momentOf, afterHold, afterRest, afterRun, afterShort, along, onward, standing}
-use Rattle.course_walk.proofs.Onward.{full-way, full-some, along-stuck, along-short, along-run, onward-hold, onward-rest, onward-along}
+use Rattle.course_walk.specs.Walk.{momentOf, afterHold, afterRest, afterRun, afterShort, onward, standing}
+use Rattle.course_walk.proofs.Onward.{full-way, full-some, onward-cases}
 use Rattle.course_walk.proofs.Seconds.{holds, stuck, runs, stops, after-add}
 
 -- from p to q the rule of one second goes along a straight piece
-pub record Goes (h : Heading) (l : Lists) (t n : ℕ) (p q : Place) : Type 0 where
+pub record PieceStep (h : Heading) (l : Lists) (t n : ℕ) (p q : Place) : Type 0 where
   pub later : p .second < q .second
   pub within : q .second ≤ n
   pub short : Short h t (q .level)
@@ -28,6 +28,13 @@ pub record Goes (h : Heading) (l : Lists) (t n : ℕ) (p q : Place) : Type 0 whe
   pub moment : after h l t (q .second - p .second) (momentOf p) ≡ momentOf q
   pub straight : Traces h (λ k. after h l t (k - p .second) (momentOf p) .level) (p .second) (q .second)
       (piece (p .second) (q .second) (p .level) (q .level))
+
+-- the straight line of such a piece
+pub step-line : {h : Heading} {l : Lists} {t n : ℕ} {p q : Place} → PieceStep h l t n p q →
+    Line h (λ k. after h l t (k - p .second) (momentOf p) .level)
+    (record { from = p .second; to = q .second; enter = p .level; leave = q .level })
+unfolding piece
+step-line {p = p} {q = q} g = (rw (lt-ltb (p .second) (q .second) (g .later)) at (g .straight)) .2
 
 toward-low : (h : Heading) (t v m w : ℕ) → Short h t w → w ≡ toward h v m → w ≤ max v t
 unfolding toward
@@ -54,11 +61,10 @@ module _ (h : Heading) (l : Lists) (t n : ℕ) (p : Place) (before : p .second <
 
   -- what is straight: r a second for f seconds
   module _ (r f : ℕ) (q : Place) where
-    goes : 1 ≤ f → q .second ≡ p .second + f → q .second ≤ n → Short h t (q .level) → after h l t f (momentOf p) ≡ momentOf q →
+    straight-step : 1 ≤ f → q .second ≡ p .second + f → q .second ≤ n → Short h t (q .level) → after h l t f (momentOf p) ≡ momentOf q →
         q .level ≡ toward h (p .level) (f * r) → Room h (p .level)
-        (f * r) → ((i : ℕ) → i ≤ f → after h l t i (momentOf p) .level ≡ toward h (p .level) (i * r)) →
-        Goes h l t n p q
-    goes some to le sh m e room g =
+        (f * r) → ((i : ℕ) → i ≤ f → after h l t i (momentOf p) .level ≡ toward h (p .level) (i * r)) → PieceStep h l t n p q
+    straight-step some to le sh m e room g =
         let x : ℕ = p .second in
         let y : ℕ = q .second in
         let w : y - x ≡ f = omega arith in
@@ -68,36 +74,34 @@ module _ (h : Heading) (l : Lists) (t n : ℕ) (p : Place) (before : p .second <
           short = sh;
           low = toward-low h t (p .level) (f * r) (q .level) sh e;
           moment = ap (λ (k : ℕ). after h l t k (momentOf p)) w ∙ m;
-          straight = line h levels (p .level) x y 0 (f * r) r (p .level) (q .level) (omega arith) (sym (toward-zero h (p .level))) e room
-              (λ z. (
-                ap (λ (k : ℕ). k * r) (sym w) ∙ omega arith,
-                λ i k. ap (λ (j : ℕ). after h l t j (momentOf p) .level) {x = x + i - x} {y = i} (omega arith) ∙ g i (omega arith)
-                    ∙ ap (toward h (p .level)) {x = i * r} {y = 0 + i * r} (omega arith),
-              ));
+          straight = line h levels (p .level) x y 0 (f * r) r (p .level) (q .level) (omega arith) (sym (toward-zero h (p .level))) e room (λ z. (
+            ap (λ (k : ℕ). k * r) (sym w) ∙ omega arith,
+            λ i k. ap (λ (j : ℕ). after h l t j (momentOf p) .level) {x = x + i - x} {y = i} (omega arith) ∙ g i (omega arith)
+                ∙ ap (toward h (p .level)) {x = i * r} {y = 0 + i * r} (omega arith),
+          ));
         }
 
   still : (f i v : ℕ) → v ≡ toward h v (i * 0)
   still f i v = sym (ap (toward h v) {x = i * 0} {y = 0} (omega arith) ∙ toward-zero h v)
 
-  hold-goes : 0 < p .left → Short h t (p .level) → Goes h l t n p (afterHold n p)
+  hold-step : 0 < p .left → Short h t (p .level) → PieceStep h l t n p (afterHold n p)
   unfolding afterHold
-  hold-goes some sh =
+  hold-step some sh =
       let f : ℕ = min (p .left) (n - p .second) in
-      goes 0 f (afterHold n p) (omega arith) (omega arith) (omega arith) sh
+      straight-step 0 f (afterHold n p) (omega arith) (omega arith) (omega arith) sh
       (holds h l t f (p .level) (p .left) (omega arith) ∙ ap (at (p .level)) (omega arith))
       (still f f (p .level)) (room-less h (p .level) (f * 0) 0 (omega arith) (room-none h (p .level)))
       (λ i k. ap (λ (m : Moment). m .level) (holds h l t i (p .level) (p .left) (omega arith)) ∙ still f i (p .level))
 
   -- nothing moves up to n
-  rest-goes : Short h t (p .level) → ((k : ℕ) → after h l t k (momentOf p) ≡ at (p .level) 0) → Goes h l t n p (afterRest n p)
+  rest-step : Short h t (p .level) → ((k : ℕ) → after h l t k (momentOf p) ≡ at (p .level) 0) → PieceStep h l t n p (afterRest n p)
   unfolding afterRest
-  rest-goes sh g =
+  rest-step sh g =
       let f : ℕ = n - p .second in
-      goes 0 f (afterRest n p) (omega arith) (omega arith) (omega arith) sh (g f) (still f f (p .level))
-      (room-less h (p .level) (f * 0) 0 (omega arith) (room-none h (p .level)))
-      (λ i k. ap (λ (m : Moment). m .level) (g i) ∙ still f i (p .level))
+      straight-step 0 f (afterRest n p) (omega arith) (omega arith) (omega arith) sh (g f) (still f f (p .level))
+      (room-less h (p .level) (f * 0) 0 (omega arith) (room-none h (p .level))) (λ i k. ap (λ (m : Moment). m .level) (g i) ∙ still f i (p .level))
 
-  left : (1 ≤ p .left → ⊥) → p .left ≡ 0
+  left : p .left ≤ 0 → p .left ≡ 0
   left none = omega arith
 
   -- along the segment to the next stop
@@ -129,14 +133,13 @@ module _ (h : Heading) (l : Lists) (t n : ℕ) (p : Place) (before : p .second <
       | no e ↦ let on = gap-left v stop h m (n .0) (omega arith) in past-short h (toward h v m) t (past-on h (toward h v m) stop t (on .0) (n .1))
     ]
 
-    short-goes : way < rate → Goes h l t n p (afterShort h p (segmentFrom h l t v))
+    short-step : way < rate → PieceStep h l t n p (afterShort h p (segmentFrom h l t v))
     unfolding afterShort segmentFrom segmentTo
-    short-goes lt =
+    short-step lt =
         let e : after h l t 1 (momentOf p) ≡ at (toward h v way) (holdAt h l t stop) =
         ap (after h l t 1) begins ∙ stops h l t v ahead some (omega arith) ∙ ap (λ (w : ℕ). at w (holdAt h l t stop)) (sym to-stop) in
-        goes way 1 (afterShort h p (segmentFrom h l t v)) (omega arith) refl (omega arith) (short-of way (omega arith)) e
-        (ap (toward h v) (omega arith)) (room (1 * way) (omega arith))
-        (λ i le. elim (ℕ-discrete i 0) [
+        straight-step way 1 (afterShort h p (segmentFrom h l t v)) (omega arith) refl (omega arith) (short-of way (omega arith)) e
+        (ap (toward h v) (omega arith)) (room (1 * way) (omega arith)) (λ i le. elim (ℕ-discrete i 0) [
           | yes z ↦
               ap (λ (k : ℕ). after h l t k (momentOf p) .level) z ∙ ap (λ (m : Moment). m .level) (after-zero h l t (momentOf p))
               ∙ sym (ap (toward h v) {x = i * way} {y = 0} (omega (arith, ap (λ (k : ℕ). k * way) z)) ∙ toward-zero h v)
@@ -146,56 +149,37 @@ module _ (h : Heading) (l : Lists) (t n : ℕ) (p : Place) (before : p .second <
               ∙ ap (toward h v) {x = way} {y = i * way} (omega (arith, ap (λ (k : ℕ). k * way) one))
         ])
 
-    run-goes : rate ≤ way → Goes h l t n p (afterRun h (min (way / rate) (n - p .second)) p (segmentFrom h l t v))
+    run-step : rate ≤ way → PieceStep h l t n p (afterRun h (min (way / rate) (n - p .second)) p (segmentFrom h l t v))
     unfolding afterRun segmentFrom segmentTo
-    run-goes le =
+    run-step le =
         let f : ℕ = min (way / rate) (n - p .second) in
         let fw : f * rate ≤ way = full-way way rate f (omega arith) in
-        goes rate f (afterRun h f p (segmentFrom h l t v)) (omega (arith, full-some way rate some le)) refl (omega arith) (short-of (f * rate) fw)
-        (ap (after h l t f) begins ∙ runs h l t v ahead some f fw) refl (room (f * rate) fw)
+        straight-step rate f (afterRun h f p (segmentFrom h l t v)) (omega (arith, full-some way rate some le)) refl (omega arith)
+        (short-of (f * rate) fw) (ap (after h l t f) begins ∙ runs h l t v ahead some f fw) refl (room (f * rate) fw)
         (λ i k. ap (λ (m : Moment). after h l t i m .level) begins
         ∙ ap (λ (m : Moment). m .level) (runs h l t v ahead some i (omega (arith, fw, mul-le-mul-right rate k))))
 
-  segment-goes : p .left ≤ 0 → Past h (p .level) t → Goes h l t n p (along h n p (segmentFrom h l t (p .level)))
-  unfolding segmentFrom segmentTo
-  segment-goes none-left ahead =
-      let v : ℕ = p .level in
-      let s : Segment = segmentFrom h l t v in
-      elim (ℕ-discrete (rateAt h l v) 0) [
-        | yes z ↦ rw (sym (along-stuck h n p s z))
-            (rest-goes (past-short h v t ahead) (λ k. ap (after h l t k) {x = momentOf p} {y = at v 0} (ap (at v) (omega arith))
-            ∙ stuck h l t k v ahead z))
-        | no z ↦ elim (decLe (rateAt h l v) (gap v (nextStop h l t v))) [
-          | yes le ↦ rw (sym (along-run h n p s z le)) (run-goes none-left ahead (omega arith) le)
-          | no le ↦ rw (sym (along-short h n p s z (omega arith))) (short-goes none-left ahead (omega arith) (omega arith))
-        ]
-      ]
-
   -- whatever comes next
-  pub onward-goes : Short h t (p .level) → Goes h l t n p (onward h l t n p)
-  onward-goes sh = elim (decLe 1 (p .left)) [
-    | yes some ↦ rw (sym (onward-hold h l t n p some)) (hold-goes some sh)
-    | no none ↦ elim (ℕ-discrete (p .level) t) [
-      | yes e ↦ rw (sym (onward-rest h l t n p (omega arith) e))
-          (rest-goes sh (λ k. ap (after h l t k) {x = momentOf p} {y = at t 0} (λ i. at (e i) (left none i)) ∙ after-rest h l t k
-          ∙ ap (λ (w : ℕ). at w 0) (sym e)))
-      | no e ↦ rw (sym (onward-along h l t n p (omega arith) e)) (segment-goes (omega arith) (short-past h t (p .level) sh e))
-    ]
-  ]
+  pub onward-step : Short h t (p .level) → PieceStep h l t n p (onward h l t n p)
+  onward-step sh = onward-cases h l t n p sh (PieceStep h l t n p) (λ some. hold-step some sh)
+      (λ none e. rest-step sh (λ k. ap (after h l t k) {x = momentOf p} {y = at t 0} (λ i. at (e i) (left none i)) ∙ after-rest h l t k
+      ∙ ap (λ (w : ℕ). at w 0) (sym e)))
+      (λ none past z. rest-step sh (λ k. ap (after h l t k) {x = momentOf p} {y = at (p .level) 0} (ap (at (p .level)) (left none))
+      ∙ stuck h l t k (p .level) past z))
+      (λ none past some lt. short-step none past some lt) (λ none past some le. run-step none past some le)
 
 -- ---- one piece after another, to the second n
-module _ (h : Heading) (l : Lists) (t n : ℕ) where
-  pub standing-on : (p q : Place) → Goes h l t n p q → standing h l t n q ≡ standing h l t n p
-  unfolding standing
-  standing-on p q g =
-      let e : after h l t (n - q .second) (momentOf q) ≡ after h l t (n - p .second) (momentOf p) =
-      ap (after h l t (n - q .second)) (sym (g .moment)) ∙ sym (after-add h l t (q .second - p .second) (n - q .second) (momentOf p))
-      ∙ ap (λ (k : ℕ). after h l t k (momentOf p)) (omega (arith, g .later, g .within)) in
-      ap (λ (m : Moment). record { second = n; level = m .level; left = m .left }) e
+pub standing-on : {h : Heading} {l : Lists} {t n : ℕ} {p q : Place} → PieceStep h l t n p q → standing h l t n q ≡ standing h l t n p
+unfolding standing
+standing-on {h} {l} {t} {n} {p} {q} g =
+    let e : after h l t (n - q .second) (momentOf q) ≡ after h l t (n - p .second) (momentOf p) =
+    ap (after h l t (n - q .second)) (sym (g .moment)) ∙ sym (after-add h l t (q .second - p .second) (n - q .second) (momentOf p))
+    ∙ ap (λ (k : ℕ). after h l t k (momentOf p)) (omega (arith, g .later, g .within)) in
+    ap (λ (m : Moment). record { second = n; level = m .level; left = m .left }) e
 
-  pub standing-here : (p : Place) → n ≡ p .second → standing h l t n p ≡ p
-  unfolding standing
-  standing-here p e =
-      let z : after h l t (n - p .second) (momentOf p) ≡ momentOf p =
-      ap (λ (k : ℕ). after h l t k (momentOf p)) {x = n - p .second} {y = 0} (omega arith) ∙ after-zero h l t (momentOf p) in
-      λ i. record { second = e i; level = z i .level; left = z i .left }
+pub standing-here : (h : Heading) (l : Lists) (t n : ℕ) (p : Place) → n ≡ p .second → standing h l t n p ≡ p
+unfolding standing
+standing-here h l t n p e =
+    let z : after h l t (n - p .second) (momentOf p) ≡ momentOf p =
+    ap (λ (k : ℕ). after h l t k (momentOf p)) {x = n - p .second} {y = 0} (omega arith) ∙ after-zero h l t (momentOf p) in
+    λ i. record { second = e i; level = z i .level; left = z i .left }
