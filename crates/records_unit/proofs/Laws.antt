@@ -2,8 +2,8 @@
 use Prim.Native.Nat.{ℕ, _+_, _<_, _≤_}
 use native.Mathlib.Omega.{arith}
 use native.Mathlib.Numerals.{add-one}
-use mathlib.Core.Path.{_≡_, refl, sym}
-use mathlib.Core.Bool.{Bool, true, false, _&&_, _||_}
+use mathlib.Core.Path.{_≡_, refl}
+use mathlib.Core.Bool.{Bool, true, false, _&&_, _||_, or-false}
 use mathlib.Core.List.{List, [], _∷_, map}
 use lib.Dec.{leb}
 use lib.ListN.{length, getD, drop, List·getD-map}
@@ -19,36 +19,19 @@ lowsOf rs = map (λ (r : Range). r .low) rs
 unfoldable pub highsOf : List Range → List ℕ
 highsOf rs = map (λ (r : Range). r .high) rs
 
-module _ (rs : List Range) (ns : List ℕ) (i : ℕ) (h : i < length rs) where
-  at : Range
-  at = getD rs i (record { low = 0; high = 0 })
+abbrev noRange : Range
+noRange = record { low = 0; high = 0 }
 
-  low-at : getD (lowsOf rs) i 0 ≡ at .low
-  unfolding lowsOf at
-  low-at = List·getD-map (λ (r : Range). r .low) rs i (record { low = 0; high = 0 })
-
-  high-at : getD (highsOf rs) i 0 ≡ at .high
-  unfolding highsOf at
-  high-at = List·getD-map (λ (r : Range). r .high) rs i (record { low = 0; high = 0 })
-
-  fit-step : (b : Bool) → inRange at (getD ns i 0) ≡ b → fitFrom (drop i rs) ns i ≡ b && fitFrom (drop (i + 1) rs) ns (i + 1)
-  unfolding fitFrom at
-  fit-step b e = rw (drop-cons rs i (record { low = 0; high = 0 }) h, e, add-one)
-
-  range-at : inRange at (getD ns i 0) ≡ leb (getD (lowsOf rs) i 0) (getD ns i 0) && leb (getD ns i 0) (getD (highsOf rs) i 0)
-  unfolding inRange
-  range-at = rw (low-at, high-at) refl
-
-  -- one number more is looked at
-  pub fit-more : (b : Bool) →
-      (b && (leb (getD (lowsOf rs) i 0) (getD ns i 0) && leb (getD ns i 0) (getD (highsOf rs) i 0))) && fitFrom (drop (i + 1) rs) ns (i + 1) ≡ b &&
-      fitFrom (drop i rs) ns i
-  fit-more true = sym (fit-step _ range-at)
-  fit-more false = refl
-
-pub and-true : (b : Bool) → b && true ≡ b
-and-true true = refl
-and-true false = refl
+-- one number more is looked at
+pub fit-more : (rs : List Range) (ns : List ℕ) (i : ℕ) → i < length rs → (b : Bool) →
+    (b && (leb (getD (lowsOf rs) i 0) (getD ns i 0) && leb (getD ns i 0) (getD (highsOf rs) i 0))) && fitFrom (drop (i + 1) rs) ns (i + 1)
+    ≡ b && fitFrom (drop i rs) ns i
+unfolding fitFrom inRange lowsOf highsOf
+fit-more rs ns i h false = refl
+fit-more rs ns i h true =
+    let low : getD (map (λ (r : Range). r .low) rs) i 0 ≡ getD rs i noRange .low = List·getD-map (λ (r : Range). r .low) rs i noRange in
+    let high : getD (map (λ (r : Range). r .high) rs) i 0 ≡ getD rs i noRange .high = List·getD-map (λ (r : Range). r .high) rs i noRange in
+    rw (low, high, add-one i, drop-cons rs i noRange h)
 
 -- ---- breaks falling, from the place i on, after the break b
 module _ (xs : List ℕ) (b i : ℕ) where
@@ -65,10 +48,6 @@ module _ (xs : List ℕ) (b i : ℕ) where
   fall-none e = rw (e, drop-length)
 
 -- ---- three columns
-or-false : (b : Bool) → b || false ≡ b
-or-false true = refl
-or-false false = refl
-
 pub some-three : {A : Type 0} (f : A → Bool) (xs : List A) (z : A) → length xs ≡ 3 →
     f (getD xs 0 z) || (f (getD xs 1 z) || f (getD xs 2 z)) ≡ some f xs
 unfolding some

@@ -1,7 +1,7 @@
 -- Walks over the first places of an array, and the cases of the definitions, each with its conditions as plain facts.
 use mathlib.Core.Path.{_≡_, refl, sym, ap, _∙_}
 use mathlib.Core.List.{List, [], _∷_, _++_, map, append-assoc, append-nil}
-use mathlib.Core.Bool.{Bool, true, false, _&&_, _||_, not}
+use mathlib.Core.Bool.{Bool, true, false, _&&_, _||_, not, and-false}
 use Prim.Native.Nat.{ℕ, zero, suc, _+_, _≤_, _<_, min, max}
 use native.Mathlib.Numerals.{add-one}
 use native.Mathlib.Decide.{decLe}
@@ -153,7 +153,7 @@ module _ (os : List Numbered) (t : ℕ) (o : Numbered) where
 
   pub group-gone : superseded os o ≡ true → inGroup os t o ≡ false
   unfolding inGroup
-  group-gone e = rw e (by-bool (eqb (effectiveOf o) t) (λ q. rw q) (λ q. rw q))
+  group-gone e = rw e (and-false (eqb (effectiveOf o) t))
 
   pub group-left : effectiveOf o ≡ t → superseded os o ≡ false → inGroup os t o ≡ true
   unfolding inGroup

@@ -100,7 +100,7 @@ pub record EnteredIn (is : List Instruction) (times issues : List ℕ) (n : ℕ)
   pub told : ordered ≡ risingFrom 0 (take n times)
 
 -- a place among the first n, whether their times stand in order, and the latest issue time for the place before
-pub record Looked (times issues : List ℕ) (n at : ℕ) (ordered : Bool) (before : ℕ) : Type 0 where
+pub record LatestAsked (times issues : List ℕ) (n at : ℕ) (ordered : Bool) (before : ℕ) : Type 0 where
   pub here : at < n
   pub table : Table times issues n
   pub told : ordered ≡ risingFrom 0 (take n times)

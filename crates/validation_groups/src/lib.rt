@@ -7,7 +7,7 @@ ghost use lib.ListN.{length, take, getD};
 ghost use Rattle.level.specs.Numbers.{instructionPlaces};
 ghost use Rattle.validation.specs.Kept.{numbered, group, usedOf, used};
 ghost use Rattle.validation_rank.specs.Picked.{pickedList};
-ghost use Rattle.validation_groups.specs.Working.{noNumbered, numberedAt, sequenceOf, pushed, joined, Holds, Table, Entered, EnteredIn, Looked, laterOf, latestAt, hasTimeAt, followsTime, aloneAt, risingFrom, earlierOf, nextTimeAmong, Rising, Run};
+ghost use Rattle.validation_groups.specs.Working.{noNumbered, numberedAt, sequenceOf, pushed, joined, Holds, Table, Entered, EnteredIn, LatestAsked, laterOf, latestAt, hasTimeAt, followsTime, aloneAt, risingFrom, earlierOf, nextTimeAmong, Rising, Run};
 
 // Some of the instructions, in order: the first `count` places.
 pub struct Sequence {
@@ -160,7 +160,7 @@ pub fn latest_of(
     ordered: bool,
     before: u32,
 ) -> u32
-    requires { ⌜ Looked (now times) (now issues) n at ordered before ⌝ }
+    requires { ⌜ LatestAsked (now times) (now issues) n at ordered before ⌝ }
     ensures { λ r. ⌜ r ≡ latestAt (take n (now (times .entry))) (take n (now (issues .entry))) (getD (now (times .entry)) at 0) ⌝ }
 {
     if stands_alone(times, n, at, ordered) {

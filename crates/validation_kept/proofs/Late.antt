@@ -120,29 +120,19 @@ late-more {end} {n} {i} {own} {earliest} {fate} {least} {ks} {fates} g h room e 
 }
 
 -- ---- the fates by number
-module _ (times issues later : List ℕ) where
-  fates-count : (i : ℕ) → length (fatesTo times issues later i) ≡ i
-  unfolding fatesTo
-  fates-count zero = refl
-  fates-count (suc i) = simp length-append (omega (arith, fates-count i))
-
-  fates-step : (i : ℕ) →
-      fatesTo times issues later (i + 1) ≡ fatesTo times issues later i ++
-      (pick (supersededAmong times issues (getD times i 0) (getD issues i 0)) 1 (getD later i 0) ∷ [])
-  unfolding fatesTo
-  fates-step i = rw add-one
+fates-count : (times issues later : List ℕ) (i : ℕ) → length (fatesTo times issues later i) ≡ i
+unfolding fatesTo
+fates-count times issues later zero = refl
+fates-count times issues later (suc i) = simp length-append (omega (arith, fates-count times issues later i))
 
 pub fates-more : (ts js : List ℕ) (n i : ℕ) (later : List ℕ) → i < n → i < instructionPlaces →
     set (filled instructionPlaces 0 (fatesTo (take n ts) (take n js) later i)) i
-    (pick (supersededAmong (take n ts) (take n js) (getD ts i 0) (getD js i 0)) 1 (getD later i 0)) ≡ filled instructionPlaces 0
-    (fatesTo (take n ts) (take n js) later (i + 1))
+    (pick (supersededAmong (take n ts) (take n js) (getD ts i 0) (getD js i 0)) 1 (getD later i 0))
+    ≡ filled instructionPlaces 0 (fatesTo (take n ts) (take n js) later (i + 1))
+unfolding fatesTo
 fates-more ts js n i later h k =
     let xs = fatesTo (take n ts) (take n js) later i in
     let v : ℕ = pick (supersededAmong (take n ts) (take n js) (getD ts i 0) (getD js i 0)) 1 (getD later i 0) in
     let e : length xs ≡ i = fates-count (take n ts) (take n js) later i in
-    let p : set (filled instructionPlaces 0 xs) i v ≡ filled instructionPlaces 0 (xs ++ (v ∷ [])) =
-    ap (λ (j : ℕ). set (filled instructionPlaces 0 xs) j v) (sym e) ∙ filled-push 0 instructionPlaces xs v (omega arith) in
-    let a : getD ts i 0 ≡ getD (take n ts) i 0 = sym (getD-take n ts i 0 h) in
-    let b : getD js i 0 ≡ getD (take n js) i 0 = sym (getD-take n js i 0 h) in
-    p ∙ ap (filled instructionPlaces 0) ((λ q. xs ++ (pick (supersededAmong (take n ts) (take n js) (a q) (b q)) 1 (getD later i 0) ∷ []))
-    ∙ sym (fates-step (take n ts) (take n js) later i))
+    rw (add-one i, getD-take n ts i 0 h, getD-take n js i 0 h)
+    (ap (λ (j : ℕ). set (filled instructionPlaces 0 xs) j v) (sym e) ∙ filled-push 0 instructionPlaces xs v (omega arith))

@@ -1,11 +1,11 @@
 use Prim.Native.Nat.{_≤_, _-_}
 use mathlib.Core.Path.{_≡_, refl, sym, _∙_}
-use mathlib.Core.Bool.{_&&_}
+use mathlib.Core.Bool.{_&&_, and-true}
 use native.Mathlib.Omega.{arith}
 use borrow.Author.Needs.{needs}
 use lib.ListN.{drop}
 use Rattle.records.specs.Fields.{aLevel, aMaximum, aRate, aHold, aBoundary, columnRanges, rampRanges, unitRanges, fitFrom}
-use Rattle.records_unit.proofs.Laws.{lowsOf, highsOf, fit-more, and-true}
+use Rattle.records_unit.proofs.Laws.{lowsOf, highsOf, fit-more}
 use Rattle.records_unit.proofs.all_fit.Statement.{statement}
 use Rattle.records_unit.proofs.all_fit.Tie as tie
 

@@ -1,6 +1,6 @@
-use Prim.Native.Nat.{ℕ, _≤_, _-_, _+_}
+use Prim.Native.Nat.{ℕ, _≤_, _-_}
 use mathlib.Core.Path.{_≡_, refl, sym, _∙_}
-use mathlib.Core.List.{List, _∷_}
+use mathlib.Core.List.{List}
 use lib.ListN.{length, take, drop, getD}
 use Rattle.level.specs.Lists.{filled}
 use Rattle.validation.specs.declared.Numbered.{Numbered}
@@ -72,13 +72,13 @@ loop-again-2 c =
     let ks = kept k .items in
     let n = kept k .count in
     let o = getD ks (l .i) noNumbered in
-    let e : (end : ℕ) → LateFates end ks n (start k .args .t2) → actors end (drop (l .i) (take n ks)) ≡ o ∷ actors end (drop (l .i + 1) (take n ks)) =
-    λ end f. actors-keep ks n (fits (start k)) end (l .i) (omega arith) (sym (f (l .i) (omega arith)) ∙ c .before .if1 .left) in
     record {
       within = omega arith;
       few = omega arith;
       stay = l .inv .stay;
-      begun = λ end f. begun-store (l .out .acting) o refl (omega arith) (rw (e end f) at (l .inv .begun end f));
+      begun = λ end f.
+          let e = actors-keep ks n (fits (start k)) end (l .i) (omega arith) (sym (f (l .i) (omega arith)) ∙ c .before .if1 .left) in
+          begun-store (l .out .acting) o refl (omega arith) (rw e at (l .inv .begun end f));
     }
 
 returns : tie.Need-returns Inv-loop μ-loop
