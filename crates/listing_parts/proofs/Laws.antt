@@ -159,6 +159,12 @@ module _ (u : UnitData) (end : ℕ) (cs : List Course) (n i : ℕ) where
   unfolding coursesLines spansOf dayPieces sLines
   courses-none h = ap (coursesLines u end) (left-over cs n i h)
 
+-- a loop over n courses has come to the i-th, and l has what all courses share; of the lines, so far P
+pub record CoursesTo (u : UnitData) (l : OwnLists) (i n : ℕ) (P : Type 0) : Type 0 where
+  pub within : i ≤ n
+  pub shared : Shared u l
+  pub lines : P
+
 -- of the lines left, those of the course c come next, which goes by the lists l up to the second `to`
 pub record CourseNext (left rest : List ℕ) (l : OwnLists) (c : Course) (up : Bool) (to : ℕ) : Type 0 where
   pub short : Short (headed up) (grains (c .target)) (c .start .grains)

@@ -27,6 +27,10 @@ use Rattle.day.proofs.Answers.{never}
 use Rattle.day.proofs.ByKind.{by-kind, step-used}
 use Rattle.listing.specs.Program.{runBy, ranBy}
 
+-- the answer of too few bytes
+abbrev Few : Answer → Type 0
+Few a = a ≡ Refused TooFewBytes
+
 -- a step, by what it reads of the bytes
 module _ (find : Taken → Found) (d : Day) where
   stepFrom : Bool → Bool → Bool → ℕ → List ℕ → Stepped
@@ -35,7 +39,10 @@ module _ (find : Taken → Found) (d : Day) where
       kindRefusals find (d .taken) k b)) d
       (accept (dayWith find d k b) (sizeOf k))
 
-  step-from : (s : List ℕ) → stepBy find d s ≡ stepFrom (noBytes s) (unknownKind s) (tooFew s) (kindOf s) (bodyOf s)
+  abbrev byParts : List ℕ → Stepped
+  byParts s = stepFrom (noBytes s) (unknownKind s) (tooFew s) (kindOf s) (bodyOf s)
+
+  step-from : (s : List ℕ) → stepBy find d s ≡ byParts s
   unfolding stepBy stepFrom
   step-from s = ap (λ (a : Answer). settle a d (accept (dayWith find d (kindOf s) (bodyOf s)) (sizeOf (kindOf s)))) (by-kind find d s)
 
@@ -43,7 +50,7 @@ module _ (find : Taken → Found) (d : Day) where
   unfolding stepFrom
   unknown-from few other k b c = refl
 
-  few-from : (k : ℕ) (b : List ℕ) → stepFrom false false true k b .answer ≡ Refused TooFewBytes
+  few-from : (k : ℕ) (b : List ℕ) → Few (stepFrom false false true k b .answer)
   unfolding stepFrom
   few-from k b = refl
 
@@ -77,9 +84,7 @@ module _ (find : Taken → Found) (d : Day) where
     body-is long = ap (λ (k : ℕ). take (sizeOf k - 1) (xs ++ t)) kind-is ∙ take-append-le (sizeOf (kindOf s) - 1) xs t (omega (arith, long))
 
     abbrev Same : Type 0
-    Same =
-        stepFrom (noBytes (s ++ t)) (unknownKind (s ++ t)) (tooFew (s ++ t)) (kindOf (s ++ t)) (bodyOf (s ++ t)) ≡ stepFrom (noBytes s)
-        (unknownKind s) (tooFew s) (kindOf s) (bodyOf s)
+    Same = byParts (s ++ t) ≡ byParts s
 
     strange : unknownKind s ≡ true → Same
     strange u =
@@ -88,14 +93,14 @@ module _ (find : Taken → Found) (d : Day) where
     fits : unknownKind s ≡ false → tooFew s ≡ false → Same
     fits u e = let g = enough-is e in rw (some x (xs ++ t), some x xs, unknown-is, kind-is, body-is (g .0), g .1, e) refl
 
-    short : unknownKind s ≡ false → tooFew s ≡ true → stepBy find d s .answer ≡ Refused TooFewBytes
+    short : unknownKind s ≡ false → tooFew s ≡ true → Few (stepBy find d s .answer)
     short u e = ap (λ (r : Stepped). r .answer) (step-from s) ∙ rw (some x xs, u, e) (few-from (kindOf s) (bodyOf s))
 
-    step-front : (stepBy find d s .answer ≡ Refused TooFewBytes → ⊥) → stepBy find d (s ++ t) ≡ stepBy find d s
+    step-front : (Few (stepBy find d s .answer) → ⊥) → stepBy find d (s ++ t) ≡ stepBy find d s
     step-front h =
         step-from (s ++ t) ∙ by-bool (unknownKind s) strange (λ u. by-bool (tooFew s) (λ e. absurd (h (short u e))) (fits u)) ∙ sym (step-from s)
 
-  none-few : stepBy find d [] .answer ≡ Refused TooFewBytes
+  none-few : Few (stepBy find d [] .answer)
   unfolding stepBy answerBy noBytes
   none-few = refl
 
@@ -122,18 +127,17 @@ module _ (find : Taken → Found) where
       go Accepted e true r = refl
       go Accepted e false r = refl
 
-  refused-onward : (n : ℕ) (a : Answer) (d : Day) (b : Bool) (s : List ℕ) → a ≡ Refused TooFewBytes → onward n a d b s .answer ≡ Refused TooFewBytes
+  refused-onward : (n : ℕ) (a : Answer) (d : Day) (b : Bool) (s : List ℕ) → Few a → Few (onward n a d b s .answer)
   unfolding onward
   refused-onward n (Refused r) d b s e = e
   refused-onward n Accepted d b s e = never (sym (ap accepted e))
 
-  run-few : (n : ℕ) (d : Day) (s : List ℕ) → stepBy find d s .answer ≡ Refused TooFewBytes → runBy find (suc n) d s .answer ≡ Refused TooFewBytes
+  run-few : (n : ℕ) (d : Day) (s : List ℕ) → Few (stepBy find d s .answer) → Few (runBy find (suc n) d s .answer)
   run-few n d s e =
       let t : Stepped = stepBy find d s in
       ap (λ (r : Ran). r .answer) (run-onward n d s) ∙ refused-onward n (t .answer) (t .day) (t .day .closed) (drop (t .used) s) e
 
-  run-front : (n m : ℕ) → n ≤ m → (d : Day) (s t : List ℕ) → (runBy find n d s .answer ≡ Refused TooFewBytes → ⊥) →
-      runBy find m d (s ++ t) ≡ runBy find n d s
+  run-front : (n m : ℕ) → n ≤ m → (d : Day) (s t : List ℕ) → (Few (runBy find n d s .answer) → ⊥) → runBy find m d (s ++ t) ≡ runBy find n d s
   unfolding runBy onward
   run-front zero m le d s t h = absurd (h refl)
   run-front (suc n) zero le d s t h = absurd (omega arith)
@@ -149,9 +153,9 @@ module _ (find : Taken → Found) where
       (λ k r g. run-front n m (omega arith) k r t g)
       ∙ sym (run-onward n d s)
     where
-      go : (a : Answer) (e : Day) (b : Bool) (r q : List ℕ) → q ≡ r ++ t → (onward n a e b r .answer ≡ Refused TooFewBytes → ⊥) →
-          ((k : Day) (v : List ℕ) → (runBy find n k v .answer ≡ Refused TooFewBytes → ⊥) → runBy find m k (v ++ t) ≡ runBy find n k v) → onward m a e
-          b q ≡ onward n a e b r
+      go : (a : Answer) (e : Day) (b : Bool) (r q : List ℕ) → q ≡ r ++ t → (Few (onward n a e b r .answer) → ⊥) →
+          ((k : Day) (v : List ℕ) → (Few (runBy find n k v .answer) → ⊥) → runBy find m k (v ++ t) ≡ runBy find n k v) →
+          onward m a e b q ≡ onward n a e b r
       go (Refused y) e b r q p g f = refl
       go Accepted e true r q p g f = refl
       go Accepted e false r q p g f = ap (runBy find m e) p ∙ f e r g

@@ -72,9 +72,9 @@ from d s = runBy (foundIn paper) (length s) d s
 by-step : (d : Day) (s : List ℕ) (t : Stepped) → t ≡ stepOf d s → 1 ≤ length s →
     from d s ≡ onward (foundIn paper) (length s - 1) (t .answer) (t .day) (t .day .closed) (drop (t .used) s)
 by-step d s t e h =
-    ap (λ (k : ℕ). runBy (foundIn paper) k d s) {x = length s} {y = suc (length s - 1)} (omega arith)
-    ∙ (run-onward (foundIn paper) (length s - 1) d s ∙ ap
-    (λ (x : Stepped). onward (foundIn paper) (length s - 1) (x .answer) (x .day) (x .day .closed) (drop (x .used) s)) (sym e))
+    let n : ℕ = length s - 1 in
+    ap (λ (k : ℕ). runBy (foundIn paper) k d s) {x = length s} {y = suc n} (omega arith) ∙ (run-onward (foundIn paper) n d s
+    ∙ ap (λ (x : Stepped). onward (foundIn paper) n (x .answer) (x .day) (x .day .closed) (drop (x .used) s)) (sym e))
 
 module _ (d : Day) (s : List ℕ) (some : 1 ≤ length s) where
   -- a refusal, or a close, ends it

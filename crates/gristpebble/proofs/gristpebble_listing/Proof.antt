@@ -234,9 +234,8 @@ gristpebble-listing-spec =
     (tie.spec Inv-loop μ-loop (λ c κs. search needs) loop-holds (λ c. search needs) (λ c κs. search needs) (λ c κs. search needs)
     (λ c κs. search needs) (λ c. ap length (unit-turn (c .before .before) .before .loop .inv .same)) returns (λ c. omega (arith, unit-in c .whole))
     (λ c. omega (arith, unit-in c .whole)) (λ c. omega (arith, unit-in c .whole)) (λ c. omega (arith, unit-in (c .before) .whole)) loop-again
-    (λ c κs. search needs) (λ c κs. search needs) (λ c κs. search needs)
-    (λ c. ap length (opening-turn (c .before .before) .before .loop .inv .same)) returns-2 (λ c κs. search needs)
-    (λ c. omega (arith, opening-in (c .before) .whole)) (λ c. omega (arith, opening-in (c .before) .whole))
+    (λ c κs. search needs) (λ c κs. search needs) (λ c κs. search needs) (λ c. ap length (opening-turn (c .before .before) .before .loop .inv .same))
+    returns-2 (λ c κs. search needs) (λ c. omega (arith, opening-in (c .before) .whole)) (λ c. omega (arith, opening-in (c .before) .whole))
     (λ c. omega (arith, opening-in (c .before) .whole)) (λ c. omega (arith, opening-in (c .before .before) .whole)) loop-again-2
     (λ c κs. search needs) (λ c κs. search needs) (λ c κs. search needs)
     (λ c. ap length (instruction-turn (c .before .before) .before .loop .inv .same)) returns-3 (λ c. omega (arith, room (c .before)))

@@ -1,42 +1,33 @@
-use Prim.Native.Nat.{ℕ, _+_, _*_, _-_, _≤_}
+use Prim.Native.Nat.{ℕ, _+_, _*_, _-_}
 use mathlib.Core.List.{List}
 use native.Mathlib.Omega.{arith}
 use borrow.Author.Needs.{needs}
 use lib.ListN.{getD}
-use Rattle.records.specs.declared.UnitData.{UnitData}
 use Rattle.course.specs.declared.Course.{Course}
 use Rattle.course.specs.Course.{noCourse}
 use Rattle.course_rates.specs.declared.OwnLists.{OwnLists}
-use Rattle.course_rates.proofs.Anew.{Shared, setAnew, shared-own, shared-anew}
+use Rattle.course_rates.proofs.Anew.{setAnew, shared-own, shared-anew}
 use Rattle.lines.proofs.Laying.{Measuring, measure-none, measure-more, measure-all}
-use Rattle.listing_parts.proofs.Laws.{CourseNext, courses-left, courses-none, course-next}
+use Rattle.listing_parts.proofs.Laws.{CoursesTo, CourseNext, courses-left, courses-none, course-next}
 use Rattle.listing_parts.proofs.courses_width.Statement.{statement}
 use Rattle.listing_parts.proofs.courses_width.Tie as tie
 
--- the lines of the courses before the place i are measured, and l has what all courses share
-record Progress (u : UnitData) (end : ℕ) (cs : List Course) (started n i : ℕ) (l : OwnLists) (width : ℕ) : Type 0 where
-  within : i ≤ n
-  shared : Shared u l
-  lines : Measuring (courses-left u end cs started 0) (courses-left u end cs started i) (369367187370 * i) width
-
 abbrev Inv-loop : tie.InvT-loop
-Inv-loop started end u cs n l₀ width₀ i₀ l width i = Progress u end cs started n i l width
+Inv-loop started end u cs n l₀ width₀ i₀ l width i =
+    CoursesTo u l i n (Measuring (courses-left u end cs started 0) (courses-left u end cs started i) (369367187370 * i) width)
 
 abbrev μ-loop : tie.MeasureT-loop
 μ-loop started end u cs n l₀ width₀ i₀ l width i = n - i
 
--- where a course's lists are set: where its heat, its direction and its end are known, and where the loop's test was reached
+-- where a course's lists are set: where its heat is known, before it its direction, and before that its end; and the turn
 abbrev placed : tie.After-ramp-of Inv-loop μ-loop → tie.After-place-of Inv-loop μ-loop
 placed c = c .before .before .before .before
 
 abbrev rises : tie.After-ramp-of Inv-loop μ-loop → tie.After-is-rising Inv-loop μ-loop
 rises c = placed c .before
 
-abbrev ends : tie.After-ramp-of Inv-loop μ-loop → tie.After-end-of Inv-loop μ-loop
-ends c = rises c .before
-
 abbrev turn : tie.After-ramp-of Inv-loop μ-loop → tie.In-loop Inv-loop μ-loop
-turn c = ends c .before .before .before
+turn c = rises c .before .before .before .before
 
 -- from there, where the courses are counted, and the function's start
 abbrev counted : tie.At-loop Inv-loop μ-loop → tie.After-smaller-count Inv-loop μ-loop
@@ -58,13 +49,13 @@ lists c = let k = turn c .before in setAnew (start k .args .t1) (k .loop .l) (pl
 -- its lines come next
 next : (c : tie.After-ramp-of Inv-loop μ-loop) →
     let k = turn c .before in
-    CourseNext (left k (k .loop .i)) (left k (k .loop .i + 1)) (lists c) (this k) (rises c .is-rising .result) (ends c .end-of .result)
+    CourseNext (left k (k .loop .i)) (left k (k .loop .i + 1)) (lists c) (this k) (rises c .is-rising .result) (rises c .before .end-of .result)
 next c =
     let k = turn c .before in
     let a = start k .args in
     course-next (a .t1) (a .end) (a .t2) (a .started) (counted k .smaller-count .result) (k .loop .i) (omega (arith, start k .good))
     (counted k .smaller-count .ensures) (turn c .loop-test .taken) (k .loop .inv .shared) (rises c .is-rising .ensures)
-    (placed c .place-of .ensures .0) (c .ramp-of .ensures) (ends c .before .smaller-count2 .ensures) (ends c .end-of .ensures)
+    (placed c .place-of .ensures .0) (c .ramp-of .ensures) (rises c .before .before .smaller-count2 .ensures) (rises c .before .end-of .ensures)
 
 loop-holds : tie.Need-loop-holds Inv-loop μ-loop
 loop-holds c =

@@ -1,44 +1,35 @@
-use Prim.Native.Nat.{ℕ, _+_, _-_, _≤_}
+use Prim.Native.Nat.{ℕ, _+_, _-_}
 use mathlib.Core.List.{List}
 use native.Mathlib.Omega.{arith}
 use borrow.Author.Needs.{needs}
 use lib.ListN.{getD}
-use Rattle.records.specs.declared.UnitData.{UnitData}
 use Rattle.course.specs.declared.Course.{Course}
 use Rattle.course.specs.Course.{noCourse}
 use Rattle.course_rates.specs.declared.OwnLists.{OwnLists}
-use Rattle.course_rates.proofs.Anew.{Shared, setAnew, shared-own, shared-anew}
+use Rattle.course_rates.proofs.Anew.{setAnew, shared-own, shared-anew}
 use Rattle.course_walk.specs.Walk.{beginning}
 use Rattle.lines.proofs.Laying.{Laying, Room, lay-none, lay-room, lay-next, lay-more, lay-all, room-tail}
 use Rattle.listing_parts.specs.Rest.{linesLeft}
-use Rattle.listing_parts.proofs.Laws.{CourseNext, courses-left, courses-none, course-next}
+use Rattle.listing_parts.proofs.Laws.{CoursesTo, CourseNext, courses-left, courses-none, course-next}
 use Rattle.listing_parts.proofs.put_courses.Statement.{statement}
 use Rattle.listing_parts.proofs.put_courses.Tie as tie
 
--- the lines of the courses before the place i are laid, and l has what all courses share
-record Progress (u : UnitData) (end : ℕ) (cs : List Course) (started n i : ℕ) (l : OwnLists) (out₀ out : List ℕ) (at : ℕ) : Type 0 where
-  within : i ≤ n
-  shared : Shared u l
-  lines : Laying (courses-left u end cs started 0) (courses-left u end cs started i) out₀ out at
-
 abbrev Inv-loop : tie.InvT-loop
-Inv-loop out₀ started end u cs n l₀ at₀ i₀ out l at i = Progress u end cs started n i l out₀ out at
+Inv-loop out₀ started end u cs n l₀ at₀ i₀ out l at i =
+    CoursesTo u l i n (Laying (courses-left u end cs started 0) (courses-left u end cs started i) out₀ out at)
 
 abbrev μ-loop : tie.MeasureT-loop
 μ-loop out₀ started end u cs n l₀ at₀ i₀ out l at i = n - i
 
--- where a course's lists are set: where its heat, its direction and its end are known, and where the loop's test was reached
+-- where a course's lists are set: where its heat is known, before it its direction, and before that its end; and the turn
 abbrev placed : tie.After-ramp-of Inv-loop μ-loop → tie.After-place-of Inv-loop μ-loop
 placed c = c .before .before .before .before
 
 abbrev rises : tie.After-ramp-of Inv-loop μ-loop → tie.After-is-rising Inv-loop μ-loop
 rises c = placed c .before
 
-abbrev ends : tie.After-ramp-of Inv-loop μ-loop → tie.After-end-of Inv-loop μ-loop
-ends c = rises c .before
-
 abbrev turn : tie.After-ramp-of Inv-loop μ-loop → tie.In-loop Inv-loop μ-loop
-turn c = ends c .before .before .before
+turn c = rises c .before .before .before .before
 
 -- from there, where the courses are counted, and the function's start
 abbrev counted : tie.At-loop Inv-loop μ-loop → tie.After-smaller-count Inv-loop μ-loop
@@ -60,18 +51,18 @@ lists c = let k = turn c .before in setAnew (start k .args .t2) (k .loop .l) (pl
 -- its lines come next
 next : (c : tie.After-ramp-of Inv-loop μ-loop) →
     let k = turn c .before in
-    CourseNext (left k (k .loop .i)) (left k (k .loop .i + 1)) (lists c) (this k) (rises c .is-rising .result) (ends c .end-of .result)
+    CourseNext (left k (k .loop .i)) (left k (k .loop .i + 1)) (lists c) (this k) (rises c .is-rising .result) (rises c .before .end-of .result)
 next c =
     let k = turn c .before in
     let a = start k .args in
     course-next (a .t2) (a .end) (a .t3) (a .started) (counted k .smaller-count .result) (k .loop .i) (omega (arith, start k .good))
     (counted k .smaller-count .ensures) (turn c .loop-test .taken) (k .loop .inv .shared) (rises c .is-rising .ensures)
-    (placed c .place-of .ensures .0) (c .ramp-of .ensures) (ends c .before .smaller-count2 .ensures) (ends c .end-of .ensures)
+    (placed c .place-of .ensures .0) (c .ramp-of .ensures) (rises c .before .before .smaller-count2 .ensures) (rises c .before .end-of .ensures)
 
 abbrev lines-of : (c : tie.After-ramp-of Inv-loop μ-loop) → List ℕ
 lines-of c =
     let d = this (turn c .before) in
-    linesLeft (lists c) d (rises c .is-rising .result) (ends c .end-of .result) (beginning d (d .begin))
+    linesLeft (lists c) d (rises c .is-rising .result) (rises c .before .end-of .result) (beginning d (d .begin))
 
 room : (c : tie.After-ramp-of Inv-loop μ-loop) →
     let k = turn c .before in Room (lines-of c) (start k .args .out .now) (k .loop .out) (k .loop .at)
