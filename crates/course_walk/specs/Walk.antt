@@ -12,7 +12,7 @@ use Rattle.course.specs.declared.Course.{Course}
 use Rattle.course.specs.Lists.{Lists}
 use Rattle.course.specs.Course.{Heading, rising, falling, Moment, toward, candidates, after, stopsFrom, segmentsOf}
 use Rattle.course.specs.declared.Piece.{Piece}
-use Rattle.course.specs.Headings.{Past, Short}
+use Rattle.course.specs.Headings.{Past}
 use Rattle.course.specs.Pieces.{piece, piecesOf}
 use Rattle.course_walk.specs.declared.Place.{Place}
 use Rattle.course_walk.specs.declared.Reached.{Reached}
@@ -109,12 +109,6 @@ module _ (h : Heading) (l : Lists) (t : ℕ) where
   -- twice the area from p to the second n: the sum over seconds of the levels at start and end
   unfoldable pub twiceTo : ℕ → Place → ℕ
   twiceTo n p = area (λ k. after h l t k (momentOf p) .level) 0 (n - p .second)
-
--- what going on asks for: a second n ahead, a level short of the target, and that a known segment is the one ahead
-pub record WalkAhead (h : Heading) (l : Lists) (t : ℕ) (from : Reached) (n : ℕ) : Type 0 where
-  pub before : from .place .second < n
-  pub short : Short h t (from .place .level)
-  pub known : Known h l t from
 
 -- f seconds along a segment: they end within 32 bits and within the way, which the level has room for
 pub record RunAhead (h : Heading) (p : Place) (s : Segment) (f : ℕ) : Type 0 where

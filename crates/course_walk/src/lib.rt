@@ -7,7 +7,8 @@ ghost use Rattle.level.specs.Choice.{pick};
 ghost use Rattle.level.specs.Level.{grains};
 ghost use Rattle.course.specs.Course.{toward};
 ghost use Rattle.course_rates.specs.Ways.{headed, listsBy};
-ghost use Rattle.course_walk.specs.Walk.{Reaches, WalkAhead, RunAhead, Known, afterHold, afterRest, afterRun, afterShort, along, restAlong, restRun, unknown, reachedAt, onward};
+ghost use Rattle.course.specs.Headings.{Short};
+ghost use Rattle.course_walk.specs.Walk.{Reaches, RunAhead, Known, afterHold, afterRest, afterRun, afterShort, along, restAlong, restRun, unknown, reachedAt, onward};
 
 // ---- going along a course
 
@@ -167,7 +168,9 @@ pub fn walk_on(
     from: Reached,
     n: u32,
 ) -> Reached
-    requires { ⌜ WalkAhead (headed up) (listsBy l c) (grains (c .target)) from n ⌝ }
+    requires { ⌜ from .place .second < n ⌝ }
+    requires { ⌜ Short (headed up) (grains (c .target)) (from .place .level) ⌝ }
+    requires { ⌜ Known (headed up) (listsBy l c) (grains (c .target)) from ⌝ }
     ensures { λ r. ⌜ (r .place ≡ onward (headed up) (listsBy l c) (grains (c .target)) n (from .place)) × Known (headed up) (listsBy l c) (grains (c .target)) r ⌝ }
 {
     let p = from.place;

@@ -34,7 +34,7 @@ use Rattle.course_walk.specs.Walk.{Known, reachedAt, beginning, pieceBetween, o
 use Rattle.course_walk.proofs.Left.{left-none, onward-first, all-left}
 use Rattle.course_walk.proofs.Own.{own-left}
 use Rattle.course_walk.proofs.Courses.{begins-short}
-use Rattle.course_walk.proofs.PieceStep.{PieceStep, onward-step}
+use Rattle.course_walk.proofs.PieceStep.{PieceStep as Goes, onward-step as onward-goes}
 use Rattle.course_walk.proofs.Rest.{known-at}
 use Rattle.profile_quantity.proofs.Above.{quantity-is}
 use Rattle.lines.specs.Lines.{fLine, sLine, qLine}
@@ -159,8 +159,8 @@ module _ (l : OwnLists) (c : Course) (up : Bool) where
       to → PieceOn l c up n from to
   piece-on n from to h a e =
       let p : Place = from .place in
-      let g : PieceStep (headed up) (listsBy l c) (grains (c .target)) n p (to .place) =
-      rw (e .0) (onward-step (headed up) (listsBy l c) (grains (c .target)) n p h (a .short)) in
+      let g : Goes (headed up) (listsBy l c) (grains (c .target)) n p (to .place) =
+      rw (e .0) (onward-goes (headed up) (listsBy l c) (grains (c .target)) n p h (a .short)) in
       record {
         along = record { short = g .short; known = e .1 };
         later = g .later;

@@ -1,11 +1,11 @@
-use Prim.Native.Nat.{ℕ, _≤_}
+use Prim.Native.Nat.{ℕ, _≤_, _<_}
 use mathlib.Core.Path.{_≡_, ap, sym, _∙_, subst}
 use native.Mathlib.Omega.{arith}
 use Rattle.level.specs.Level.{grains}
 use Rattle.course.specs.declared.Segment.{Segment}
 use Rattle.course.specs.Lists.{Lists}
 use Rattle.course.specs.Course.{Heading}
-use Rattle.course.specs.Headings.{Past}
+use Rattle.course.specs.Headings.{Past, Short}
 use Rattle.course.proofs.Near.{short-past}
 use Rattle.course_rates.specs.Ways.{headed, listsBy}
 use Rattle.course_stops.specs.Ahead.{segmentFrom}
@@ -51,6 +51,15 @@ place s = s .args .from .place
 abbrev ahead : tie.Start → Segment
 ahead s = segmentFrom (h s) (ls s) (target s) (place s .level)
 
+-- what is asked for
+record WalkAhead (s : tie.Start) : Type 0 where
+  before : place s .second < s .args .n
+  short : Short (h s) (target s) (place s .level)
+  known : Known (h s) (ls s) (target s) (s .args .from)
+
+asked : (s : tie.Start) → WalkAhead s
+asked s = record { before = s .pre .0; short = s .pre .1 .0; known = s .pre .1 .1 }
+
 -- what is to be returned, and the two ways to it
 abbrev Onward : tie.Start → Reached → Type 0
 Onward s r = (r .place ≡ onward (h s) (ls s) (target s) (s .args .n) (place s)) × Known (h s) (ls s) (target s) r
@@ -74,11 +83,11 @@ reaches s x past is = subst (λ (x : Segment). Reaches (h s) (place s .level) (x
 
 -- ---- a segment is known
 known-here : (c : tie.Then1) → let s = by-known c in SegmentAhead (h s) (ls s) (target s) (s .args .from)
-known-here c = by-known c .pre .known (c .if1 .taken)
+known-here c = asked (by-known c) .known (c .if1 .taken)
 
 along-segment-requires : tie.Need-along-segment-requires
 along-segment-requires c κs =
-    let s = by-known c in (s .pre .before, reaches s (s .args .from .rest) (known-here c .past) (known-here c .rest))
+    let s = by-known c in (asked s .before, reaches s (s .args .from .rest) (known-here c .past) (known-here c .rest))
 
 returns : tie.Need-returns
 returns c =
@@ -102,11 +111,11 @@ returns-3 c =
 
 -- the target lies ahead
 past-here : (c : tie.Else3) → let s = no-hold (on-way c) in Past (h s) (place s .level) (target s)
-past-here c = let s = no-hold (on-way c) in short-past (h s) (target s) (place s .level) (s .pre .short) (λ e. omega arith)
+past-here c = let s = no-hold (on-way c) in short-past (h s) (target s) (place s .level) (asked s .short) (λ e. omega arith)
 
 along-segment-requires-2 : tie.Need-along-segment-requires-2
 along-segment-requires-2 c κs =
-    let s = no-hold (on-way (c .before)) in (s .pre .before, reaches s _ (past-here (c .before)) (c .segment-from .ensures))
+    let s = no-hold (on-way (c .before)) in (asked s .before, reaches s _ (past-here (c .before)) (c .segment-from .ensures))
 
 returns-4 : tie.Need-returns-4
 returns-4 c =

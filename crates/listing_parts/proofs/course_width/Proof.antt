@@ -35,7 +35,7 @@ loop-holds c =
     rw (c .begin-at .ensures) (along-begins (s .args .l) (s .args .c) (s .args .up) (s .pre), omega arith, omega arith, omega arith)
 
 walk-on-requires : tie.Need-walk-on-requires Inv-loop μ-loop
-walk-on-requires c κs = let a = c .before .before .loop .inv .0 in record { before = c .if1 .taken; short = a .short; known = a .known }
+walk-on-requires c κs = let a = c .before .before .loop .inv .0 in (c .if1 .taken, (a .short, a .known))
 
 add-width : tie.Need-add-width Inv-loop μ-loop
 add-width c =

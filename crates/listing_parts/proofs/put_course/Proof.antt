@@ -52,7 +52,7 @@ loop-holds c =
     )
 
 walk-on-requires : tie.Need-walk-on-requires Inv-loop μ-loop
-walk-on-requires c κs = let a = c .before .before .loop .inv .0 in record { before = c .if1 .taken; short = a .short; known = a .known }
+walk-on-requires c κs = let a = c .before .before .loop .inv .0 in (c .if1 .taken, (a .short, a .known))
 
 sub-put-piece : tie.Need-sub-put-piece Inv-loop μ-loop
 sub-put-piece c = omega (arith, room (c .before .before))

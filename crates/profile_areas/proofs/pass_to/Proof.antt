@@ -30,8 +30,7 @@ loop-holds : tie.Need-loop-holds Inv-loop μ-loop
 loop-holds s = progress-start (s .pre)
 
 walk-on-requires : tie.Need-walk-on-requires Inv-loop μ-loop
-walk-on-requires c κs =
-    let l = c .before .before .before .loop in record { before = c .before .if1 .taken; short = l .inv .short; known = l .inv .known }
+walk-on-requires c κs = let l = c .before .before .before .loop in (c .before .if1 .taken, (l .inv .short, l .inv .known))
 
 -- the next piece
 next : (w : tie.After-walk-on Inv-loop μ-loop) →
