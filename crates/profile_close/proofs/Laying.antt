@@ -253,7 +253,8 @@ record MarksOf (ms : List Mark) (ns : List Numbered) : Type 0 where
   numbers : (j : ℕ) → getD ms j noMark .number ≡ getD ns j noNumbered .number
   not-one : NotOne ms
 
-one-more : (o : Numbered) (os : List Numbered) (fate : ℕ) → eqb fate 1 ≡ false → (ms : List Mark) → MarksOf ms os → MarksOf (mark fate o ∷ ms) (o ∷ os)
+one-more : (o : Numbered) (os : List Numbered) (fate : ℕ) → eqb fate 1 ≡ false → (ms : List Mark) → MarksOf ms os →
+    MarksOf (mark fate o ∷ ms) (o ∷ os)
 one-more o os fate e ms a = record { many = ap suc (a .many); numbers = at; not-one = (e, a .not-one) }
   where
     at : (j : ℕ) → getD (mark fate o ∷ ms) j noMark .number ≡ getD (o ∷ os) j noNumbered .number

@@ -274,7 +274,8 @@ module _ {u : UnitData} {halves : ℕ} {first : UnderWay} {all left : List Numbe
       pub progress-end : {s : State} {r : FollowedDay} → s ≡ stateAt byRule u (w .now) end → r ≡ ended w zs s halves → FollowedBy u first all halves r
       unfolding walkAll walkOf ended
       progress-end state e =
-          let all-walked : w ≡ walkOf (lastIn u first all) (follow byRule u first all) = walked-end u first w (follow byRule u first all) (v .walked) in
+          let all-walked : w ≡ walkOf (lastIn u first all) (follow byRule u first all) =
+          walked-end u first w (follow byRule u first all) (v .walked) in
           rw e (record {
             walk = all-walked;
             sums = ap (filled boundaryPlaces 0) all-noted;

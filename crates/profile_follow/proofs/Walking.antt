@@ -102,7 +102,8 @@ module _ (u : UnitData) where
             us = g .us;
             ms = g .ms ++ (mark 7 o ∷ []);
             courses = ap (λ (f : Followed). g .us ++ f .courses) (sym step) ∙ g .courses;
-            marks = append-one (g .ms) (mark 7 o) (follow byRule u (w .now) os .marks) ∙ ap (λ (f : Followed). g .ms ++ f .marks) (sym step) ∙ g .marks;
+            marks =
+                append-one (g .ms) (mark 7 o) (follow byRule u (w .now) os .marks) ∙ ap (λ (f : Followed). g .ms ++ f .marks) (sym step) ∙ g .marks;
             holds = held-on w o (g .us) (g .ms) (g .holds) h;
           }
 

@@ -12,7 +12,8 @@ unfolding listsBy
 returns c =
     let s = c .before .before .before .before in
     rw (c .before .before .before .if1 .taken) (
-      c .held-two .ensures .0 ∙ sym (hold-soak (listsBy (s .args .l) (s .args .c)) (grains (s .args .c .target)) (s .args .w) (s .pre .1) (s .pre .0)),
+      c .held-two .ensures .0 ∙ sym (hold-soak (listsBy (s .args .l) (s .args .c)) (grains (s .args .c .target)) (s .args .w) (s .pre .1)
+          (s .pre .0)),
       omega arith,
     )
 

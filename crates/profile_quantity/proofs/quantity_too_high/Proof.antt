@@ -28,7 +28,8 @@ returns : tie.Need-returns Inv-loop μ-loop
 returns c =
     let k = c .before .before .before in
     let s = k .before .before in
-    sym (above-here (s .args .u .maximum) (s .args .t2) (s .args .halves) (k .loop .i) (omega arith) (omega arith)) ∙ k .loop .inv .1 (s .args .u .maximum) refl
+    sym (above-here (s .args .u .maximum) (s .args .t2) (s .args .halves) (k .loop .i) (omega arith) (omega arith))
+    ∙ k .loop .inv .1 (s .args .u .maximum) refl
 
 loop-again-2 : tie.Need-loop-again-2 Inv-loop μ-loop
 loop-again-2 c =
