@@ -218,7 +218,8 @@ pub begun-group : {s : Sequence} {whole : List Numbered} (end : ℕ) (os : List 
 unfolding usedFrom
 begun-group end os m k t next f d q h room g b =
     let e : m ≡ suc k = omega arith in
-    let more : usedFrom end os m t ≡ pickedList f ++ usedFrom end os k (next + 1) = rw (e, g, q, add-one, lt-ltb (nextTime end os t) end (omega arith), usedFrom) in
+    let more : usedFrom end os m t ≡ pickedList f ++ usedFrom end os k (next + 1) =
+    rw (e, g, q, add-one, lt-ltb (nextTime end os t) end (omega arith), usedFrom) in
     begun-picked f room (rw more at b)
 
 -- ---- the instructions as entered

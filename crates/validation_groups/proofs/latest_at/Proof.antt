@@ -26,7 +26,9 @@ loop-again c =
     let l = k .loop in
     let e : l .i - 1 + 1 ≡ l .i = omega arith in
     let h : l .i - 1 < a .n = omega arith in
-    (omega arith, c .later .ensures ∙ rw (left-cons (a .times .now) (a .n) (l .i - 1) 0 h (omega arith), left-cons (a .issues .now) (a .n) (l .i - 1) 0 h (omega arith), e, l .inv .1))
+    let time = left-cons (a .times .now) (a .n) (l .i - 1) 0 h (omega arith) in
+    let issue = left-cons (a .issues .now) (a .n) (l .i - 1) 0 h (omega arith) in
+    (omega arith, c .later .ensures ∙ rw (time, issue, e, l .inv .1))
 
 returns : tie.Need-returns Inv-loop μ-loop
 returns c =

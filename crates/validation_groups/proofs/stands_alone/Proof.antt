@@ -23,7 +23,8 @@ returns-3 : tie.Need-returns-3
 unfolding aloneAt
 returns-3 c =
     let h = c .before .before in
-    rw (not-false (asked h .before .args .ordered) (asked h .if1 .left), sym (h .has-time .ensures) ∙ c .before .if2 .left) (ap not (c .follows-time .ensures))
+    rw (not-false (asked h .before .args .ordered) (asked h .if1 .left), sym (h .has-time .ensures) ∙ c .before .if2 .left)
+    (ap not (c .follows-time .ensures))
 
 pub stands-alone-spec : {M : Type 1} → statement M
 stands-alone-spec =

@@ -46,7 +46,8 @@ loop-holds c =
     rw (c .empty .ensures) (record {
       within = omega arith;
       few = omega arith;
-      begun = subst (λ (k : ℕ). Begun (sequenceOf []) (usedFrom (s .args .end) os k 0) (used (s .args .end) os)) z (begun-none (used (s .args .end) os));
+      begun =
+          subst (λ (k : ℕ). Begun (sequenceOf []) (usedFrom (s .args .end) os k 0) (used (s .args .end) os)) z (begun-none (used (s .args .end) os));
     })
 
 next-time-requires : tie.Need-next-time-requires Inv-loop μ-loop
