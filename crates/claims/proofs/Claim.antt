@@ -111,5 +111,4 @@ module _ (d : Day) (rs : List (List ℕ)) (m : Made d rs) (c : d .closed ≡ tru
 
 -- over every list of calls from the empty day
 pub demand3 : Demand3Claim
-demand3 calls c =
-    demand (dayAfter calls) (recordsOf calls) (made-after calls empty [] made-empty) c (listingsOf calls) (wrote-are calls empty)
+demand3 calls c = demand (dayAfter calls) (recordsOf calls) (made-after calls empty [] made-empty) c (listingsOf calls) (wrote-are calls empty)

@@ -151,8 +151,7 @@ module _ (rs : List (List ℕ)) (s : List ℕ) (may : MayCome rs s) where
   count-with : length (instructionsIn (with-one rs s)) ≡ pick (eqb k 3) (length (instructionsIn rs) + 1) (length (instructionsIn rs))
   count-with = ap length instructions-with ∙ go (eqb k 3)
     where
-      go : (c : Bool) →
-          length (pick c (instructionsIn rs ++ (instructionOf b ∷ [])) (instructionsIn rs)) ≡ pick c (length (instructionsIn rs) + 1)
+      go : (c : Bool) → length (pick c (instructionsIn rs ++ (instructionOf b ∷ [])) (instructionsIn rs)) ≡ pick c (length (instructionsIn rs) + 1)
           (length (instructionsIn rs))
       go true = length-append (instructionsIn rs) (instructionOf b ∷ [])
       go false = refl

@@ -91,8 +91,7 @@ stays [] d c = unfold afterCalls in refl
 stays (asks o ∷ cs) d c = after-ask d o cs ∙ stays cs d c
 stays (sends s ∷ cs) d c =
     by-bool (accepted (answerOf d s))
-    (λ e. never (sym (passed (foundIn paper) d s (is-accepted (answerOf d s) e) .not-closed) ∙ c))
-    (λ e. after-refused d s cs e ∙ stays cs d c)
+    (λ e. never (sym (passed (foundIn paper) d s (is-accepted (answerOf d s) e) .not-closed) ∙ c)) (λ e. after-refused d s cs e ∙ stays cs d c)
 
 -- each accepted listing is that of the day after all calls
 pub wrote-are : (cs : List Call) (d : Day) → All (λ w. w ≡ printedDay (afterCalls d cs)) (wrote d cs)

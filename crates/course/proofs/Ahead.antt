@@ -79,7 +79,6 @@ unfolding nextStop
 next-past h l t v p = near-past h v t (candidates h l t) p
 
 -- one stop fewer lies ahead of the next stop
-pub next-fewer : (h : Heading) (l : Lists) (t v : ℕ) → Past h v t →
-    ahead h (nextStop h l t v) (candidates h l t) < ahead h v (candidates h l t)
+pub next-fewer : (h : Heading) (l : Lists) (t v : ℕ) → Past h v t → ahead h (nextStop h l t v) (candidates h l t) < ahead h v (candidates h l t)
 unfolding nextStop candidates
 next-fewer h l t v p = near-fewer-all h v t (l .msg ∷ (breaksInUse h l ++ map (λ g. g .level) (triggers h l))) (nextStop h l t v) refl p

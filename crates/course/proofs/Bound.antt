@@ -26,13 +26,11 @@ module _ (p : ℕ) (h : 0 < p) (ls : List Segment) (ok : Ok p ls) where
       omega (
         arith,
         sum-lag (exact p ls) (wholeWay ls * p) (exact-top p ls) s a n,
-        sum-le (λ j. exact p ls (j - s)) (recordedTick p ls)
-            (recorded-above-delayed p h ls ok) a n,
+        sum-le (λ j. exact p ls (j - s)) (recordedTick p ls) (recorded-above-delayed p h ls ok) a n,
       )
 
   -- B, over the n ticks from a
-  pub bound-of-ticks : (a n : ℕ) →
-      (area (recordedTick p ls) a n ≤ area (exact p ls) a n) ×
+  pub bound-of-ticks : (a n : ℕ) → (area (recordedTick p ls) a n ≤ area (exact p ls) a n) ×
       (area (exact p ls) a n ≤ area (recordedTick p ls) a n + 2 * (length ls * p * (wholeWay ls * p)))
   bound-of-ticks a n =
       let e = area-sums (exact p ls) a n in
@@ -40,16 +38,14 @@ module _ (p : ℕ) (h : 0 < p) (ls : List Segment) (ok : Ok p ls) where
         omega (
           arith,
           sum-le (recordedTick p ls) (exact p ls) (recorded-below-exact p h ls ok) a n,
-          sum-le (recordedTick p ls) (exact p ls)
-              (recorded-below-exact p h ls ok) (suc a) n,
+          sum-le (recordedTick p ls) (exact p ls) (recorded-below-exact p h ls ok) (suc a) n,
         ),
         omega (arith, short a n, short (suc a) n),
       )
 
 -- C
 area-second : (p : ℕ) → 0 < p → (f : ℕ → ℕ) → ((k : ℕ) → f k ≤ f (suc k)) → (k : ℕ) → area (between p f) (k * p) p ≡ p * p * (f k + f (suc k))
-area-second p h f up k =
-    area-line (between p f) (k * p) (p * f k) d p at ∙ omega (arith, ap (λ n. p * p * n) e)
+area-second p h f up k = area-line (between p f) (k * p) (p * f k) d p at ∙ omega (arith, ap (λ n. p * p * n) e)
   where
     d : ℕ
     d = f (suc k) - f k

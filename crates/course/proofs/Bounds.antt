@@ -24,14 +24,12 @@ area-down f g s h a zero = omega arith
 area-down f g s h a (suc n) = omega (arith, h a, h (suc a), area-down f g s h (suc a) n)
 
 -- two paths moved from s by what r and e say, either way
-bounds : (h : Heading) (s p b : ℕ) (r e v x : ℕ → ℕ) →
-    ((j : ℕ) → v j ≡ toward h s (r j)) → ((j : ℕ) → x j ≡ toward h (s * p) (e j)) →
+bounds : (h : Heading) (s p b : ℕ) (r e v x : ℕ → ℕ) → ((j : ℕ) → v j ≡ toward h s (r j)) → ((j : ℕ) → x j ≡ toward h (s * p) (e j)) →
     (h ≡ falling → (j : ℕ) → (r j ≤ s) × (e j ≤ s * p)) → (a n : ℕ) →
     (p * p * area r a n ≤ area e (a * p) (n * p)) × (area e (a * p) (n * p) ≤ p * p * (area r a n + b)) →
     gap (p * p * area v a n) (area x (a * p) (n * p)) ≤ p * p * b
 unfolding toward gap
-bounds rising s p b r e v x hv hx top a n w =
-    omega (arith, ap (λ m. p * p * m) (area-up r v s hv a n), area-up e x (s * p) hx (a * p) (n * p))
+bounds rising s p b r e v x hv hx top a n w = omega (arith, ap (λ m. p * p * m) (area-up r v s hv a n), area-up e x (s * p) hx (a * p) (n * p))
 bounds falling s p b r e v x hv hx top a n w =
     let m = top refl in
     omega (
@@ -63,6 +61,5 @@ pub ticks-ok : (c : Trajectory) → (0 < ticksOf c) × Ok (ticksOf c) (segments 
 unfolding ticksOf
 ticks-ok c = (
   product-pos (segments c) (segments-valid c),
-  product-ok (rateProduct (segments c)) (segments c) (dvd-refl (rateProduct (segments c)))
-      (segments-valid c),
+  product-ok (rateProduct (segments c)) (segments c) (dvd-refl (rateProduct (segments c))) (segments-valid c),
 )

@@ -124,8 +124,7 @@ module _ (p : ℕ) (f : ℕ → ℕ) (lo hi : ℕ) (up : lo ≤ hi) where
           cut-both t d,
           cuts-both ls d,
           ap (λ x. x * (2 * c)) (time u t (omega arith)),
-          ap (λ x. x * (2 * c))
-              (time t d (omega arith)),
+          ap (λ x. x * (2 * c)) (time t d (omega arith)),
         )
 
 pub cuts-none : (p : ℕ) (f : ℕ → ℕ) (lo hi : ℕ) → hi ≤ lo → (ls : List Segment) (u : ℕ) → cuts p f u ls lo hi ≡ 0

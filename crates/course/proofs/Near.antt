@@ -250,8 +250,7 @@ near-fewer-all h v t ws m e p =
         ap (λ x. ahead h x (t ∷ ws)) q,
         ahead-no h t t ws (short-refl h t),
         ahead-yes h v t ws p,
-        ahead-le h v t ws
-            (past-short h v t p),
+        ahead-le h v t ws (past-short h v t p),
       )
       | no q ↦ near-fewer h v t (t ∷ ws) m e p q
     ]

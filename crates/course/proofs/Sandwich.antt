@@ -34,8 +34,7 @@ split-tick p j = sym (div-add-mod' j p)
 -- at the i-th tick of the second k
 pub between-at : (p : ℕ) (f : ℕ → ℕ) (k i : ℕ) → i < p → between p f (k * p + i) ≡ p * f k + i * (f (suc k) - f k)
 unfolding between
-between-at p f k i h =
-    rw (mul-add-div-right {m = p} (omega arith) k i, mul-add-mod-self-right k p i, div-eq-of-lt h, mod-eq-of-lt h, add-zero)
+between-at p f k i h = rw (mul-add-div-right {m = p} (omega arith) k i, mul-add-mod-self-right k p i, div-eq-of-lt h, mod-eq-of-lt h, add-zero)
 
 -- two functions that do not fall are read one by one
 between-add : (p : ℕ) (f g : ℕ → ℕ) → ((k : ℕ) → f k ≤ f (suc k)) → ((k : ℕ) → g k ≤ g (suc k)) → (j : ℕ) →

@@ -24,12 +24,10 @@ module _ (p : ℕ) (l : Segment) (ok : SegmentOk p l) where
   ticks-rate = omega (arith, ap (λ n. l .way * n) (mul-div-cancel' (l .rate) (ok .divides)))
 
   pub ticks-low : ticks p l ≤ seconds l * p
-  ticks-low =
-      le-of-mul-le-mul-right {k = l .rate} (omega (arith, ticks-rate, mul-le-mul-right p (seconds-low l (ok .some-rate)))) (ok .some-rate)
+  ticks-low = le-of-mul-le-mul-right {k = l .rate} (omega (arith, ticks-rate, mul-le-mul-right p (seconds-low l (ok .some-rate)))) (ok .some-rate)
 
   pub ticks-high : seconds l * p ≤ ticks p l + p
-  ticks-high =
-      le-of-mul-le-mul-right {k = l .rate} (omega (arith, ticks-rate, mul-le-mul-right p (seconds-high l (ok .some-rate)))) (ok .some-rate)
+  ticks-high = le-of-mul-le-mul-right {k = l .rate} (omega (arith, ticks-rate, mul-le-mul-right p (seconds-high l (ok .some-rate)))) (ok .some-rate)
 
 pub recorded-zero : (ls : List Segment) → recorded ls 0 ≡ 0
 unfolding recorded

@@ -31,8 +31,7 @@ pub record PieceStep (h : Heading) (l : Lists) (t n : ℕ) (p q : Place) : Type 
 
 -- the straight line of such a piece
 pub step-line : {h : Heading} {l : Lists} {t n : ℕ} {p q : Place} → PieceStep h l t n p q →
-    Line h (λ k. after h l t (k - p .second) (momentOf p) .level)
-    (record { from = p .second; to = q .second; enter = p .level; leave = q .level })
+    Line h (λ k. after h l t (k - p .second) (momentOf p) .level) (record { from = p .second; to = q .second; enter = p .level; leave = q .level })
 unfolding piece
 step-line {p = p} {q = q} g = (rw (lt-ltb (p .second) (q .second) (g .later)) at (g .straight)) .2
 

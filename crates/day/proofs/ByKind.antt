@@ -57,8 +57,7 @@ module _ (find : Taken → Found) (t : Taken) (b : List ℕ) where
   ]
 
 -- "2 if empty, 1, 2, 24", then those of the kind
-pub by-kind : (find : Taken → Found) (d : Day) (s : List ℕ) →
-    answerBy find d s
+pub by-kind : (find : Taken → Found) (d : Day) (s : List ℕ) → answerBy find d s
     ≡ firstRefusal
     (refusing (noBytes s) TooFewBytes
     ∷ refusing (unknownKind s) UnknownKind

@@ -7,7 +7,7 @@ use day::Day;
 use day::Stepped;
 
 // What taking a record gives, and the part of the caller's slice that it did not use.
-pub struct Taken<'a> {
+pub struct TakenRest<'a> {
     pub stepped: Stepped,
     pub rest: &'a [u8],
 }
@@ -24,12 +24,12 @@ pub fn rest_after<'a>(s: Stepped, input: &'a [u8]) -> &'a [u8]
 }
 
 // Taking the record at the front of the input. On a refusal: its number, the same day, the whole slice.
-pub fn take<'a>(day: Day, input: &'a [u8]) -> Taken<'a>
+pub fn take<'a>(day: Day, input: &'a [u8]) -> TakenRest<'a>
     ensures { λ r. ⌜ (r .stepped ≡ stepOf day (now (input .entry))) × (now (r .rest) ≡ drop (stepOf day (now (input .entry)) .used) (now (input .entry))) ⌝ }
 {
     let s = day_step::step(day, input);
     let rest = rest_after(s, input);
-    Taken { stepped: s, rest }
+    TakenRest { stepped: s, rest }
 }
 
 // The step, with the bytes used as the rest shows them: so many as the input has more.
@@ -52,7 +52,7 @@ fn counted<'a>(s: Stepped, rest: &'a [u8], input: &'a [u8]) -> Stepped
 }
 
 // What was taken of the input, without the rest of it.
-fn apart<'a>(t: Taken<'a>, input: &'a [u8]) -> Stepped
+fn apart<'a>(t: TakenRest<'a>, input: &'a [u8]) -> Stepped
     ensures { λ r. ⌜ r ≡ countedBy (t .entry .stepped) (now (t .entry .rest)) (now (input .entry)) ⌝ }
 {
     counted(t.stepped, t.rest, input)

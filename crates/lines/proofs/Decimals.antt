@@ -139,8 +139,7 @@ decimal-width (suc k) v h =
     (λ e. let g : 10 ≤ v = ltb-false v 10 e in omega (
       arith,
       high-length v g,
-      decimal-width k (v / 10)
-          (omega (arith, rw (pow-succ' 10 (suc k)) at h)),
+      decimal-width k (v / 10) (omega (arith, rw (pow-succ' 10 (suc k)) at h)),
     ))
 
 ten-some : (k : ℕ) → 1 ≤ 10 ^ k

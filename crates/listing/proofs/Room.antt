@@ -56,8 +56,7 @@ runs-width first last k (x ∷ qs) p r h b =
     (λ e. simp (e, length-append) (omega (
       arith,
       q-width first last k (omega arith) (omega arith) h,
-      runs-width (suc last) (suc last) x qs
-          (omega arith) (omega arith) (b .0) (b .1),
+      runs-width (suc last) (suc last) x qs (omega arith) (omega arith) (b .0) (b .1),
     )))
 
 qs-width : (qs : List ℕ) → length qs ≤ mostHalfHours → All (λ (q : ℕ). q ≤ 2000000) qs → length (qLines qs) ≤ 16 * length qs

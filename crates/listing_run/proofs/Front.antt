@@ -118,11 +118,10 @@ module _ (find : Taken → Found) where
   unfolding runBy onward
   run-onward n d s = let t : Stepped = stepBy find d s in go (t .answer) (t .day) (t .day .closed) (drop (t .used) s)
     where
-      go : (a : Answer) (e : Day) (b : Bool) (r : List ℕ) →
-          elim a [
-            | Refused x ↦ record { answer = Refused x; day = e }
-            | Accepted ↦ elim b [ true ↦ record { answer = Accepted; day = e } | false ↦ runBy find n e r ]
-          ] ≡ onward n a e b r
+      go : (a : Answer) (e : Day) (b : Bool) (r : List ℕ) → elim a [
+        | Refused x ↦ record { answer = Refused x; day = e }
+        | Accepted ↦ elim b [ true ↦ record { answer = Accepted; day = e } | false ↦ runBy find n e r ]
+      ] ≡ onward n a e b r
       go (Refused x) e b r = refl
       go Accepted e true r = refl
       go Accepted e false r = refl

@@ -50,14 +50,7 @@ next from to x (s ∷ ss) c h k = elim (decLe (suc x) (s .end)) [
       let f : twiceArea (piecesIn (s .trajectory) 0 (min (s .end) x - s .begin)) ≡ twiceArea (piecesIn (s .trajectory) 0 j) =
       ap (λ (n : ℕ). twiceArea (piecesIn (s .trajectory) 0 n)) (omega (arith, c .0)) in
       rw (in-here s ss levelAt x p, in-here s ss (λ c k. levelAt c (suc k)) x p)
-      (omega (
-        arith,
-        e,
-        f,
-        one-more (s .trajectory) j,
-        not-yet (s .end) to (suc x) ss (c .2) p,
-        not-yet (s .end) to x ss (c .2) (omega arith),
-      ))
+      (omega (arith, e, f, one-more (s .trajectory) j, not-yet (s .end) to (suc x) ss (c .2) p, not-yet (s .end) to x ss (c .2) (omega arith)))
   | no p ↦
       let e : twiceArea (piecesIn (s .trajectory) 0 (min (s .end) (suc x) - s .begin)) ≡ twiceArea
       (piecesIn (s .trajectory) 0 (min (s .end) x - s .begin)) = ap (λ (n : ℕ). twiceArea (piecesIn (s .trajectory) 0 n)) (omega arith) in
@@ -82,8 +75,7 @@ module _ (n : ℕ) (ss : List Span) (c : Chain 0 ss (halfHour * n)) where
         arith,
         over 0 (halfHour * n) ss c 0 (halfHour * b) (omega arith) (omega arith),
         not-yet 0 (halfHour * n) 0 ss c (omega arith),
-        ap
-            (piecesTo ss) {x = 0 + halfHour * b} {y = halfHour * b} (omega arith),
+        ap (piecesTo ss) {x = 0 + halfHour * b} {y = halfHour * b} (omega arith),
       )
 
   pub area-in : (i : ℕ) → i < n → recordedIn ss i ≡ twinIn ss i

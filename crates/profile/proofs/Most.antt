@@ -93,8 +93,7 @@ module _ (u : UnitData) (m : ℕ) (capacity : u .capacity ≤ m) (maximum : u .m
       omega (
         arith,
         rule-level c (now .off) (t - now .course .begin),
-        level-below c (grains m) (t - now .course .begin) (b .course .start)
-            (omega (arith, b .course .target)),
+        level-below c (grains m) (t - now .course .begin) (b .course .start) (omega (arith, b .course .target)),
       )
 
   pub courses-below : (now : UnderWay) (os : List Numbered) → WayBelow m now → All (Below m) (map courseOf (follow byRule u now os .courses))

@@ -78,8 +78,7 @@ module _ (n : ℕ) (ss : List Span) (c : Chain 0 ss (halfHour * n)) where
         arith,
         over 0 (halfHour * n) ss c x (y - x) (omega arith) (omega arith),
         parts-more ss x y h,
-        ap (piecesTo ss) {x = x + (y - x)} {y = y}
-            (omega arith),
+        ap (piecesTo ss) {x = x + (y - x)} {y = y} (omega arith),
       )
 
 all-near : (from to : ℕ) (ss : List Span) → Chain from ss to → Drives ss → (a b : ℕ) → a ≤ b →

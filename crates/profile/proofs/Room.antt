@@ -81,15 +81,11 @@ sized ns = record { columns = λ heat. go (eqb heat 1) (eqb heat 2); up = omega 
 module _ (look : Trajectory → ℕ → ℕ → State) (u : UnitData) where
   follow-few : (now : UnderWay) (os : List Numbered) → length (map courseOf (follow look u now os .courses)) ≤ suc (length os)
   follow-few = follow-ind look u (λ now os f. length (map courseOf (f .courses)) ≤ suc (length os))
-      (λ now. omega arith)
-      (λ now o os f e few. unfold goesOn in omega (arith, few))
-      (λ now o os g f e few. unfold replaces in omega (arith, few))
+      (λ now. omega arith) (λ now o os f e few. unfold goesOn in omega (arith, few)) (λ now o os g f e few. unfold replaces in omega (arith, few))
 
   follow-digits : (now : UnderWay) (os : List Numbered) → Digits (follow look u now os .marks)
   follow-digits = follow-ind look u (λ now os f. Digits (f .marks))
-      (λ now. tt)
-      (λ now o os f e ds. unfold goesOn in (omega arith, ds))
-      (λ now o os g f e ds. unfold replaces in (omega arith, ds))
+      (λ now. tt) (λ now o os f e ds. unfold goesOn in (omega arith, ds)) (λ now o os g f e ds. unfold replaces in (omega arith, ds))
 
 pub pieces-few : (u : UnitData) → Sized u → (end : ℕ) (cs : List Course) → length (dayPieces (spansOf u end cs)) ≤ 32 * length cs
 unfolding spansOf dayPieces trajectoryOf

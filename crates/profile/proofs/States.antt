@@ -114,8 +114,7 @@ module _ (c : Trajectory) (off : ℕ) where
       level-down c (omega arith) k,
       level-down c (omega arith) (suc k),
       recorded-top (segments c) (suc k),
-      back (segments c)
-          (segments-valid c) k h,
+      back (segments c) (segments-valid c) k h,
     )
   ]
 

@@ -27,14 +27,7 @@ use Rattle.profile_areas.proofs.Watch.{watching-on}
 
 -- cut where it ends, a piece is the same
 step-there : {h : Heading} {l : Lists} {t n : ℕ} {p q : Place} → PieceStep h l t n p q → PieceStep h l t (q .second) p q
-step-there g = record {
-  later = g .later;
-  within = omega arith;
-  short = g .short;
-  low = g .low;
-  moment = g .moment;
-  straight = g .straight;
-}
+step-there g = record { later = g .later; within = omega arith; short = g .short; low = g .low; moment = g .moment; straight = g .straight }
 
 -- the next piece of the course, from p to q
 pub record NextPiece (l : OwnLists) (c : Course) (up : Bool) (n : ℕ) (p q : Place) : Type 0 where
@@ -100,13 +93,7 @@ module _ {l : OwnLists} {c : Course} {up : Bool} {before n : ℕ} where
       -- n cuts it
       pub progress-cut : n ≤ q .second →
           Passing l c up from before n a ys (record { reached = at; ahead = q; off = off; later = more; total = total })
-      progress-cut le = record {
-        progress = s;
-        runs = λ lt. x .is;
-        there = omega (arith, x .step .within);
-        ahead-low = x .low;
-        watched = on-watch;
-      }
+      progress-cut le = record { progress = s; runs = λ lt. x .is; there = omega (arith, x .step .within); ahead-low = x .low; watched = on-watch }
 
       -- it ends before n, and is added
       pub progress-more : {rest : Segment} → q .second < n → Known h ls t (record { place = q; rest = rest }) → {zs : List ℕ} {sum : ℕ} →

@@ -38,8 +38,7 @@ merged-one g o =
     let carrier : List Numbered = orElse (present Sync g) (present Desy g) in
     let one = or-else (present Sync g) (present Desy g) (present-one Sync g) (present-one Desy g) in
     by-bool (same (effectOf o) Mwof)
-    (λ e. rw e (or-else (map (carrying o) carrier) (o ∷ []) (omega (arith, map-length (carrying o) carrier)) (omega arith)))
-    (λ e. rw e (omega arith))
+    (λ e. rw e (or-else (map (carrying o) carrier) (o ∷ []) (omega (arith, map-length (carrying o) carrier)) (omega arith))) (λ e. rw e (omega arith))
 
 used-one : (g : List Numbered) → length (usedOf g) ≤ 1
 unfolding usedOf

@@ -202,8 +202,7 @@ present-all code Nothing = refl
 -- all of it
 pub walked-all : {best sync desy : Picked} {whole : List Numbered} → Walked best sync desy [] whole →
     (pickedList best ≡ bestFrom [] whole) × (pickedList sync ≡ present Sync whole) × (pickedList desy ≡ present Desy whole)
-walked-all {best} {sync} {desy} w =
-    (best-all best ∙ w .highest-is, present-all Sync sync ∙ w .sync-is, present-all Desy desy ∙ w .desy-is)
+walked-all {best} {sync} {desy} w = (best-all best ∙ w .highest-is, present-all Sync sync ∙ w .sync-is, present-all Desy desy ∙ w .desy-is)
 
 -- ---- those used
 pub used-stop : (end : ℕ) (os : List Numbered) (m t : ℕ) → end ≤ nextTime end os t → usedFrom end os m t ≡ []
@@ -218,7 +217,8 @@ pub begun-group : {s : Sequence} {whole : List Numbered} (end : ℕ) (os : List 
 unfolding usedFrom
 begun-group end os m k t next f d q h room g b =
     let e : m ≡ suc k = omega arith in
-    let more : usedFrom end os m t ≡ pickedList f ++ usedFrom end os k (next + 1) = rw (e, g, q, add-one, lt-ltb (nextTime end os t) end (omega arith), usedFrom) in
+    let more : usedFrom end os m t ≡ pickedList f ++ usedFrom end os k (next + 1) =
+    rw (e, g, q, add-one, lt-ltb (nextTime end os t) end (omega arith), usedFrom) in
     begun-picked f room (rw more at b)
 
 -- ---- the instructions as entered

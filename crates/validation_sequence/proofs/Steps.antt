@@ -72,11 +72,7 @@ module _ (s : Checking) (o : Numbered) where
       rw (f, t .settled) (sym (marked-append (replicate instructionPlaces 2) (map (mark 4) voids) (m .marks))) in
       let q : failed m o ≡ record { kept = beforeSync (m .kept); marks = mark 5 o ∷ (map (mark 4) (fromSync (m .kept)) ++ m .marks) } =
       rw (rw (t .stack) at w) in
-      rw q
-      (record {
-        stack = sym (rw (t .stack, ← d) at (r .before));
-        settled = ap (λ (l : List ℕ). setFate l (o .number) 5) g;
-      })
+      rw q (record { stack = sym (rw (t .stack, ← d) at (r .before)); settled = ap (λ (l : List ℕ). setFate l (o .number) 5) g })
 
   pub check-fail : {r : Checking} → same (effectOf o) Fail ≡ true → Follows s r (λ (m : Checked). failed m o) →
       Follows s r (λ (m : Checked). checkOne m o)

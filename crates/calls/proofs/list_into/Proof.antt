@@ -10,6 +10,5 @@ slice-aggregate-list c = sym (length-take-le _ _ (omega arith))
 
 pub list-into-spec : {M : Type 1} → statement M
 list-into-spec =
-    tie.close
-    (tie.spec (λ c κs. search needs) (λ c. search needs) (λ c. search needs) (λ c. search needs) slice-aggregate-list (λ c κs. search needs)
-    (λ c. search needs) (λ c. search needs))
+    tie.close (tie.spec (λ c κs. search needs) (λ c. search needs) (λ c. search needs) (λ c. search needs) slice-aggregate-list
+    (λ c κs. search needs) (λ c. search needs) (λ c. search needs))

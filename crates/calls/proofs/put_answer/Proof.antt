@@ -12,6 +12,5 @@ put-line-requires c κs =
 
 pub put-answer-spec : {M : Type 1} → statement M
 put-answer-spec =
-    tie.close
-    (tie.spec (λ c κs. search needs) (λ c. search needs) (λ c. search needs) (λ c. search needs) put-line-requires (λ c. search needs)
+    tie.close (tie.spec (λ c κs. search needs) (λ c. search needs) (λ c. search needs) (λ c. search needs) put-line-requires (λ c. search needs)
     (λ c κs. search needs) (λ c. search needs))

@@ -10,5 +10,5 @@ slice-aggregate-write-all c = sym (length-take-le _ _ (omega arith))
 
 pub put-front-spec : {M : Type 1} → statement M
 put-front-spec =
-    tie.close
-    (tie.spec slice-aggregate-write-all (λ c κs. search needs) (λ c. search needs) (λ c. search needs) (λ c κs. search needs) (λ c. search needs))
+    tie.close (tie.spec slice-aggregate-write-all (λ c κs. search needs) (λ c. search needs) (λ c. search needs) (λ c κs. search needs)
+    (λ c. search needs))

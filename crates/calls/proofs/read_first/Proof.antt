@@ -17,6 +17,5 @@ loop-holds c = refl
 
 pub read-first-spec : {M : Type 1} → statement M
 read-first-spec =
-    tie.close
-    (tie.spec Inv-loop μ-loop loop-holds (λ c κs. search needs) (λ c. search needs) (λ c. search needs) (λ c. search needs) (λ c. search needs)
-    (λ c. omega arith) (λ c. search needs) (λ c. search needs) (λ c. search needs))
+    tie.close (tie.spec Inv-loop μ-loop loop-holds (λ c κs. search needs) (λ c. search needs) (λ c. search needs) (λ c. search needs)
+    (λ c. search needs) (λ c. omega arith) (λ c. search needs) (λ c. search needs) (λ c. search needs))

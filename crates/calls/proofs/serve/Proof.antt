@@ -28,5 +28,5 @@ returns-2 c = tt
 
 pub serve-spec : {M : Type 1} → statement M
 serve-spec =
-    tie.close
-    (tie.spec Inv-loop μ-loop empty-day-requires loop-holds serve-one-requires returns (λ c. omega arith) (λ c. omega arith) loop-again returns-2)
+    tie.close (tie.spec Inv-loop μ-loop empty-day-requires loop-holds serve-one-requires returns (λ c. omega arith) (λ c. omega arith) loop-again
+    returns-2)

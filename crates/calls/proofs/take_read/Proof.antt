@@ -10,5 +10,5 @@ slice-aggregate-take-front c = sym (length-take-le _ _ (omega arith))
 
 pub take-read-spec : {M : Type 1} → statement M
 take-read-spec =
-    tie.close
-    (tie.spec (λ c κs. search needs) (λ c. search needs) slice-aggregate-take-front (λ c κs. search needs) (λ c κs. search needs) (λ c. search needs))
+    tie.close (tie.spec (λ c κs. search needs) (λ c. search needs) slice-aggregate-take-front (λ c κs. search needs) (λ c κs. search needs)
+    (λ c. search needs))

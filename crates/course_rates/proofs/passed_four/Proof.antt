@@ -11,6 +11,6 @@ returns c =
     omega (arith, passed-four (headed (s .args .up)) (s .args .v) (s .args .t3) (s .good .1 .1 .0 .1 .0 .1))
 
 pub passed-four-spec : {M : Type 1} → statement M
-passed-four-spec = tie.close
-    (tie.spec (λ c. search needs) (λ c κs. search needs) (λ c. search needs) (λ c κs. search needs) (λ c. search needs) (λ c κs. search needs)
-    (λ c. search needs) (λ c κs. search needs) (λ c. search needs) (λ c. search needs) (λ c. search needs) returns)
+passed-four-spec =
+    tie.close (tie.spec (λ c. search needs) (λ c κs. search needs) (λ c. search needs) (λ c κs. search needs) (λ c. search needs)
+    (λ c κs. search needs) (λ c. search needs) (λ c κs. search needs) (λ c. search needs) (λ c. search needs) (λ c. search needs) returns)

@@ -11,5 +11,5 @@ returns c =
     omega (arith, passed-two (headed (s .args .up)) (s .args .v) (s .args .t3) (s .good .1 .1 .0 .1 .0 .1))
 
 pub passed-two-spec : {M : Type 1} → statement M
-passed-two-spec = tie.close
-    (tie.spec (λ c. search needs) (λ c κs. search needs) (λ c. search needs) (λ c κs. search needs) (λ c. search needs) returns)
+passed-two-spec =
+    tie.close (tie.spec (λ c. search needs) (λ c κs. search needs) (λ c. search needs) (λ c κs. search needs) (λ c. search needs) returns)

@@ -14,6 +14,6 @@ returns c =
     (three-triggers (headed (s .args .up)) (s .args .v) (s .args .n) d (s .args .t3) (s .good .1 .1 .0 .1 .0 .1))
 
 pub dwell-stops-spec : {M : Type 1} → statement M
-dwell-stops-spec = tie.close
-    (tie.spec (λ c. search needs) (λ c κs. search needs) (λ c. search needs) (λ c κs. search needs) (λ c. search needs) (λ c κs. search needs)
-    returns)
+dwell-stops-spec =
+    tie.close (tie.spec (λ c. search needs) (λ c κs. search needs) (λ c. search needs) (λ c κs. search needs) (λ c. search needs)
+    (λ c κs. search needs) returns)

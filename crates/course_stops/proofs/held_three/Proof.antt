@@ -13,6 +13,6 @@ returns c =
     omega (arith, held-three (s .args .w) d (s .args .t2) (s .good .1 .0 .1 .0 .1))
 
 pub held-three-spec : {M : Type 1} → statement M
-held-three-spec = tie.close
-    (tie.spec (λ c. search needs) (λ c κs. search needs) (λ c. search needs) (λ c κs. search needs) (λ c. search needs) (λ c κs. search needs)
-    (λ c. search needs) (λ c. search needs) returns)
+held-three-spec =
+    tie.close (tie.spec (λ c. search needs) (λ c κs. search needs) (λ c. search needs) (λ c κs. search needs) (λ c. search needs)
+    (λ c κs. search needs) (λ c. search needs) (λ c. search needs) returns)

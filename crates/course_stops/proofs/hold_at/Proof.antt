@@ -21,5 +21,6 @@ returns-3 c =
     (c .held-three .ensures .0 ∙ sym dwell, omega arith)
 
 pub hold-at-spec : {M : Type 1} → statement M
-hold-at-spec = tie.close
-    (tie.spec (λ c κs. search needs) returns (λ c κs. search needs) (λ c κs. search needs) (λ c. search needs) (λ c κs. search needs) returns-3)
+hold-at-spec =
+    tie.close (tie.spec (λ c κs. search needs) returns (λ c κs. search needs) (λ c κs. search needs) (λ c. search needs) (λ c κs. search needs)
+    returns-3)

@@ -15,6 +15,6 @@ returns c =
     ) (four-breaks (headed (s .args .up)) (s .args .v) (s .args .n) (s .args .t3) (s .good .1 .1 .0 .1 .0 .1))
 
 pub ramp-breaks-spec : {M : Type 1} → statement M
-ramp-breaks-spec = tie.close
-    (tie.spec (λ c. search needs) (λ c κs. search needs) (λ c. search needs) (λ c κs. search needs) (λ c. search needs) (λ c κs. search needs)
-    (λ c. search needs) (λ c κs. search needs) returns)
+ramp-breaks-spec =
+    tie.close (tie.spec (λ c. search needs) (λ c κs. search needs) (λ c. search needs) (λ c κs. search needs) (λ c. search needs)
+    (λ c κs. search needs) (λ c. search needs) (λ c κs. search needs) returns)

@@ -22,6 +22,6 @@ returns-2 c =
     (falling-above (s .args .l) (s .args .c) (grains (s .args .c .target)) (s .args .v) (omega arith))
 
 pub stop-falling-spec : {M : Type 1} → statement M
-stop-falling-spec = tie.close
-    (tie.spec (λ c κs. search needs) (λ c κs. search needs) (λ c κs. search needs) returns (λ c κs. search needs) (λ c κs. search needs)
+stop-falling-spec =
+    tie.close (tie.spec (λ c κs. search needs) (λ c κs. search needs) (λ c κs. search needs) returns (λ c κs. search needs) (λ c κs. search needs)
     (λ c κs. search needs) returns-2)

@@ -26,5 +26,5 @@ returns-2 c =
     λ i. record { second = e i; level = p .level; left = f i }
 
 pub after-hold-spec : {M : Type 1} → statement M
-after-hold-spec = tie.close
-    (tie.spec (λ c. search needs) (λ c. search needs) (λ c. search needs) returns (λ c. search needs) (λ c. search needs) returns-2)
+after-hold-spec =
+    tie.close (tie.spec (λ c. search needs) (λ c. search needs) (λ c. search needs) returns (λ c. search needs) (λ c. search needs) returns-2)

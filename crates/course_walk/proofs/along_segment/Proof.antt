@@ -37,6 +37,6 @@ returns-3 c =
     (simp (ne-eqb (x .rate) 0 (e .if1 .left), le-ltb (x .way) (x .rate) (c .before .before .if2 .left)))
 
 pub along-segment-spec : {M : Type 1} → statement M
-along-segment-spec = tie.close
-    (tie.spec (λ c κs. search needs) (λ c κs. search needs) returns (λ c κs. search needs) (λ c κs. search needs) returns-2 (λ c κs. search needs)
-    after-run-requires returns-3)
+along-segment-spec =
+    tie.close (tie.spec (λ c κs. search needs) (λ c κs. search needs) returns (λ c κs. search needs) (λ c κs. search needs) returns-2
+    (λ c κs. search needs) after-run-requires returns-3)

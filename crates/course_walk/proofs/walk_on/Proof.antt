@@ -114,6 +114,6 @@ returns-4 c =
     by-segment (no-hold (on-way e)) _ _ (on-way e .if2 .left) (past-here e) (c .before .segment-from .ensures) (c .along-segment2 .ensures)
 
 pub walk-on-spec : {M : Type 1} → statement M
-walk-on-spec = tie.close
-    (tie.spec along-segment-requires returns (λ c κs. search needs) (λ c κs. search needs) returns-2 (λ c κs. search needs) (λ c κs. search needs)
-    (λ c κs. search needs) returns-3 (λ c κs. search needs) along-segment-requires-2 returns-4)
+walk-on-spec =
+    tie.close (tie.spec along-segment-requires returns (λ c κs. search needs) (λ c κs. search needs) returns-2 (λ c κs. search needs)
+    (λ c κs. search needs) (λ c κs. search needs) returns-3 (λ c κs. search needs) along-segment-requires-2 returns-4)

@@ -33,10 +33,15 @@ unfolding instructionFront
 returns-5 c =
     let late = c .before .before in
     c .read-instruction .ensures
-    ∙ rw (le-ltb _ _ (late .before .before .before .if1 .left), late .before .before .if2 .left, late .before .if3 .left, lt-leb _ _ (late .if4 .left))
+    ∙ rw (
+      le-ltb _ _ (late .before .before .before .if1 .left),
+      late .before .before .if2 .left,
+      late .before .if3 .left,
+      lt-leb _ _
+          (late .if4 .left),
+    )
 
 pub instruction-front-spec : {M : Type 1} → statement M
 instruction-front-spec =
-    tie.close
-    (tie.spec (λ c κs. search needs) returns (λ c κs. search needs) returns-2 (λ c κs. search needs) returns-3 (λ c κs. search needs) returns-4
-    (λ c. search needs) (λ c. search needs) (λ c. search needs) (λ c κs. search needs) returns-5)
+    tie.close (tie.spec (λ c κs. search needs) returns (λ c κs. search needs) returns-2 (λ c κs. search needs) returns-3 (λ c κs. search needs)
+    returns-4 (λ c. search needs) (λ c. search needs) (λ c. search needs) (λ c κs. search needs) returns-5)

@@ -28,6 +28,5 @@ returns-4 c =
 
 pub unit-front-spec : {M : Type 1} → statement M
 unit-front-spec =
-    tie.close
-    (tie.spec (λ c κs. search needs) returns (λ c κs. search needs) returns-2 (λ c κs. search needs) returns-3 (λ c. search needs)
+    tie.close (tie.spec (λ c κs. search needs) returns (λ c κs. search needs) returns-2 (λ c κs. search needs) returns-3 (λ c. search needs)
     (λ c. search needs) (λ c. search needs) (λ c κs. search needs) returns-4)

@@ -38,6 +38,5 @@ returns-3 c =
 
 pub close-step-spec : {M : Type 1} → statement M
 close-step-spec =
-    tie.close
-    (tie.spec (λ c κs. search needs) (λ c κs. search needs) (λ c κs. search needs) returns (λ c κs. search needs) (λ c κs. search needs)
+    tie.close (tie.spec (λ c κs. search needs) (λ c κs. search needs) (λ c κs. search needs) returns (λ c κs. search needs) (λ c κs. search needs)
     (λ c κs. search needs) returns-2 (λ c κs. search needs) returns-3)

@@ -60,6 +60,5 @@ returns-2 c =
 
 pub instruction-step-spec : {M : Type 1} → statement M
 instruction-step-spec =
-    tie.close
-    (tie.spec (λ c κs. search needs) (λ c κs. search needs) (λ c κs. search needs) returns mul-instruction element-set-from-instruction add-taken
-    (λ c κs. search needs) returns-2)
+    tie.close (tie.spec (λ c κs. search needs) (λ c κs. search needs) (λ c κs. search needs) returns mul-instruction element-set-from-instruction
+    add-taken (λ c κs. search needs) returns-2)

@@ -44,11 +44,11 @@ use denote.Exit.{yes}
 use denote.Triple.Clauses.{ensured, lasts}
 use Rattle.day_take.specs.Rest.{countedBy}
 use Rattle.day.specs.declared.Stepped.{Stepped}
-use Rattle.day_take.specs.declared.Taken.{Taken}
+use Rattle.day_take.specs.declared.TakenRest.{TakenRest}
 use Rattle.day.proofs.Stepped as S
 use Rattle.day.proofs.Stepped.Laws as S′
-use Rattle.day_take.proofs.Taken as T
-use Rattle.day_take.proofs.Taken.Laws as T′
+use Rattle.day_take.proofs.TakenRest as T
+use Rattle.day_take.proofs.TakenRest.Laws as T′
 use Rattle.day_take.proofs.counted as counted
 use Rattle.day_take.proofs.counted.Symbol as counted-def
 use Rattle.day_take.proofs.counted.Symbol.{name as #day-take·counted}
@@ -71,7 +71,7 @@ module _ {M : Type 1} (𝓤 : URA M) (H : Heap 𝓤) (A : Atoms 𝓤) (mem : Mem
   Cnt = tripleOf 𝓤 H A counted.signature (counted.spec 𝓤 H A mem run)
 
 module _ {M : Type 1} (𝓤 : URA M) (H : Heap 𝓤) (A : Atoms 𝓤) (W : Given 𝓤 H A) (mem : Memory → SProp 𝓤) (run : Routine → Fun 𝓤) (κ : Lft) (q : Share)
-    (t : Taken) (s : RefT (List ℕ)) where
+    (t : TakenRest) (s : RefT (List ℕ)) where
   abbrev α : NamedLft
   α = namedLft 1 0 tt (κ, tt)
 

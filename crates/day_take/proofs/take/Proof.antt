@@ -1,4 +1,5 @@
--- `day_take::take` meets its contract: a walk of its MIR, by hand. `step` and `rest_after` are called, and a `Taken` is made of what they return. All
+-- `day_take::take` meets its contract: a walk of its MIR, by hand. `step` and `rest_after` are called, and a `TakenRest` is made of what they return.
+-- All
 -- that the proof knows of the two is that each meets its contract.
 -- The day, the slice and the step are Copy: what each owns is had again for each use.
 use mathlib.Core.Path.{_≡_, refl, ap, _∙_}
@@ -49,7 +50,7 @@ use Rattle.day.proofs.Day as D
 use Rattle.day.proofs.Day.Laws as D′
 use Rattle.day.proofs.Stepped as S
 use Rattle.day.proofs.Stepped.Laws as S′
-use Rattle.day_take.proofs.Taken as T
+use Rattle.day_take.proofs.TakenRest as T
 use Rattle.day_step.proofs.step as step
 use Rattle.day_step.proofs.step.Symbol as step-def
 use Rattle.day_step.proofs.step.Symbol.{name as #day-step·step}
@@ -141,8 +142,7 @@ module _ {M : Type 1} (𝓤 : URA M) (H : Heap 𝓤) (A : Atoms 𝓤) (W : Given
   abbrev to-rest : Stepped → Val → Rst 𝓤 H A mem run .Ghost
   to-rest r u = (((κ, tt), (q, tt), tt, (r, (s, tt)), (u ∷ [], (v ∷ [], tt))), tt)
 
-  goes-rest : (r : Stepped) (u : Val) →
-      ent 𝓤 (⋆ 𝓤 H A (‵ (OwnR r u) ∷ (‵ (flft κ q) ⊛ ‵ ftrue) ∷ ‵ OwnS ∷ []))
+  goes-rest : (r : Stepped) (u : Val) → ent 𝓤 (⋆ 𝓤 H A (‵ (OwnR r u) ∷ (‵ (flft κ q) ⊛ ‵ ftrue) ∷ ‵ OwnS ∷ []))
       (sep 𝓤 (Rst 𝓤 H A mem run .pre (to-rest r u)) (sep 𝓤 (sem 𝓤 H A (OwnR r u)) (sem 𝓤 H A OwnS)))
   goes-rest r u =
       qed W (‵ (OwnR r u) ∷ (‵ (flft κ q) ⊛ ‵ ftrue) ∷ ‵ OwnS ∷ []) ∵

@@ -1,4 +1,5 @@
--- `day_take::take_front` meets its contract: a walk of its MIR, by hand. The `Taken` that `take` returns is held in a local and passed to `apart`.
+-- `day_take::take_front` meets its contract: a walk of its MIR, by hand. The `TakenRest` that `take` returns is held in a local and passed to
+-- `apart`.
 -- All that the proof knows of the two is that each meets its contract.
 -- The day and the slice are Copy: what each owns is had again for each use.
 use mathlib.Core.Path.{_≡_, refl, ap, _∙_}
@@ -42,14 +43,14 @@ use Rattle.day.specs.Step.{stepOf}
 use Rattle.day_take.specs.Rest.{countedBy}
 use Rattle.day.specs.declared.Day.{Day}
 use Rattle.day.specs.declared.Stepped.{Stepped}
-use Rattle.day_take.specs.declared.Taken.{Taken}
+use Rattle.day_take.specs.declared.TakenRest.{TakenRest}
 use Rattle.day_take.proofs.Laws.{counted-is}
 use Rattle.day.proofs.Day as D
 use Rattle.day.proofs.Day.Laws as D′
 use Rattle.day.proofs.Stepped as S
 use Rattle.day.proofs.Stepped.Laws as S′
-use Rattle.day_take.proofs.Taken as T
-use Rattle.day_take.proofs.Taken.Laws as T′
+use Rattle.day_take.proofs.TakenRest as T
+use Rattle.day_take.proofs.TakenRest.Laws as T′
 use Rattle.day_take.proofs.take as take
 use Rattle.day_take.proofs.take.Symbol as take-def
 use Rattle.day_take.proofs.take.Symbol.{name as #day-take·take}
@@ -116,11 +117,11 @@ module _ {M : Type 1} (𝓤 : URA M) (H : Heap 𝓤) (A : Atoms 𝓤) (W : Given
   abbrev OwnS : Fml
   OwnS = ShrSlice (named 0) κ u8 .own s (v ∷ [])
 
-  abbrev OwnT : Taken → Val → Fml
+  abbrev OwnT : TakenRest → Val → Fml
   OwnT t u = B (κ, tt) .own t (u ∷ [])
 
   -- the call of `take`
-  abbrev Said : Taken → Type 0
+  abbrev Said : TakenRest → Type 0
   Said t = (t .stepped ≡ found) × (now (t .rest) ≡ dropped (found .used) (now s))
 
   abbrev to-take : Tak 𝓤 H A mem run .Ghost
@@ -139,17 +140,17 @@ module _ {M : Type 1} (𝓤 : URA M) (H : Heap 𝓤) (A : Atoms 𝓤) (W : Given
       ((‵ (flft κ q) ⊛ ‵ ftrue) ∷ ‵ (owns (D.the-row ∷ ShrSlice (named 0) κ u8 ∷ []) (d, (s, tt)) vals) ∷ []) ∵ join ! $ frame ! $ done !) $
       frame ! $ move ! (1 ∷ 0 ∷ []) $ done !
 
-  take-said : (t : Taken) → ent 𝓤 (ensured 𝓤 H A take.ended (take.clauses 𝓤 H A mem run) (κ, tt) (d, (s, tt)) tt t) (fact 𝓤 (Said t))
+  take-said : (t : TakenRest) → ent 𝓤 (ensured 𝓤 H A take.ended (take.clauses 𝓤 H A mem run) (κ, tt) (d, (s, tt)) tt t) (fact 𝓤 (Said t))
   take-said t = exE 𝓤 _ (λ ws. snd∗ 𝓤 (sem 𝓤 H A (lasts take.ended (κ, tt) (d, (s, tt)) ws)) (fact 𝓤 (Said t)))
 
   -- the call of `apart`, at the struct t with the machine value u
-  abbrev counted : Taken → Stepped
+  abbrev counted : TakenRest → Stepped
   counted t = countedBy (t .stepped) (now (t .rest)) (now s)
 
-  abbrev to-apart : Taken → Val → Apt 𝓤 H A mem run .Ghost
+  abbrev to-apart : TakenRest → Val → Apt 𝓤 H A mem run .Ghost
   to-apart t u = (((κ, tt), (q, tt), tt, (t, (s, tt)), (u ∷ [], (v ∷ [], tt))), tt)
 
-  goes-apart : (t : Taken) (u : Val) →
+  goes-apart : (t : TakenRest) (u : Val) →
       ent 𝓤 (⋆ 𝓤 H A (‵ (OwnT t u) ∷ (‵ (flft κ q) ⊛ ‵ ftrue) ∷ ‵ OwnS ∷ [])) (sep 𝓤 (Apt 𝓤 H A mem run .pre (to-apart t u)) (sem 𝓤 H A OwnS))
   goes-apart t u =
       qed W (‵ (OwnT t u) ∷ (‵ (flft κ q) ⊛ ‵ ftrue) ∷ ‵ OwnS ∷ []) ∵
@@ -161,7 +162,7 @@ module _ {M : Type 1} (𝓤 : URA M) (H : Heap 𝓤) (A : Atoms 𝓤) (W : Given
       frame ! $ done !) $
       frame ! $ done !
 
-  apart-said : (t : Taken) (r : Stepped) →
+  apart-said : (t : TakenRest) (r : Stepped) →
       ent 𝓤 (ensured 𝓤 H A apart.ended (apart.clauses 𝓤 H A mem run) (κ, tt) (t, (s, tt)) tt r) (fact 𝓤 (r ≡ counted t))
   apart-said t r = exE 𝓤 _ (λ ws. snd∗ 𝓤 (sem 𝓤 H A (lasts apart.ended (κ, tt) (t, (s, tt)) ws)) (fact 𝓤 (r ≡ counted t)))
 
@@ -175,7 +176,7 @@ module _ {M : Type 1} (𝓤 : URA M) (H : Heap 𝓤) (A : Atoms 𝓤) (W : Given
       move ! (1 ∷ []) $ frame ! $ nothing ! $ move ! (2 ∷ 0 ∷ []) $ fjoin ! $ move ! (2 ∷ 0 ∷ []) $ fjoin ! $ frame ! $ done !
 
   -- the step by the rest is the step
-  same : (t : Taken) → Said t → counted t ≡ found
+  same : (t : TakenRest) → Said t → counted t ≡ found
   same t e =
       ap (λ (l : List ℕ). countedBy (t .stepped) l (now s)) (e .1)
       ∙ (ap (λ (r : Stepped). countedBy r (dropped (found .used) (now s)) (now s)) (e .0) ∙ counted-is d (now s))
@@ -194,7 +195,7 @@ module _ {M : Type 1} (𝓤 : URA M) (H : Heap 𝓤) (A : Atoms 𝓤) (W : Given
         calls-at ! fm (Tak 𝓤 H A mem run) known-take to-take
         (and-then ! (load ! (from ! (stop !)) (look ! 6 {τ = day-ty} refl)) (and-then ! (load ! (from ! (stop !)) (look ! 4 refl)) (no-more !)))
         (λ u.
-        use1 W (later (some (λ (t : Taken). ((‵ (flft κ q) ⊛ ‵ ftrue) ⊛ ‵ (OwnT t u)) ⊛ raw
+        use1 W (later (some (λ (t : TakenRest). ((‵ (flft κ q) ⊛ ‵ ftrue) ⊛ ‵ (OwnT t u)) ⊛ raw
         (ensured 𝓤 H A take.ended (take.clauses 𝓤 H A mem run) (κ, tt) (d, (s, tt)) tt t)))) (id⊢ 𝓤 _) $ await ! tt $ pick ! (λ t.
         split ! $ move ! (1 ∷ []) $ use1 W (raw (fact 𝓤 (Said t))) (take-said t) $ heard ! (Said t) (λ e. split ! $ move ! (1 ∷ []) $
         -- [struct; token; day and slice; room for _3; …]

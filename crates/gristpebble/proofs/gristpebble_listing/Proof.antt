@@ -230,8 +230,7 @@ returns-5 c =
 
 pub gristpebble-listing-spec : {M : Type 1} → statement M
 gristpebble-listing-spec =
-    tie.close
-    (tie.spec Inv-loop μ-loop (λ c κs. search needs) loop-holds (λ c. search needs) (λ c κs. search needs) (λ c κs. search needs)
+    tie.close (tie.spec Inv-loop μ-loop (λ c κs. search needs) loop-holds (λ c. search needs) (λ c κs. search needs) (λ c κs. search needs)
     (λ c κs. search needs) (λ c. ap length (unit-turn (c .before .before) .before .loop .inv .same)) returns (λ c. omega (arith, unit-in c .whole))
     (λ c. omega (arith, unit-in c .whole)) (λ c. omega (arith, unit-in c .whole)) (λ c. omega (arith, unit-in (c .before) .whole)) loop-again
     (λ c κs. search needs) (λ c κs. search needs) (λ c κs. search needs) (λ c. ap length (opening-turn (c .before .before) .before .loop .inv .same))

@@ -9,6 +9,5 @@ returns c = let a = c .before .before .before .args in omega (arith, q-length (a
 
 pub q-width-spec : {M : Type 1} → statement M
 q-width-spec =
-    tie.close
-    (tie.spec (λ c κs. search needs) (λ c κs. search needs) (λ c. search needs) (λ c κs. search needs) (λ c. search needs) (λ c. search needs)
-    returns)
+    tie.close (tie.spec (λ c κs. search needs) (λ c κs. search needs) (λ c. search needs) (λ c κs. search needs) (λ c. search needs)
+    (λ c. search needs) returns)

@@ -7,8 +7,7 @@ use Rattle.lines_text.proofs.decimal_width.Tie as tie
 
 pub decimal-width-spec : {M : Type 1} → statement M
 decimal-width-spec =
-    tie.close
-    (tie.spec (λ c. record { count-is = sym (low-length _ (omega arith)); few = omega arith })
+    tie.close (tie.spec (λ c. record { count-is = sym (low-length _ (omega arith)); few = omega arith })
     (λ c. record { count-is = width-between 1 _ (omega arith) (omega arith); few = omega arith })
     (λ c. record { count-is = width-between 2 _ (omega arith) (omega arith); few = omega arith })
     (λ c. record { count-is = width-between 3 _ (omega arith) (omega arith); few = omega arith })

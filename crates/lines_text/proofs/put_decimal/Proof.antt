@@ -79,7 +79,6 @@ same-length-2 c = written-length (start (c .before .before) .pre) (returns-2 c)
 
 pub put-decimal-spec : {M : Type 1} → statement M
 put-decimal-spec =
-    tie.close
-    (tie.spec Inv-loop μ-loop (λ c κs. search needs) loop-holds (λ c. omega arith) (λ c. omega arith) (λ c. omega arith) (λ c. omega arith)
+    tie.close (tie.spec Inv-loop μ-loop (λ c κs. search needs) loop-holds (λ c. omega arith) (λ c. omega arith) (λ c. omega arith) (λ c. omega arith)
     (λ c. omega arith) (λ c. omega arith) (λ c. omega arith) slice-write-out-2 (λ c. omega arith) loop-again (λ c. omega arith) (λ c. omega arith)
     (λ c. omega arith) same-length returns same-length-2 returns-2)

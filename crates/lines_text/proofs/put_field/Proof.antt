@@ -40,5 +40,4 @@ same-length c = written-length (start c .pre) (returns c)
 
 pub put-field-spec : {M : Type 1} → statement M
 put-field-spec =
-    tie.close
-    (tie.spec slice-write-out sub-put-decimal sub-put-decimal (λ c. search needs) put-decimal-requires add-result same-length returns)
+    tie.close (tie.spec slice-write-out sub-put-decimal sub-put-decimal (λ c. search needs) put-decimal-requires add-result same-length returns)

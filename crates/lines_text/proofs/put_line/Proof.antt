@@ -80,7 +80,6 @@ same-length c = written-length (start (c .before) .pre) (returns c)
 
 pub put-line-spec : {M : Type 1} → statement M
 put-line-spec =
-    tie.close
-    (tie.spec Inv-loop μ-loop slice-write-out loop-holds (λ c. omega arith) (λ c. omega arith) (λ c. omega (arith, room (c .before)))
+    tie.close (tie.spec Inv-loop μ-loop slice-write-out loop-holds (λ c. omega arith) (λ c. omega arith) (λ c. omega (arith, room (c .before)))
     (λ c. omega (arith, room (c .before))) (λ c. search needs) put-field-requires add-at (λ c. omega arith) (λ c. omega arith) loop-again
     slice-write-out-2 add-result same-length returns)

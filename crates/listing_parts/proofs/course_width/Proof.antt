@@ -76,5 +76,5 @@ returns c =
 
 pub course-width-spec : {M : Type 1} → statement M
 course-width-spec =
-    tie.close
-    (tie.spec Inv-loop μ-loop (λ c κs. search needs) loop-holds walk-on-requires (λ c κs. search needs) add-width loop-less loop-again returns)
+    tie.close (tie.spec Inv-loop μ-loop (λ c κs. search needs) loop-holds walk-on-requires (λ c κs. search needs) add-width loop-less loop-again
+    returns)

@@ -60,11 +60,7 @@ next c =
 loop-holds : tie.Need-loop-holds Inv-loop μ-loop
 loop-holds c =
     let u = c .before .before .before .args .t1 in
-    record {
-      within = omega arith;
-      shared = shared-own u (c .own-lists .result) _ _ (c .own-lists .ensures);
-      lines = measure-none;
-    }
+    record { within = omega arith; shared = shared-own u (c .own-lists .result) _ _ (c .own-lists .ensures); lines = measure-none }
 
 add-width : tie.Need-add-width Inv-loop μ-loop
 add-width c = let k = turn (c .before) .before in omega (arith, k .loop .inv, c .course-width .ensures, counted k .smaller-count .ensures)
@@ -91,8 +87,7 @@ returns c =
 
 pub courses-width-spec : {M : Type 1} → statement M
 courses-width-spec =
-    tie.close
-    (tie.spec Inv-loop μ-loop (λ c κs. search needs) (λ c. omega arith) (λ c κs. search needs) loop-holds (λ c. omega arith) (λ c. omega arith)
-    (λ c. omega arith) (λ c κs. search needs) (λ c. omega arith) (λ c. omega arith) (λ c κs. search needs) (λ c κs. search needs)
+    tie.close (tie.spec Inv-loop μ-loop (λ c κs. search needs) (λ c. omega arith) (λ c κs. search needs) loop-holds (λ c. omega arith)
+    (λ c. omega arith) (λ c. omega arith) (λ c κs. search needs) (λ c. omega arith) (λ c. omega arith) (λ c κs. search needs) (λ c κs. search needs)
     (λ c κs. search needs) (λ c. search needs) (λ c. search needs) (λ c κs. search needs) (λ c κs. next c .short) add-width loop-less loop-again
     returns)

@@ -27,6 +27,5 @@ returns c =
 
 pub fates-width-spec : {M : Type 1} → statement M
 fates-width-spec =
-    tie.close
-    (tie.spec Inv-loop μ-loop (λ c κs. search needs) (λ c. record { within = omega arith; lines = measure-none }) (λ c. omega arith)
+    tie.close (tie.spec Inv-loop μ-loop (λ c κs. search needs) (λ c. record { within = omega arith; lines = measure-none }) (λ c. omega arith)
     (λ c. omega arith) (λ c. search needs) (λ c κs. search needs) (λ c. omega arith) (λ c. omega arith) (λ c. omega arith) loop-again returns)

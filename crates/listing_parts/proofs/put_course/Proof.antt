@@ -75,7 +75,6 @@ returns c =
 
 pub put-course-spec : {M : Type 1} → statement M
 put-course-spec =
-    tie.close
-    (tie.spec Inv-loop μ-loop (λ c κs. search needs) loop-holds walk-on-requires (λ c. omega (arith, room (c .before .before)))
+    tie.close (tie.spec Inv-loop μ-loop (λ c κs. search needs) loop-holds walk-on-requires (λ c. omega (arith, room (c .before .before)))
     (λ c. omega (arith, room (c .before .before))) (λ c. search needs) (λ c κs. room-tail (room (c .before .before .before))) add-at loop-less
     loop-again (λ c. lay-room (c .before .before .loop .inv .lines) .same) returns)

@@ -75,11 +75,7 @@ set-up c = c .before .before .before .before
 loop-holds : tie.Need-loop-holds Inv-loop μ-loop
 loop-holds c =
     let s = c .before .before .before .before in
-    record {
-      within = omega arith;
-      shared = shared-own (s .args .t2) (c .own-lists .result) _ _ (c .own-lists .ensures);
-      lines = lay-none (s .pre);
-    }
+    record { within = omega arith; shared = shared-own (s .args .t2) (c .own-lists .result) _ _ (c .own-lists .ensures); lines = lay-none (s .pre) }
 
 put-course-requires : tie.Need-put-course-requires Inv-loop μ-loop
 put-course-requires c κs = (next (c .before) .short, room-tail (room (c .before)))
@@ -108,8 +104,7 @@ returns c =
 
 pub put-courses-spec : {M : Type 1} → statement M
 put-courses-spec =
-    tie.close
-    (tie.spec Inv-loop μ-loop (λ c κs. search needs) (λ c. omega arith) (λ c κs. search needs) loop-holds (λ c. omega arith) (λ c. omega arith)
-    (λ c. omega arith) (λ c κs. search needs) (λ c. omega arith) (λ c. omega arith) (λ c κs. search needs) (λ c κs. search needs)
+    tie.close (tie.spec Inv-loop μ-loop (λ c κs. search needs) (λ c. omega arith) (λ c κs. search needs) loop-holds (λ c. omega arith)
+    (λ c. omega arith) (λ c. omega arith) (λ c κs. search needs) (λ c. omega arith) (λ c. omega arith) (λ c κs. search needs) (λ c κs. search needs)
     (λ c κs. search needs) (λ c. search needs) (λ c. search needs) (λ c κs. search needs) (λ c. omega (arith, room c)) (λ c. omega (arith, room c))
     (λ c. search needs) put-course-requires add-at loop-less loop-again (λ c. lay-room (c .before .loop .inv .lines) .same) returns)

@@ -50,8 +50,7 @@ returns c =
 
 pub put-fates-spec : {M : Type 1} → statement M
 put-fates-spec =
-    tie.close
-    (tie.spec Inv-loop μ-loop (λ c κs. search needs) (λ c. record { within = omega arith; lines = lay-none (c .before .before .pre) })
+    tie.close (tie.spec Inv-loop μ-loop (λ c κs. search needs) (λ c. record { within = omega arith; lines = lay-none (c .before .before .pre) })
     (λ c. omega arith) (λ c. omega arith) (λ c. search needs) (λ c. omega (arith, room c)) (λ c. omega (arith, room c)) (λ c. search needs)
     (λ c κs. room-tail (room (c .before))) add-at (λ c. omega arith) (λ c. omega arith) loop-again
     (λ c. lay-room (c .before .loop .inv .lines) .same) returns)

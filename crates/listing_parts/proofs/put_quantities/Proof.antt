@@ -75,7 +75,6 @@ returns c =
 
 pub put-quantities-spec : {M : Type 1} → statement M
 put-quantities-spec =
-    tie.close
-    (tie.spec Inv-loop μ-loop loop-holds (λ c κs. omega arith) (λ c κs. search needs) (λ c. omega arith) run-end-requires
+    tie.close (tie.spec Inv-loop μ-loop loop-holds (λ c κs. omega arith) (λ c κs. search needs) (λ c. omega arith) run-end-requires
     (λ c. omega (arith, room c)) (λ c. omega (arith, room c)) (λ c. search needs) (λ c κs. room-tail (room (c .before))) add-at loop-less loop-again
     (λ c. lay-room (c .before .loop .inv .lines) .same) returns)

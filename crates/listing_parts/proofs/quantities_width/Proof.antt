@@ -16,8 +16,7 @@ abbrev μ-loop : tie.MeasureT-loop
 μ-loop sums halves end width₀ i₀ width i = halves - i
 
 loop-holds : tie.Need-loop-holds Inv-loop μ-loop
-loop-holds c =
-    record { within = omega arith; lines = rw (quantities-all (quantityAt (c .args .sums .now)) (c .args .halves)) measure-none }
+loop-holds c = record { within = omega arith; lines = rw (quantities-all (quantityAt (c .args .sums .now)) (c .args .halves)) measure-none }
 
 run-end-requires : tie.Need-run-end-requires Inv-loop μ-loop
 run-end-requires c κs = record { ordered = omega arith; within = omega arith; quantity = c .quantity-of .ensures }
@@ -42,6 +41,5 @@ returns c =
 
 pub quantities-width-spec : {M : Type 1} → statement M
 quantities-width-spec =
-    tie.close
-    (tie.spec Inv-loop μ-loop loop-holds (λ c κs. omega arith) (λ c κs. search needs) (λ c. omega arith) run-end-requires (λ c κs. search needs)
-    (λ c. omega arith) (λ c. omega arith) loop-again returns)
+    tie.close (tie.spec Inv-loop μ-loop loop-holds (λ c κs. omega arith) (λ c κs. search needs) (λ c. omega arith) run-end-requires
+    (λ c κs. search needs) (λ c. omega arith) (λ c. omega arith) loop-again returns)

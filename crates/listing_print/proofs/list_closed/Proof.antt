@@ -43,5 +43,5 @@ returns-2 c =
 
 pub list-closed-spec : {M : Type 1} → statement M
 list-closed-spec =
-    tie.close
-    (tie.spec (λ c κs. search needs) (λ c κs. search needs) returns (λ c κs. fits (c .before)) (λ c κs. search needs) (λ c. search needs) returns-2)
+    tie.close (tie.spec (λ c κs. search needs) (λ c κs. search needs) returns (λ c κs. fits (c .before)) (λ c κs. search needs) (λ c. search needs)
+    returns-2)

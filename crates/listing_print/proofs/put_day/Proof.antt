@@ -97,8 +97,7 @@ returns c = lay-all refl (lay-more (line-e (closed c)) (after-q (summed (closed 
 
 pub put-day-spec : {M : Type 1} → statement M
 put-day-spec =
-    tie.close
-    (tie.spec put-fates-requires (λ c. omega (arith, room-s (c .before .before))) (λ c. omega (arith, room-s (c .before .before)))
+    tie.close (tie.spec put-fates-requires (λ c. omega (arith, room-s (c .before .before))) (λ c. omega (arith, room-s (c .before .before)))
     (λ c. search needs) (λ c κs. room-tail (room-s (c .before .before .before))) add-at (λ c. omega (arith, room-q c)) (λ c. omega (arith, room-q c))
     (λ c. search needs) (λ c κs. (omega arith, room-tail (room-q (c .before .before .before)))) add-at-2 (λ c κs. search needs)
     (λ c. omega (arith, room-e c)) (λ c. omega (arith, room-e c)) (λ c. search needs) (λ c κs. room-tail (room-e (c .before))) add-at-3

@@ -121,7 +121,6 @@ returns-4 c =
 
 pub close-run-spec : {M : Type 1} → statement M
 close-run-spec =
-    tie.close
-    (tie.spec (λ c κs. search needs) returns (λ c κs. search needs) (λ c κs. search needs) (λ c κs. search needs) returns-2 (λ c κs. search needs)
-    (λ c κs. search needs) (λ c κs. search needs) returns-3 (λ c κs. search needs) list-closed-requires (λ c κs. search needs) (λ c. search needs)
-    returns-4)
+    tie.close (tie.spec (λ c κs. search needs) returns (λ c κs. search needs) (λ c κs. search needs) (λ c κs. search needs) returns-2
+    (λ c κs. search needs) (λ c κs. search needs) (λ c κs. search needs) returns-3 (λ c κs. search needs) list-closed-requires (λ c κs. search needs)
+    (λ c. search needs) returns-4)

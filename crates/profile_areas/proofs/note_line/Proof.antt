@@ -80,7 +80,8 @@ returns c =
     (omega (arith, k .loop .inv .before, c .loop-test .left)) (k .loop .inv .noted)
 
 pub note-line-spec : {M : Type 1} → statement M
-note-line-spec = tie.close (tie.spec Inv-loop μ-loop (λ c. omega arith) (λ c. omega arith) loop-holds add-b add-x (λ c κs. search needs)
+note-line-spec =
+    tie.close (tie.spec Inv-loop μ-loop (λ c. omega arith) (λ c. omega arith) loop-holds add-b add-x (λ c κs. search needs)
     (λ c. omega (arith, step c .in-half .on)) (λ c. search needs) mul-moved (λ c κs. step c .reaches) add-sum (λ c. omega (arith, sum-fits c))
     (λ c. omega (arith, sum-fits c)) (λ c. omega (arith, step (c .before) .in-half .half)) (λ c. omega (arith, step (c .before) .in-half .half))
     loop-less loop-again returns)

@@ -67,7 +67,7 @@ returns-3 : tie.Need-returns-3
 returns-3 k = piece-noted (start (in-half k) .pre) (takes-time (in-half k)) (omega (arith, k .before .before .if2 .left))
 
 pub note-piece-spec : {M : Type 1} → statement M
-note-piece-spec = tie.close
-    (tie.spec returns (λ c. search needs) (λ c. search needs) (λ c. search needs) (λ c. search needs) (λ c κs. search needs) (λ c. search needs)
-    note-line-requires returns-2 (λ c. search needs) (λ c. search needs) (λ k. omega (arith, fits k)) (λ k. omega (arith, fits k))
-    (λ c. search needs) (λ c. search needs) returns-3)
+note-piece-spec =
+    tie.close (tie.spec returns (λ c. search needs) (λ c. search needs) (λ c. search needs) (λ c. search needs) (λ c κs. search needs)
+    (λ c. search needs) note-line-requires returns-2 (λ c. search needs) (λ c. search needs) (λ k. omega (arith, fits k))
+    (λ k. omega (arith, fits k)) (λ c. search needs) (λ c. search needs) returns-3)

@@ -76,5 +76,5 @@ returns-2 : tie.Need-returns-2 Inv-loop μ-loop
 returns-2 c = progress-end (c .before .before .before .loop .inv) (c .before .if1 .left)
 
 pub pass-to-spec : {M : Type 1} → statement M
-pass-to-spec = tie.close
-    (tie.spec Inv-loop μ-loop loop-holds walk-on-requires off-between-requires returns note-piece-requires loop-less loop-again returns-2)
+pass-to-spec =
+    tie.close (tie.spec Inv-loop μ-loop loop-holds walk-on-requires off-between-requires returns note-piece-requires loop-less loop-again returns-2)

@@ -89,5 +89,6 @@ returns c =
     }) (over (laid c)) ∙ find-is (s .args .t) (s .args .halves) (places s) r (by f)
 
 pub find-spec : {M : Type 1} → statement M
-find-spec = tie.close
-    (tie.spec (λ c. search needs) (λ c κs. search needs) (λ c κs. search needs) follow-day-requires (λ c κs. search needs) lay-fates-requires returns)
+find-spec =
+    tie.close (tie.spec (λ c. search needs) (λ c κs. search needs) (λ c κs. search needs) follow-day-requires (λ c κs. search needs)
+    lay-fates-requires returns)

@@ -23,5 +23,5 @@ unfolding overlaid
 returns-4 c = ap (counted _) (over-set _ _ _ _ (c .before .before .before .if1 .left) (omega arith) (c .if3 .left))
 
 pub lay-fate-spec : {M : Type 1} → statement M
-lay-fate-spec = tie.close
-    (tie.spec returns (λ c. search needs) (λ c. search needs) returns-2 (λ c. search needs) returns-3 (λ c. search needs) returns-4)
+lay-fate-spec =
+    tie.close (tie.spec returns (λ c. search needs) (λ c. search needs) returns-2 (λ c. search needs) returns-3 (λ c. search needs) returns-4)

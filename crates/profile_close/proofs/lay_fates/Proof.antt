@@ -31,6 +31,6 @@ returns c = let s = c .before .before in
     overlaid-end (s .args .t2) (s .args .t3) (s .args .n) (s .args .s) (l .out) (l .i) (omega arith) (l .inv .over)
 
 pub lay-fates-spec : {M : Type 1} → statement M
-lay-fates-spec = tie.close
-    (tie.spec Inv-loop μ-loop loop-holds (λ c. omega arith) (λ c. omega arith) (λ c. omega arith) (λ c. omega arith) (λ c. omega arith)
+lay-fates-spec =
+    tie.close (tie.spec Inv-loop μ-loop loop-holds (λ c. omega arith) (λ c. omega arith) (λ c. omega arith) (λ c. omega arith) (λ c. omega arith)
     (λ c κs. omega arith) (λ c. omega arith) (λ c. omega arith) loop-again returns)

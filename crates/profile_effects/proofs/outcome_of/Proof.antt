@@ -30,7 +30,7 @@ unfolding outcomeBy
 returns-7 c = rw (c .enum-told7 .given .1)
 
 pub outcome-of-spec : {M : Type 1} → statement M
-outcome-of-spec = tie.close
-    (tie.spec enum-told (λ c κs. search needs) (λ c. search needs) (λ c κs. search needs) (λ c. search needs) (λ c κs. search needs)
+outcome-of-spec =
+    tie.close (tie.spec enum-told (λ c κs. search needs) (λ c. search needs) (λ c κs. search needs) (λ c. search needs) (λ c κs. search needs)
     (λ c. search needs) (λ c κs. search needs) (λ c. search needs) (λ c κs. search needs) (λ c. search needs) (λ c κs. search needs)
     (λ c. search needs) returns returns-2 returns-3 returns-4 returns-5 returns-6 returns-7)

@@ -31,6 +31,6 @@ returns c =
     (omega arith))
 
 pub end-day-spec : {M : Type 1} → statement M
-end-day-spec = tie.close
-    (tie.spec Inv-loop μ-loop (λ c. omega arith) loop-holds (λ c. omega arith) (λ c. omega arith) (λ c. omega arith) (λ c. omega arith) loop-again
-    returns)
+end-day-spec =
+    tie.close (tie.spec Inv-loop μ-loop (λ c. omega arith) loop-holds (λ c. omega arith) (λ c. omega arith) (λ c. omega arith) (λ c. omega arith)
+    loop-again returns)

@@ -355,7 +355,8 @@ loop-again-2 c =
     }
 
 pub follow-day-spec : {M : Type 1} → statement M
-follow-day-spec = tie.close (tie.spec Inv-loop μ-loop (λ c κs. search needs) (λ c κs. search needs) (λ c κs. search needs) (λ c κs. search needs)
+follow-day-spec =
+    tie.close (tie.spec Inv-loop μ-loop (λ c κs. search needs) (λ c κs. search needs) (λ c κs. search needs) (λ c κs. search needs)
     (λ c. omega (arith, walk-begun c .before .pre .long)) loop-holds (λ c κs. search needs) (λ c. omega (arith, c .place-in .ensures))
     (λ c. omega (arith, c .place-in .ensures, forty (c .before))) next-second-requires pass-to-requires (λ c κs. search needs)
     (λ c κs. piece-ahead (passed (c .before .before))) end-day-requires returns (λ c. omega (arith, fate-room c)) (λ c κs. search needs)

@@ -44,6 +44,6 @@ returns-2 c =
     sym (above-none (s .args .u .maximum) (s .args .t2) (s .args .halves) (l .i) (omega arith)) ∙ l .inv .1 (s .args .u .maximum) refl
 
 pub quantity-too-high-spec : {M : Type 1} → statement M
-quantity-too-high-spec = tie.close
-    (tie.spec Inv-loop μ-loop (λ c. search needs) (λ c. omega arith) (λ c. omega arith) loop-holds (λ c. omega arith) (λ c. omega arith)
+quantity-too-high-spec =
+    tie.close (tie.spec Inv-loop μ-loop (λ c. search needs) (λ c. omega arith) (λ c. omega arith) loop-holds (λ c. omega arith) (λ c. omega arith)
     (λ c. omega arith) (λ c. omega arith) (λ c. omega arith) (λ c. omega arith) loop-again returns (λ c. omega arith) loop-again-2 returns-2)

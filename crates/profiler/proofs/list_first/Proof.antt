@@ -10,5 +10,4 @@ slice-aggregate-gristpebble-listing c = sym (length-take-le _ _ (omega arith))
 
 pub list-first-spec : {M : Type 1} → statement M
 list-first-spec =
-    tie.close
-    (tie.spec (λ c. search needs) slice-aggregate-gristpebble-listing (λ c κs. search needs) (λ c. search needs) (λ c. search needs))
+    tie.close (tie.spec (λ c. search needs) slice-aggregate-gristpebble-listing (λ c κs. search needs) (λ c. search needs) (λ c. search needs))

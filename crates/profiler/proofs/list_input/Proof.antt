@@ -17,7 +17,6 @@ loop-holds c = (refl, refl)
 
 pub list-input-spec : {M : Type 1} → statement M
 list-input-spec =
-    tie.close
-    (tie.spec Inv-loop μ-loop loop-holds (λ c κs. search needs) (λ c. search needs) (λ c. search needs) (λ c. search needs) (λ c. search needs)
-    (λ c. search needs) (λ c. search needs) (λ c κs. search needs) (λ c. search needs) (λ c. search needs) (λ c. search needs) (λ c. omega arith)
-    (λ c. search needs) (λ c. search needs) (λ c. search needs) (λ c. search needs))
+    tie.close (tie.spec Inv-loop μ-loop loop-holds (λ c κs. search needs) (λ c. search needs) (λ c. search needs) (λ c. search needs)
+    (λ c. search needs) (λ c. search needs) (λ c. search needs) (λ c κs. search needs) (λ c. search needs) (λ c. search needs) (λ c. search needs)
+    (λ c. omega arith) (λ c. search needs) (λ c. search needs) (λ c. search needs) (λ c. search needs))

@@ -22,8 +22,7 @@ returns-8 c =
 
 pub decode-spec : {M : Type 1} → statement M
 decode-spec =
-    tie.close
-    (tie.spec (λ c κs. search needs) (λ c κs. search needs) (λ c κs. search needs) (λ c κs. search needs) (λ c κs. search needs)
+    tie.close (tie.spec (λ c κs. search needs) (λ c κs. search needs) (λ c κs. search needs) (λ c κs. search needs) (λ c κs. search needs)
     (λ c κs. search needs) (λ c κs. search needs) (λ c. unfold meaningOf in rw (c .before .match .keys1) (c .means .ensures))
     (λ c. unfold meaningOf in rw (c .before .match .keys2) (c .means2 .ensures))
     (λ c. unfold meaningOf in rw (c .before .match .keys3) (c .means3 .ensures))

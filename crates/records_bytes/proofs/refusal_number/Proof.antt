@@ -4,8 +4,7 @@ use Rattle.records_bytes.proofs.refusal_number.Tie as tie
 
 pub refusal-number-spec : {M : Type 1} → statement M
 refusal-number-spec =
-    tie.close
-    (tie.spec (λ c. search needs) (λ c. search needs) (λ c. search needs) (λ c. search needs) (λ c. search needs) (λ c. search needs)
+    tie.close (tie.spec (λ c. search needs) (λ c. search needs) (λ c. search needs) (λ c. search needs) (λ c. search needs) (λ c. search needs)
     (λ c. search needs) (λ c. search needs) (λ c. search needs) (λ c. search needs) (λ c. search needs) (λ c. search needs) (λ c. search needs)
     (λ c. search needs) (λ c. search needs) (λ c. search needs) (λ c. search needs) (λ c. rw (c .enum-told .given .1))
     (λ c. rw (c .enum-told2 .given .1)) (λ c. rw (c .enum-told3 .given .1)) (λ c. rw (c .enum-told4 .given .1)) (λ c. rw (c .enum-told5 .given .1))

@@ -20,8 +20,7 @@ abbrev known : tie.After-figures-fit → tie.Else1
 known f = f .before .before .before .before .before
 
 returns-4 : tie.Need-returns-4
-returns-4 c =
-    instruction-taken _ _ _ (known (c .before) .if1 .left) (omega arith) (omega arith) _ (c .before .figures-fit .ensures) (c .if4 .taken)
+returns-4 c = instruction-taken _ _ _ (known (c .before) .if1 .left) (omega arith) (omega arith) _ (c .before .figures-fit .ensures) (c .if4 .taken)
 
 returns-5 : tie.Need-returns-5
 returns-5 c = figures-out _ _ _ (known (c .before) .if1 .left) (omega arith) (omega arith) _ (c .before .figures-fit .ensures) (c .if4 .left)

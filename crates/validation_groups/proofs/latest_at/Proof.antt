@@ -25,8 +25,16 @@ loop-again c =
     let a = k .before .args in
     let l = k .loop in
     let e : l .i - 1 + 1 ≡ l .i = omega arith in
-    let h : l .i - 1 < a .n = omega arith in
-    (omega arith, c .later .ensures ∙ rw (left-cons (a .times .now) (a .n) (l .i - 1) 0 h (omega arith), left-cons (a .issues .now) (a .n) (l .i - 1) 0 h (omega arith), e, l .inv .1))
+    let h : l .i - 1 < a .n = omega arith in (
+      omega arith,
+      c .later .ensures ∙ rw (
+        left-cons (a .times .now) (a .n) (l .i - 1) 0 h (omega arith),
+        left-cons (a .issues .now) (a .n) (l .i - 1)
+            0 h (omega arith),
+        e,
+        l .inv .1,
+      ),
+    )
 
 returns : tie.Need-returns Inv-loop μ-loop
 returns c =
@@ -35,6 +43,5 @@ returns c =
 
 pub latest-at-spec : {M : Type 1} → statement M
 latest-at-spec =
-    tie.close
-    (tie.spec Inv-loop μ-loop loop-holds (λ c. omega arith) (λ c. omega arith) (λ c. omega arith) (λ c. omega arith) (λ c. omega arith)
+    tie.close (tie.spec Inv-loop μ-loop loop-holds (λ c. omega arith) (λ c. omega arith) (λ c. omega arith) (λ c. omega arith) (λ c. omega arith)
     (λ c κs. search needs) (λ c. omega arith) loop-again returns)

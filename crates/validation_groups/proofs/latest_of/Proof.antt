@@ -27,6 +27,5 @@ returns-2 c =
 
 pub latest-of-spec : {M : Type 1} → statement M
 latest-of-spec =
-    tie.close
-    (tie.spec (λ c κs. search needs) (λ c. search needs) (λ c. search needs) returns (λ c. search needs) (λ c. search needs) (λ c κs. search needs)
-    returns-2 (λ c κs. search needs) (λ c. search needs))
+    tie.close (tie.spec (λ c κs. search needs) (λ c. search needs) (λ c. search needs) returns (λ c. search needs) (λ c. search needs)
+    (λ c κs. search needs) returns-2 (λ c κs. search needs) (λ c. search needs))

@@ -23,9 +23,10 @@ returns-3 : tie.Need-returns-3
 unfolding aloneAt
 returns-3 c =
     let h = c .before .before in
-    rw (not-false (asked h .before .args .ordered) (asked h .if1 .left), sym (h .has-time .ensures) ∙ c .before .if2 .left) (ap not (c .follows-time .ensures))
+    rw (not-false (asked h .before .args .ordered) (asked h .if1 .left), sym (h .has-time .ensures) ∙ c .before .if2 .left)
+    (ap not (c .follows-time .ensures))
 
 pub stands-alone-spec : {M : Type 1} → statement M
 stands-alone-spec =
-    tie.close
-    (tie.spec returns (λ c. search needs) (λ c. search needs) (λ c. search needs) (λ c κs. search needs) returns-2 (λ c κs. search needs) returns-3)
+    tie.close (tie.spec returns (λ c. search needs) (λ c. search needs) (λ c. search needs) (λ c κs. search needs) returns-2 (λ c κs. search needs)
+    returns-3)

@@ -46,7 +46,8 @@ loop-holds c =
     rw (c .empty .ensures) (record {
       within = omega arith;
       few = omega arith;
-      begun = subst (λ (k : ℕ). Begun (sequenceOf []) (usedFrom (s .args .end) os k 0) (used (s .args .end) os)) z (begun-none (used (s .args .end) os));
+      begun =
+          subst (λ (k : ℕ). Begun (sequenceOf []) (usedFrom (s .args .end) os k 0) (used (s .args .end) os)) z (begun-none (used (s .args .end) os));
     })
 
 next-time-requires : tie.Need-next-time-requires Inv-loop μ-loop
@@ -94,6 +95,5 @@ returns-2 c =
 
 pub used-any-spec : {M : Type 1} → statement M
 used-any-spec =
-    tie.close
-    (tie.spec Inv-loop μ-loop (λ c κs. search needs) loop-holds next-time-requires returns (λ c κs. search needs) (λ c κs. search needs)
+    tie.close (tie.spec Inv-loop μ-loop (λ c κs. search needs) loop-holds next-time-requires returns (λ c κs. search needs) (λ c κs. search needs)
     (λ c. omega arith) (λ c. omega arith) (λ c. omega arith) loop-again returns-2)

@@ -143,8 +143,7 @@ returns c =
 
 pub used-at-spec : {M : Type 1} → statement M
 used-at-spec =
-    tie.close
-    (tie.spec Inv-loop μ-loop latest-at-requires loop-holds (λ c. omega arith) (λ c. omega arith) (λ c. omega arith) (λ c. omega arith) loop-again
-    (λ c. omega arith) (λ c. omega arith) (λ c. omega arith) loop-again-2 (λ c. omega arith) (λ c. omega arith) (λ c κs. search needs)
+    tie.close (tie.spec Inv-loop μ-loop latest-at-requires loop-holds (λ c. omega arith) (λ c. omega arith) (λ c. omega arith) (λ c. omega arith)
+    loop-again (λ c. omega arith) (λ c. omega arith) (λ c. omega arith) loop-again-2 (λ c. omega arith) (λ c. omega arith) (λ c κs. search needs)
     (λ c κs. search needs) (λ c κs. search needs) (λ c κs. search needs) (λ c κs. search needs) (λ c κs. search needs) (λ c. omega arith)
     loop-again-3 (λ c κs. search needs) returns)

@@ -91,8 +91,7 @@ returns-2 c =
 
 pub used-ordered-spec : {M : Type 1} → statement M
 used-ordered-spec =
-    tie.close
-    (tie.spec Inv-loop μ-loop (λ c κs. search needs) loop-holds (λ c. omega arith) (λ c. omega arith) returns (λ c. omega arith)
+    tie.close (tie.spec Inv-loop μ-loop (λ c κs. search needs) loop-holds (λ c. omega arith) (λ c. omega arith) returns (λ c. omega arith)
     (λ c κs. search needs) (λ c. omega arith) (λ c. omega arith) (λ c. omega arith) (λ c κs. search needs) (λ c. omega arith) (λ c. omega arith)
     (λ c. omega arith) (λ c. omega arith) loop-again (λ c κs. search needs) (λ c. search needs) (λ c. omega arith) (λ c. omega arith)
     (λ c. omega arith) loop-less-2 loop-again-2 (λ c. search needs) (λ c. omega arith) loop-again-3 returns-2)

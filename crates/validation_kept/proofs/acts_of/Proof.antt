@@ -91,6 +91,5 @@ returns c =
 
 pub acts-of-spec : {M : Type 1} → statement M
 acts-of-spec =
-    tie.close
-    (tie.spec Inv-loop μ-loop (λ c κs. search needs) loop-holds (λ c. omega arith) (λ c. omega arith) (λ c. omega arith) loop-again
+    tie.close (tie.spec Inv-loop μ-loop (λ c κs. search needs) loop-holds (λ c. omega arith) (λ c. omega arith) (λ c. omega arith) loop-again
     (λ c. omega arith) (λ c. omega arith) (λ c. omega arith) (λ c. omega arith) (λ c. omega arith) (λ c. omega arith) loop-again-2 returns)

@@ -53,11 +53,9 @@ loop-again c =
     }
 
 returns : tie.Need-returns Inv-loop μ-loop
-returns c =
-    λ ks g t j h. c .before .loop .inv .from ks g t .fates-are j (omega arith) h
+returns c = λ ks g t j h. c .before .loop .inv .from ks g t .fates-are j (omega arith) h
 
 pub late-fates-spec : {M : Type 1} → statement M
 late-fates-spec =
-    tie.close
-    (tie.spec Inv-loop μ-loop loop-holds (λ c. omega arith) (λ c. omega arith) (λ c. omega arith) (λ c κs. search needs) (λ c. omega arith)
+    tie.close (tie.spec Inv-loop μ-loop loop-holds (λ c. omega arith) (λ c. omega arith) (λ c. omega arith) (λ c κs. search needs) (λ c. omega arith)
     (λ c κs. search needs) (λ c. omega arith) loop-again returns)

@@ -91,7 +91,6 @@ returns c =
 
 pub settle-late-spec : {M : Type 1} → statement M
 settle-late-spec =
-    tie.close
-    (tie.spec Inv-loop μ-loop loop-holds (λ c. omega arith) (λ c. omega arith) (λ c. omega arith) (λ c. omega arith) (λ c. omega arith) loop-again
-    (λ c κs. search needs) (λ c. omega arith) loop-again-2 (λ c. omega arith) (λ c. omega arith) loop-again-3 (λ c. omega arith) (λ c. omega arith)
-    loop-again-4 returns)
+    tie.close (tie.spec Inv-loop μ-loop loop-holds (λ c. omega arith) (λ c. omega arith) (λ c. omega arith) (λ c. omega arith) (λ c. omega arith)
+    loop-again (λ c κs. search needs) (λ c. omega arith) loop-again-2 (λ c. omega arith) (λ c. omega arith) loop-again-3 (λ c. omega arith)
+    (λ c. omega arith) loop-again-4 returns)

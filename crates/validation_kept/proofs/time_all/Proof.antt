@@ -33,8 +33,7 @@ loop-again c =
     record {
       within = omega arith;
       table = record { few = omega arith; long = simp length-set (omega arith); issues-long = simp length-set (omega arith) };
-      timed =
-          timed-more (s .args .t1) (l .i) (omega (arith, s .good .0 .1 .0 .1)) (l .times) (l .issues) (omega arith) (omega arith) (l .inv .timed);
+      timed = timed-more (s .args .t1) (l .i) (omega (arith, s .good .0 .1 .0 .1)) (l .times) (l .issues) (omega arith) (omega arith) (l .inv .timed);
     }
 
 returns : tie.Need-returns Inv-loop μ-loop
@@ -45,6 +44,5 @@ returns c =
 
 pub time-all-spec : {M : Type 1} → statement M
 time-all-spec =
-    tie.close
-    (tie.spec Inv-loop μ-loop loop-holds (λ c. omega arith) (λ c. omega arith) (λ c. omega arith) (λ c. omega arith) (λ c. omega arith)
+    tie.close (tie.spec Inv-loop μ-loop loop-holds (λ c. omega arith) (λ c. omega arith) (λ c. omega arith) (λ c. omega arith) (λ c. omega arith)
     (λ c. omega arith) (λ c. omega arith) (λ c. omega arith) loop-again returns)

@@ -75,6 +75,5 @@ returns-3 c =
 
 pub fail-one-spec : {M : Type 1} → statement M
 fail-one-spec =
-    tie.close
-    (tie.spec (λ c κs. search needs) returns (λ c κs. search needs) (λ c κs. search needs) returns-2 (λ c. search needs) (λ c κs. search needs)
-    put-fate-requires-3 returns-3)
+    tie.close (tie.spec (λ c κs. search needs) returns (λ c κs. search needs) (λ c κs. search needs) returns-2 (λ c. search needs)
+    (λ c κs. search needs) put-fate-requires-3 returns-3)

@@ -62,6 +62,5 @@ returns-5 c = λ ks e.
 
 pub is-repeat-spec : {M : Type 1} → statement M
 is-repeat-spec =
-    tie.close
-    (tie.spec returns (λ c κs. search needs) returns-2 (λ c κs. search needs) returns-3 (λ c κs. search needs) returns-4 (λ c κs. search needs)
-    returns-5)
+    tie.close (tie.spec returns (λ c κs. search needs) returns-2 (λ c κs. search needs) returns-3 (λ c κs. search needs) returns-4
+    (λ c κs. search needs) returns-5)

@@ -30,12 +30,7 @@ unfolding marked stackFrom
 loop-holds c =
     let a = c .args in
     let z : a .from - a .from ≡ 0 = omega arith in
-    record {
-      begun = omega arith;
-      within = omega arith;
-      long = omega arith;
-      voided = λ ks e. rw z;
-    }
+    record { begun = omega arith; within = omega arith; long = omega arith; voided = λ ks e. rw z }
 
 loop-again : tie.Need-loop-again Inv-loop μ-loop
 unfolding marked stackFrom
@@ -63,6 +58,5 @@ returns c =
 
 pub void-from-spec : {M : Type 1} → statement M
 void-from-spec =
-    tie.close
-    (tie.spec Inv-loop μ-loop loop-holds (λ c. omega arith) (λ c. omega arith) (λ c κs. search needs) (λ c. omega arith) (λ c. omega arith)
+    tie.close (tie.spec Inv-loop μ-loop loop-holds (λ c. omega arith) (λ c. omega arith) (λ c κs. search needs) (λ c. omega arith) (λ c. omega arith)
     loop-again returns)
