@@ -55,8 +55,8 @@ build() {
         { names[NR] = $1; uses[$1] = $2 }
         END { reach("profiler"); for (k = 1; k <= NR; k++) if (names[k] in reached) print names[k] }' "$here/crates.txt")
     total=$(echo "$crates" | awk 'END { print NR }')
-    # Twice as many at a time as there are processors, at most four: rt waits for the slowest of those that it began together.
-    jobs=$(($(nproc 2>/dev/null || echo 2) * 2))
+    # One job more than there are processors, at most four: rt waits for the slowest of those that it began together.
+    jobs=$(($(nproc 2>/dev/null || echo 2) + 1))
     [ "$jobs" -le 4 ] || jobs=4
     if [ -t 2 ]; then
         progress "0 of $total crates proved"

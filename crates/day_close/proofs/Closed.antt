@@ -18,7 +18,7 @@ use Rattle.day.specs.Day.{halfHours, foundIn, dayWith}
 use Rattle.day.specs.Step.{quantityTooHigh, accept, settle}
 use Rattle.day.proofs.Answers.{settle-refused, settle-taken}
 use Rattle.profile_quantity.specs.Summing.{someAbove}
-use Rattle.profile_close.proofs.Whole.{too-high-is}
+use Rattle.day_close.proofs.Whole.{too-high-is}
 use Rattle.day_enter.specs.Fronts.{closeFront, closeTaken}
 use Rattle.day_enter.proofs.Laws.{close-in-two}
 use Rattle.day_close.specs.declared.CloseRead.{CloseRead}

@@ -37,9 +37,9 @@ use Rattle.profile_follow.specs.declared.FollowedDay.{FollowedDay}
 use Rattle.profile_follow.specs.declared.Walk.{Walk}
 use Rattle.profile_follow.specs.Walk.{fateIn, walkOf, walkAll}
 use Rattle.profile_follow.specs.Following.{Ordered, LowStart, coursesFrom, lastIn, Followable, FollowedBy}
-use Rattle.profile_close.specs.declared.Fates.{Fates}
-use Rattle.profile_close.specs.Laying.{overAll, overlaidAll, marksFrom}
-use Rattle.profile_close.proofs.Laying.{own-marks, fates-found}
+use Rattle.day_close.specs.declared.Fates.{Fates}
+use Rattle.day_close.specs.Laying.{overAll, overlaidAll, marksFrom}
+use Rattle.day_close.proofs.Laying.{own-marks, fates-found}
 
 -- ---- those that act stand in order
 rising-ordered : (end a : ℕ) (os : List Numbered) → a ≤ end → All (λ (l : Numbered). a ≤ acting l) os → Rises os →

@@ -1,9 +1,9 @@
 use mathlib.Core.Path.{_∙_}
 use native.Mathlib.Omega.{arith}
-use Rattle.profile_close.specs.Laying.{overlaid}
-use Rattle.profile_close.proofs.Laying.{LaidFrom, overlaid-start, overlaid-back, overlaid-end}
-use Rattle.profile_close.proofs.lay_fates.Statement.{statement}
-use Rattle.profile_close.proofs.lay_fates.Tie as tie
+use Rattle.day_close.specs.Laying.{overlaid}
+use Rattle.day_close.proofs.Laying.{LaidFrom, overlaid-start, overlaid-back, overlaid-end}
+use Rattle.day_close.proofs.lay_fates.Statement.{statement}
+use Rattle.day_close.proofs.lay_fates.Tie as tie
 
 abbrev Inv-loop : tie.InvT-loop
 Inv-loop n acts own out₀ i₀ out i = LaidFrom n acts own out₀ out i

@@ -8,12 +8,12 @@ use Rattle.validation_kept.specs.declared.Validation.{Validation}
 use Rattle.validation_kept.specs.Outcome.{validationOf}
 use Rattle.profile.specs.Effects.{startCourse}
 use Rattle.profile_follow.specs.Following.{FollowedBy}
-use Rattle.profile_close.specs.declared.Fates.{Fates}
-use Rattle.profile_close.specs.Laying.{overlaidAll, marksFrom}
-use Rattle.profile_close.proofs.Whole.{Words, acting-few, acts-fit, find-is}
+use Rattle.day_close.specs.declared.Fates.{Fates}
+use Rattle.day_close.specs.Laying.{overlaidAll, marksFrom}
+use Rattle.day_close.proofs.Whole.{Words, acting-few, acts-fit, find-is}
 use borrow.Author.Needs.{needs}
-use Rattle.profile_close.proofs.find.Statement.{statement}
-use Rattle.profile_close.proofs.find.Tie as tie
+use Rattle.day_close.proofs.find.Statement.{statement}
+use Rattle.day_close.proofs.find.Tie as tie
 
 -- ---- the points of the code, each from a later one
 abbrev start : tie.After-validate → tie.Start

@@ -7,7 +7,7 @@ use Rattle.level.specs.Choice.{pick}
 use Rattle.validation.specs.declared.Numbered.{Numbered}
 use Rattle.validation.specs.Kept.{Mark}
 use Rattle.validation_groups.specs.Working.{noNumbered}
-use Rattle.profile_close.specs.declared.Fates.{Fates}
+use Rattle.day_close.specs.declared.Fates.{Fates}
 
 -- one fate laid over: a number that none of the first count has, and a fate of 1, change nothing
 unfoldable pub overFate : List ℕ → ℕ → ℕ → ℕ → List ℕ

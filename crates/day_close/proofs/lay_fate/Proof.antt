@@ -1,10 +1,10 @@
 use mathlib.Core.Path.{ap}
 use native.Mathlib.Omega.{arith}
-use Rattle.profile_close.specs.Laying.{overlaid}
-use Rattle.profile_close.proofs.Laying.{counted, over-none, over-out, over-one, over-set}
+use Rattle.day_close.specs.Laying.{overlaid}
+use Rattle.day_close.proofs.Laying.{counted, over-none, over-out, over-one, over-set}
 use borrow.Author.Needs.{needs}
-use Rattle.profile_close.proofs.lay_fate.Statement.{statement}
-use Rattle.profile_close.proofs.lay_fate.Tie as tie
+use Rattle.day_close.proofs.lay_fate.Statement.{statement}
+use Rattle.day_close.proofs.lay_fate.Tie as tie
 
 returns : tie.Need-returns
 unfolding overlaid

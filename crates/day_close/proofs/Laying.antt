@@ -25,9 +25,9 @@ use Rattle.profile.specs.State.{byRule}
 use Rattle.profile.specs.Effects.{goesOn, replaces, follow}
 use Rattle.level.proofs.Arrays.{filled-at, filled-set}
 use Rattle.profile.proofs.Following.{follow-ind}
-use Rattle.profile_close.specs.declared.Fates.{Fates}
+use Rattle.day_close.specs.declared.Fates.{Fates}
 use Rattle.profile_follow.specs.Walk.{fateIn}
-use Rattle.profile_close.specs.Laying.{overFate, overAll, overlaid, overlaidAll, marksFrom}
+use Rattle.day_close.specs.Laying.{overFate, overAll, overlaid, overlaidAll, marksFrom}
 
 -- ---- one fate, case by case
 module _ (fates : List ℕ) (count number fate : ℕ) where
