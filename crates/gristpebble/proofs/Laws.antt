@@ -36,12 +36,12 @@ pub record Answered (a : Answer) (k size : ℕ) (t : Taken) (s : List ℕ) : Typ
   pub step : settle a (openDay t) (accept (next k size t s) size) ≡ stepOf (openDay t) s
 
 -- it is taken: it is whole, and the run goes on after it
-pub record Entered (k size : ℕ) (t : Taken) (s : List ℕ) : Type 0 where
+pub record RecordEntered (k size : ℕ) (t : Taken) (s : List ℕ) : Type 0 where
   pub whole : size ≤ length s
   pub onward : from (openDay t) s ≡ from (next k size t s) (take (length s - size) (drop size s))
 
 pub entered : {a : Answer} {k size : ℕ} {t : Taken} {s : List ℕ} → 1 ≤ length s → Answered a k size t s → accepted a ≡ true → 1 ≤ size →
-    next k size t s .closed ≡ false → Entered k size t s
+    next k size t s .closed ≡ false → RecordEntered k size t s
 entered {a} {k} {size} {t} {s} some by taken some-size still =
     let d : Day = openDay t in
     let e : Day = next k size t s in

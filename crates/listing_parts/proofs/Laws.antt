@@ -75,13 +75,13 @@ module _ (fs : List ℕ) (n i : ℕ) where
 -- ---- S lines of a course
 
 -- how far a course has been followed: not past its target, with the segment that is known there, if any
-pub record Along (l : OwnLists) (c : Course) (up : Bool) (r : Reached) : Type 0 where
+pub record CourseAt (l : OwnLists) (c : Course) (up : Bool) (r : Reached) : Type 0 where
   pub short : Short (headed up) (grains (c .target)) (r .place .level)
   pub known : Known (headed up) (listsBy l c) (grains (c .target)) r
 
 -- one piece on, up to the second n: of the lines left, its line comes next
 pub record PieceOn (l : OwnLists) (c : Course) (up : Bool) (n : ℕ) (from to : Reached) : Type 0 where
-  pub along : Along l c up to
+  pub along : CourseAt l c up to
   pub later : from .place .second < to .place .second
   pub within : to .place .second ≤ n
   pub line : Next (linesLeft l c up n (from .place)) (pieceLine (from .place) (to .place)) (linesLeft l c up n (to .place))
@@ -96,12 +96,12 @@ module _ (l : OwnLists) (c : Course) (up : Bool) where
   abbrev target : ℕ
   target = grains (c .target)
 
-  pub along-begins : Short way target (c .start .grains) → Along l c up (reachedAt way lists target (beginning c (c .begin)))
+  pub along-begins : Short way target (c .start .grains) → CourseAt l c up (reachedAt way lists target (beginning c (c .begin)))
   unfolding beginning reachedAt
   along-begins sh = record { short = sh; known = known-at way lists target (beginning c (c .begin)) sh }
 
   module _ (n : ℕ) where
-    pub piece-on : {from to : Reached} → from .place .second < n → Along l c up from →
+    pub piece-on : {from to : Reached} → from .place .second < n → CourseAt l c up from →
         (to .place ≡ onward way lists target n (from .place)) × Known way lists target to → PieceOn l c up n from to
     unfolding sLines pieceLine pieceBetween
     piece-on {from} {to} h a e =

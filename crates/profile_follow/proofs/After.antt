@@ -96,12 +96,12 @@ module _ (end : ℕ) where
   ordered-end a (o ∷ os) h = omega (arith, h .0, ordered-end (acting o) os (h .1))
 
   -- the first of those left acts no earlier, and they act in order from there
-  pub record Next (a : ℕ) (os : List Numbered) : Type 0 where
+  pub record NextActs (a : ℕ) (os : List Numbered) : Type 0 where
     pub later : a ≤ secondOf end os
     pub soon : secondOf end os ≤ end
     pub ordered : Ordered end (secondOf end os) os
 
-  pub ordered-next : (a : ℕ) (os : List Numbered) → Ordered end a os → Next a os
+  pub ordered-next : (a : ℕ) (os : List Numbered) → Ordered end a os → NextActs a os
   ordered-next a [] h = record { later = h; soon = omega arith; ordered = omega arith }
   ordered-next a (o ∷ os) h = record { later = h .0; soon = ordered-end (acting o) os (h .1); ordered = (omega arith, h .1) }
 

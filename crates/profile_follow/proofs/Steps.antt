@@ -48,7 +48,7 @@ use Rattle.profile_follow.specs.declared.FollowedDay.{FollowedDay}
 use Rattle.profile_follow.specs.Walk.{walkOf, walkAll, wentOn, replacedBy}
 use Rattle.profile_follow.specs.Following.{setOut, wentTo, placeIn, secondOf, Ordered, LowStart, coursesFrom, coursesAfter, endOf, OnIt, sumsAt, sumAfter, lastIn, ended, FollowedBy}
 use Rattle.profile_follow.proofs.Walking.{WalkProgress, walked-start, walked-on, walked-new, walked-end}
-use Rattle.profile_follow.proofs.After.{begins-there, from-head, after-none, after-on, after-new, end-none, end-new, end-after, ordered-less, Next, ordered-next, set-out-sum, out-on}
+use Rattle.profile_follow.proofs.After.{begins-there, from-head, after-none, after-on, after-new, end-none, end-new, end-after, ordered-less, NextActs, ordered-next, set-out-sum, out-on}
 
 -- the place q, where the course under way is cut at the second n
 pub record CutAt (now : UnderWay) (l : OwnLists) (g : OnCourse) (q : Place) (n : ℕ) : Type 0 where
@@ -125,7 +125,7 @@ module _ {u : UnitData} {end : ℕ} {first : UnderWay} {all left : List Numbered
   abbrev next : ℕ
   next = secondOf end left
 
-  pub order : Next end (g .reached .place .second) left
+  pub order : NextActs end (g .reached .place .second) left
   order = ordered-next end (g .reached .place .second) left (f .ordered)
 
   pub progress-pass : {s : Passed} {zs : List ℕ} → Passing l (w .now .course) (g .up) (g .reached .place) (g .off) next (sumsAt g ys) zs s →

@@ -10,7 +10,7 @@ use Rattle.level.specs.Lists.{filled}
 use Rattle.validation.specs.declared.Numbered.{Numbered}
 use Rattle.validation.specs.Kept.{Mark, acting, lateFate, lateMarks}
 use Rattle.validation_groups.specs.Working.{noNumbered, supersededAmong}
-use Rattle.validation_sequence.specs.Working.{never, entryNumber, Noted}
+use Rattle.validation_sequence.specs.Working.{never, entryNumber, NotedBeside}
 use Rattle.validation_kept.specs.declared.Validation.{Validation}
 
 -- the earliest acting time of these; where there is none, one later than any
@@ -37,7 +37,8 @@ settled fates (m ∷ ms) = settled (settleFate fates (m .number) (m .fate)) ms
 
 -- these are the fates `before`, with step 4's of the first n kept, whose numbers and fates stand by their places
 abbrev pub SettledBy : List ℕ → List ℕ → ℕ → List ℕ → List ℕ → Type 0
-SettledBy numbers late n before fates = (end : ℕ) (ks : List Numbered) → n ≤ length ks → Noted entryNumber numbers ks n → LateFates end ks n late →
+SettledBy numbers late n before fates =
+    (end : ℕ) (ks : List Numbered) → n ≤ length ks → NotedBeside entryNumber numbers ks n → LateFates end ks n late →
     fates ≡ settled before (lateMarks end (take n ks))
 
 -- those that act, with the fates of all

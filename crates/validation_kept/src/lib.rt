@@ -11,7 +11,7 @@ ghost use Rattle.validation.specs.Kept.{numbered, acting, actors};
 ghost use Rattle.validation_groups.specs.Working.{Timed, Table, risingFrom};
 ghost use Rattle.validation_kept.specs.Outcome.{validationOf};
 ghost use Rattle.validation_kept.specs.Late.{lateFateBy, LateFates, SettledBy, actingWith, fatesTo};
-ghost use Rattle.validation_sequence.specs.Working.{Noted, Soon};
+ghost use Rattle.validation_sequence.specs.Working.{NotedBeside, Soon};
 
 // What steps 1 to 4 come to: the fates by number, those that act in time order, and how many these are.
 pub struct Validation {
@@ -52,7 +52,7 @@ fn late_fate(earliest: u64, own: u64, end: u32) -> u8
 // The fates that step 4 gives n kept ones that act at these times, by their places: from the last, with the earliest acting time of those after.
 fn late_fates(times: &[u64; level::INSTRUCTIONS], n: usize, end: u32) -> [u8; level::INSTRUCTIONS]
     requires { ⌜ (n ≤ instructionPlaces) × Soon (now times) n ⌝ }
-    ensures { λ r. ⌜ ((ks : List Numbered) → n ≤ length ks → Noted acting (now (times .entry)) ks n → LateFates end ks n r) ⌝ }
+    ensures { λ r. ⌜ ((ks : List Numbered) → n ≤ length ks → NotedBeside acting (now (times .entry)) ks n → LateFates end ks n r) ⌝ }
 {
     let mut out = [0u8; level::INSTRUCTIONS];
     let mut earliest = NEVER;

@@ -18,7 +18,7 @@ use Rattle.records.specs.Codes.{same}
 use Rattle.validation.specs.declared.Numbered.{Numbered}
 use Rattle.validation.specs.Kept.{effectiveOf, effectOf, Mark, mark, repeats, syncWithinHour, fromSync, beforeSync, Checked, failed, checkOne, check, acting}
 use Rattle.validation_groups.specs.Working.{noNumbered}
-use Rattle.validation_sequence.specs.Working.{Checking, checking, entryNumber, Noted, Synced, never, Soon, StepThree, stackOf, stackFrom, syncPlace, setFate, marked, withFate, keeping, noneChecked, Tracks, Follows, SetsOut}
+use Rattle.validation_sequence.specs.Working.{Checking, checking, entryNumber, NotedBeside, Synced, never, Soon, StepThree, stackOf, stackFrom, syncPlace, setFate, marked, withFate, keeping, noneChecked, Tracks, Follows, SetsOut}
 use Rattle.validation_sequence.proofs.Stack.{stack-push, synced-push, up-to-sync}
 
 -- ---- fates in an array
@@ -108,7 +108,7 @@ check-more m os i h = rw (add-one, take-suc os i noNumbered) (check-last m (take
 
 -- ---- the arrays beside the kept ones
 pub noted-push : (f : Numbered → ℕ) (xs : List ℕ) (ks : List Numbered) (h v : ℕ) (o : Numbered) → v ≡ f o → h < length xs → h < length ks →
-    Noted f xs ks h → Noted f (set xs h v) (set ks h o) (h + 1)
+    NotedBeside f xs ks h → NotedBeside f (set xs h v) (set ks h o) (h + 1)
 noted-push f xs ks h v o e p q r j l = elim (ℕ-discrete j h) [
   | yes i ↦ rw i (getD-set-same xs h v 0 p ∙ (e ∙ ap f (sym (getD-set-same ks h o noNumbered q))))
   | no i ↦ getD-set-other xs h j v 0 i ∙ (r j (omega arith) ∙ ap f (sym (getD-set-other ks h j o noNumbered i)))

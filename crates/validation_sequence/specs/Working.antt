@@ -27,8 +27,8 @@ abbrev pub entryNumber : Numbered → ℕ
 entryNumber o = o .number
 
 -- the numbers f of the first h kept ones stand in another array, at the same places
-abbrev pub Noted : (Numbered → ℕ) → List ℕ → List Numbered → ℕ → Type 0
-Noted f xs ks h = (j : ℕ) → j < h → getD xs j 0 ≡ f (getD ks j noNumbered)
+abbrev pub NotedBeside : (Numbered → ℕ) → List ℕ → List Numbered → ℕ → Type 0
+NotedBeside f xs ks h = (j : ℕ) → j < h → getD xs j 0 ≡ f (getD ks j noNumbered)
 
 -- the first h places, the latest first
 unfoldable pub stackOf : List Numbered → ℕ → List Numbered
@@ -83,13 +83,15 @@ pub record PlaceKept (place height : ℕ) (fates : List ℕ) : Type 0 where
 -- those kept from one place on have fate 4
 pub record Voided (numbers fates : List ℕ) (from height : ℕ) (next : List ℕ) : Type 0 where
   pub long : length next ≡ instructionPlaces
-  pub voids : (ks : List Numbered) → Noted entryNumber numbers ks height → next ≡ marked fates (map (mark 4) (stackFrom ks from (height - from)))
+  pub voids : (ks : List Numbered) → NotedBeside entryNumber numbers ks height →
+      next ≡ marked fates (map (mark 4) (stackFrom ks from (height - from)))
 
 -- after a FAIL: r of the kept ones stay, and the fates are those of the definition
 pub record FailedOne (numbers fates : List ℕ) (height place : ℕ) (sync o : Numbered) (next : List ℕ) (r : ℕ) : Type 0 where
   pub low : r ≤ height
   pub long : length next ≡ instructionPlaces
-  pub follows : (ks : List Numbered) → Noted entryNumber numbers ks height → place ≡ syncPlace ks height → sync ≡ getD ks (place - 1) noNumbered →
+  pub follows : (ks : List Numbered) → NotedBeside entryNumber numbers ks height → place ≡ syncPlace ks height →
+      sync ≡ getD ks (place - 1) noNumbered →
       Follows (checking ks height fates) (checking ks r next) (λ (m : Checked). failed m o)
 
 -- step 3 sets out: no fate is settled, and there is room beside the kept ones
@@ -110,6 +112,6 @@ Soon times h = (j : ℕ) → j < h → getD times j 0 < never
 pub record StepThree (kept : List Numbered) (height : ℕ) (fates numbers times : List ℕ) (m : Checked) : Type 0 where
   pub few : height ≤ instructionPlaces
   pub tracks : Tracks (checking kept height fates) m
-  pub named : Noted entryNumber numbers kept height
-  pub timed : Noted acting times kept height
+  pub named : NotedBeside entryNumber numbers kept height
+  pub timed : NotedBeside acting times kept height
   pub soon : Soon times height

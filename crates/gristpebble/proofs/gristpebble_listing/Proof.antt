@@ -22,7 +22,7 @@ use Rattle.day_enter.proofs.Laws.{unit-step, unit-says, opening-step, opening-s
 use Rattle.listing_run.specs.Ended.{openDay, endedBy}
 use Rattle.listing_run.proofs.Runs.{from, stops, by-other, run-first, run-none}
 use Rattle.listing.specs.Result.{ranResult, ranLent, listedResult, listedLent}
-use Rattle.gristpebble.proofs.Laws.{next, Answered, Entered, entered, ran-listed, ran-refused}
+use Rattle.gristpebble.proofs.Laws.{next, Answered, RecordEntered, entered, ran-listed, ran-refused}
 use Rattle.listing_run.proofs.Room.{run-fits}
 use Rattle.gristpebble.proofs.gristpebble_listing.Statement.{statement}
 use Rattle.gristpebble.proofs.gristpebble_listing.Tie as tie
@@ -115,7 +115,7 @@ returns c =
 unit-taken : (c : tie.Else1 Inv-loop μ-loop) → accepted (unit-read (c .before) .unit-front .result .answer) ≡ true
 unit-taken c = is-taken (unit-read (c .before) .unit-front .result .answer) _ (c .before .is-accepted .ensures) (c .if1 .left)
 
-unit-in : (c : tie.Else1 Inv-loop μ-loop) → let k = unit-turn (c .before) .before in Entered 1 unitSize (taken k) (rest k)
+unit-in : (c : tie.Else1 Inv-loop μ-loop) → let k = unit-turn (c .before) .before in RecordEntered 1 unitSize (taken k) (rest k)
 unfolding dayWith takenWith
 unit-in c =
     let t = unit-turn (c .before) in
@@ -148,7 +148,7 @@ returns-2 c =
 opening-taken : (c : tie.Else2 Inv-loop μ-loop) → accepted (opening-read (c .before) .opening-front .result .answer) ≡ true
 opening-taken c = is-taken (opening-read (c .before) .opening-front .result .answer) _ (c .before .is-accepted2 .ensures) (c .if2 .left)
 
-opening-in : (c : tie.Else2 Inv-loop μ-loop) → let k = opening-turn (c .before) .before in Entered 2 openingSize (taken k) (rest k)
+opening-in : (c : tie.Else2 Inv-loop μ-loop) → let k = opening-turn (c .before) .before in RecordEntered 2 openingSize (taken k) (rest k)
 unfolding dayWith takenWith
 opening-in c =
     let t = opening-turn (c .before) in
@@ -181,7 +181,7 @@ returns-3 c =
 instruction-taken : (c : tie.Else3 Inv-loop μ-loop) → accepted (instruction-read (c .before) .instruction-front .result .answer) ≡ true
 instruction-taken c = is-taken (instruction-read (c .before) .instruction-front .result .answer) _ (c .before .is-accepted3 .ensures) (c .if3 .left)
 
-instruction-in : (c : tie.Else3 Inv-loop μ-loop) → let k = instruction-turn (c .before) .before in Entered 3 instructionSize (taken k) (rest k)
+instruction-in : (c : tie.Else3 Inv-loop μ-loop) → let k = instruction-turn (c .before) .before in RecordEntered 3 instructionSize (taken k) (rest k)
 unfolding dayWith takenWith
 instruction-in c =
     let t = instruction-turn (c .before) in

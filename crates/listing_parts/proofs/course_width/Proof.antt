@@ -8,13 +8,13 @@ use Rattle.course_walk.specs.declared.Reached.{Reached}
 use Rattle.course_walk.specs.Walk.{beginning, reachedAt}
 use Rattle.lines.proofs.Laying.{Measuring, measure-none, measure-more, measure-all}
 use Rattle.listing_parts.specs.Rest.{linesLeft}
-use Rattle.listing_parts.proofs.Laws.{Along, PieceOn, along-begins, piece-on, pieces-none}
+use Rattle.listing_parts.proofs.Laws.{CourseAt, PieceOn, along-begins, piece-on, pieces-none}
 use Rattle.listing_parts.proofs.course_width.Statement.{statement}
 use Rattle.listing_parts.proofs.course_width.Tie as tie
 
 -- the course is followed up to `from`, and its lines are measured up to there
 record Progress (l : OwnLists) (c : Course) (up : Bool) (n : ℕ) (from : Reached) (width : ℕ) : Type 0 where
-  along : Along l c up from
+  along : CourseAt l c up from
   begun : c .begin ≤ from .place .second
   measured : Measuring (linesLeft l c up n (beginning c (c .begin))) (linesLeft l c up n (from .place)) ((from .place .second - c .begin) * 86) width
 

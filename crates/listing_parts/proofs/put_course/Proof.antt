@@ -9,13 +9,13 @@ use Rattle.course_walk.specs.declared.Reached.{Reached}
 use Rattle.course_walk.specs.Walk.{beginning, reachedAt}
 use Rattle.lines.proofs.Laying.{Laying, Room, lay-none, lay-room, lay-next, lay-more, lay-all, room-tail}
 use Rattle.listing_parts.specs.Rest.{pieceLine, linesLeft}
-use Rattle.listing_parts.proofs.Laws.{Along, PieceOn, along-begins, piece-on, pieces-none}
+use Rattle.listing_parts.proofs.Laws.{CourseAt, PieceOn, along-begins, piece-on, pieces-none}
 use Rattle.listing_parts.proofs.put_course.Statement.{statement}
 use Rattle.listing_parts.proofs.put_course.Tie as tie
 
 -- the course is followed up to `from`, and its lines are laid up to there
 record Progress (l : OwnLists) (c : Course) (up : Bool) (n : ℕ) (from : Reached) (out₀ out : List ℕ) (at : ℕ) : Type 0 where
-  along : Along l c up from
+  along : CourseAt l c up from
   lines : Laying (linesLeft l c up n (beginning c (c .begin))) (linesLeft l c up n (from .place)) out₀ out at
 
 abbrev Inv-loop : tie.InvT-loop

@@ -8,7 +8,7 @@ use Rattle.level.specs.Numbers.{instructionPlaces}
 use Rattle.level.proofs.Lists.{left-none}
 use Rattle.validation.specs.declared.Numbered.{Numbered}
 use Rattle.validation.specs.Kept.{acting}
-use Rattle.validation_sequence.specs.Working.{Noted}
+use Rattle.validation_sequence.specs.Working.{NotedBeside}
 use Rattle.validation_kept.specs.Late.{earliestActing}
 use Rattle.validation_kept.proofs.Late.{LateFrom, late-more}
 use Rattle.validation_kept.proofs.late_fates.Statement.{statement}
@@ -18,7 +18,7 @@ use Rattle.validation_kept.proofs.late_fates.Tie as tie
 pub record LateProgress (times : List ℕ) (n end i : ℕ) (out : List ℕ) (earliest : ℕ) : Type 0 where
   pub within : i ≤ n
   pub long : length out ≡ instructionPlaces
-  pub from : (ks : List Numbered) → n ≤ length ks → Noted acting times ks n → LateFrom end ks n i out earliest
+  pub from : (ks : List Numbered) → n ≤ length ks → NotedBeside acting times ks n → LateFrom end ks n i out earliest
 
 abbrev Inv-loop : tie.InvT-loop
 Inv-loop times n end out₀ earliest₀ i₀ out earliest i = LateProgress times n end i out earliest

@@ -6,7 +6,7 @@ use Rattle.level.specs.Numbers.{instructionPlaces}
 use Rattle.validation.specs.declared.Numbered.{Numbered}
 use Rattle.validation.specs.Kept.{lateMarks}
 use Rattle.validation_kept.specs.Late.{settleFate, settled, LateFates}
-use Rattle.validation_sequence.specs.Working.{entryNumber, Noted}
+use Rattle.validation_sequence.specs.Working.{entryNumber, NotedBeside}
 use Rattle.level.proofs.Lists.{left-none}
 use Rattle.validation_kept.proofs.Late.{settled-more}
 use native.Mathlib.Omega.{arith}
@@ -17,7 +17,8 @@ use Rattle.validation_kept.proofs.settle_late.Tie as tie
 
 -- with these marks, in whatever day and of whatever kept ones they are, the fates so settled come to the same
 abbrev Settles : List ℕ → List ℕ → List ℕ → ℕ → ℕ → List ℕ → Type 0
-Settles numbers late before n i out = (end : ℕ) (ks : List Numbered) → n ≤ length ks → Noted entryNumber numbers ks n → LateFates end ks n late →
+Settles numbers late before n i out =
+    (end : ℕ) (ks : List Numbered) → n ≤ length ks → NotedBeside entryNumber numbers ks n → LateFates end ks n late →
     settled out (lateMarks end (drop i (take n ks))) ≡ settled before (lateMarks end (take n ks))
 
 pub record SettleProgress (numbers late before : List ℕ) (n i : ℕ) (out : List ℕ) : Type 0 where

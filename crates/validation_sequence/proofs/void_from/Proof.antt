@@ -6,7 +6,7 @@ use lib.ListN.{length}
 use Rattle.level.specs.Numbers.{instructionPlaces}
 use Rattle.validation.specs.declared.Numbered.{Numbered}
 use Rattle.validation.specs.Kept.{mark}
-use Rattle.validation_sequence.specs.Working.{entryNumber, Noted, setFate, marked, stackFrom}
+use Rattle.validation_sequence.specs.Working.{entryNumber, NotedBeside, setFate, marked, stackFrom}
 use Rattle.validation_sequence.proofs.Steps.{set-length}
 use borrow.Author.Needs.{needs}
 use Rattle.validation_sequence.proofs.void_from.Statement.{statement}
@@ -17,7 +17,7 @@ pub record VoidProgress (numbers : List ℕ) (from height : ℕ) (before : List 
   pub begun : from ≤ i
   pub within : i ≤ height
   pub long : length fates ≡ instructionPlaces
-  pub voided : (ks : List Numbered) → Noted entryNumber numbers ks height → fates ≡ marked before (map (mark 4) (stackFrom ks from (i - from)))
+  pub voided : (ks : List Numbered) → NotedBeside entryNumber numbers ks height → fates ≡ marked before (map (mark 4) (stackFrom ks from (i - from)))
 
 abbrev Inv-loop : tie.InvT-loop
 Inv-loop numbers from height fates₀ i₀ fates i = VoidProgress numbers from height fates₀ i fates
