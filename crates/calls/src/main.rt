@@ -6,7 +6,7 @@ use day::Day;
 use libc::{STDERR_FILENO, STDIN_FILENO, STDOUT_FILENO};
 
 // The day after a call, and whether there may be another.
-#[derive(Drop)]
+#[derive(Clone, Copy)]
 pub struct Turn {
     pub day: Day,
     pub more: bool,
@@ -59,7 +59,7 @@ fn take_read(day: Day, buf: &[u8], n: usize) -> Turn {
 }
 
 // How many bytes were read, and whether a read failed.
-#[derive(Drop)]
+#[derive(Clone, Copy)]
 pub struct ReadTo {
     pub at: usize,
     pub failed: bool,

@@ -1,7 +1,7 @@
 -- The printed pieces begin just where the course begins or another part of it.
 use mathlib.Core.Path.{◌≡◌, refl, ap, sym, ◌∙◌}
 use mathlib.Core.List.{List, [], ◌∷◌, ◌++◌}
-use mathlib.Core.Bool.{Bool, true, false, ◌&&◌, ◌||◌, not, and_true, and_false}
+use mathlib.Core.Bool.{Bool, true, false, ◌&&◌, ◌||◌, not, and-true, and-false}
 use Prim.Native.Nat.{ℕ, zero, suc, ◌+◌, ◌*◌, ◌-◌, ◌/◌, min, ◌≤◌, ◌<◌}
 use native.Mathlib.Nat.{mul-le-mul_right, div-add-mod', mod-lt}
 use native.Mathlib.Decide.{dec_le, ℕ_discrete}
@@ -63,13 +63,13 @@ abbrev begins : ℕ → ℕ → ℕ → Bool → Bool
 begins a n x c = ltb x n && (eqb x a || (ltb a x && c))
 
 begins_before : (a n x : ℕ) (c : Bool) → x < a → begins a n x c ≡ false
-begins_before a n x c p = simp (ne_eqb x a (λ e. omega arith), le-ltb a x (omega arith), and_false (ltb x n))
+begins_before a n x c p = simp (ne_eqb x a (λ e. omega arith), le-ltb a x (omega arith), and-false (ltb x n))
 
 begins_past : (a n x : ℕ) (c : Bool) → a < x → begins a n x c ≡ (ltb x n && c)
 begins_past a n x c p = simp (ne_eqb x a (λ e. omega arith), lt-ltb a x p)
 
 begins_first : (a n x : ℕ) (c : Bool) → x ≡ a → begins a n x c ≡ ltb x n
-begins_first a n x c e = simp (eq-eqb x a e) (and_true (ltb x n))
+begins_first a n x c e = simp (eq-eqb x a e) (and-true (ltb x n))
 
 -- the seconds from a on, the first piece of which ends at b
 module _ (f : ℕ → Part) (n a b x : ℕ) (p : a < b) (q : b ≤ n) (one : (i : ℕ) → a ≤ i → i < b → f i ≡ f a)
@@ -95,7 +95,7 @@ module _ (f : ℕ → Part) (n a b x : ℕ) (p : a < b) (q : b ≤ n) (one : (i 
       | yes hi ↦ elim (ℕ_discrete x b) [
         | yes e ↦ begins_first b n x changes e ∙ at_end e
         | no e ↦ begins_before b n x changes (omega arith)
-            ∙ sym (ap (λ (o : Bool). ltb x n && o) (within (omega arith) (omega arith)) ∙ and_false (ltb x n))
+            ∙ sym (ap (λ (o : Bool). ltb x n && o) (within (omega arith) (omega arith)) ∙ and-false (ltb x n))
       ]
       | no hi ↦ begins_past b n x changes (omega arith)
     ]))
@@ -103,7 +103,7 @@ module _ (f : ℕ → Part) (n a b x : ℕ) (p : a < b) (q : b ≤ n) (one : (i 
     where
       at_end : x ≡ b → ltb x n ≡ (ltb x n && changes)
       at_end e = elim (dec_le (suc b) n) [
-        | yes lt ↦ rw (next e lt) (sym (and_true (ltb x n)))
+        | yes lt ↦ rw (next e lt) (sym (and-true (ltb x n)))
         | no lt ↦ simp (le-ltb x n (omega arith))
       ]
 
@@ -151,8 +151,8 @@ module _ (h : Heading) (l : Lists) (t : ℕ) where
         let v : ℕ = next_stop h l t w in
         let away : eqb q.stop v ≡ false = ne_eqb q.stop v (λ y. past_not h w v (next_past h l t w x).0 (sym e ∙ y)) in
         elim (dec_le (rate_at h l w) (gap w v)) [
-          | yes y ↦ rw (part_run w x y) (simp away (and_false (eqb q.kind 1)))
-          | no y ↦ rw (part_short w x (omega arith)) (simp away (and_false (eqb q.kind 2)))
+          | yes y ↦ rw (part_run w x y) (simp away (and-false (eqb q.kind 1)))
+          | no y ↦ rw (part_short w x (omega arith)) (simp away (and-false (eqb q.kind 2)))
         ]
   ]
 

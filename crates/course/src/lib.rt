@@ -3,7 +3,7 @@
 // A course (document 01's own term): what the opening or one instruction sets going. It begins at a second of the day,
 // at the level `start` (after any step), and goes to `target` (kW), with the start-up column of `heat`. `up` and `down`
 // replace all five ramp-up or ramp-down rates (kW a minute; 0: none does).
-#[derive(Drop)]
+#[derive(Clone, Copy)]
 pub struct Course {
     pub begin: u32,
     pub start: level::Level,
@@ -14,7 +14,7 @@ pub struct Course {
 }
 
 // A straight piece of a course: from one second to another, and the levels there (grains).
-#[derive(Drop)]
+#[derive(Clone, Copy)]
 pub struct Piece {
     pub from: u32,
     pub to: u32,
@@ -24,7 +24,7 @@ pub struct Piece {
 
 // A segment (Appendix P's word): the straight way of a course to a stop (grains), the rate (grains a second), and the
 // hold at that stop (seconds).
-#[derive(Drop)]
+#[derive(Clone, Copy)]
 pub struct Segment {
     pub way: u64,
     pub rate: u64,

@@ -49,7 +49,7 @@ pub fn column_for(u: records::UnitData, heat: u32) -> records::Column
 }
 
 // The lists that a course goes by: the column of its heat, the ramp of its heading, dwells, deload.
-#[derive(Drop)]
+#[derive(Clone, Copy)]
 pub struct OwnLists {
     pub msg: u32,
     pub column: records::Column,

@@ -1,7 +1,7 @@
 -- The nearest of several levels, one by one: what the code finds of an array of breaks or of triggers.
 use Prim.Native.Nat.{ℕ, min, max, ◌≤◌, ◌<◌}
 use mathlib.Core.Path.{◌≡◌, refl, ap, sym, ◌∙◌}
-use mathlib.Core.List.{List, [], ◌∷◌, ◌++◌, map, map_append}
+use mathlib.Core.List.{List, [], ◌∷◌, ◌++◌, map, map-append}
 use mathlib.Core.Bool.{Bool, true, false}
 use native.Mathlib.Nat.{le_refl}
 use native.Mathlib.Omega.{arith}
@@ -100,7 +100,7 @@ those_cons f x xs = go (f x)
 timed_cons : (g : Trigger) (gs : List Trigger) → timed_levels (g ∷ gs) ≡ timed_levels (g ∷ []) ++ timed_levels gs
 unfolding timed_levels
 timed_cons g gs = ap (map (λ (g : Trigger). grains g.level)) (those_cons (λ (g : Trigger). ltb 0 g.minutes) g gs)
-    ∙ map_append (λ (g : Trigger). grains g.level) (those (λ (g : Trigger). ltb 0 g.minutes) (g ∷ []))
+    ∙ map-append (λ (g : Trigger). grains g.level) (those (λ (g : Trigger). ltb 0 g.minutes) (g ∷ []))
     (those (λ (g : Trigger). ltb 0 g.minutes) gs)
 
 -- the arrays of a unit

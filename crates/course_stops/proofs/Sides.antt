@@ -2,7 +2,7 @@
 -- lie behind the level, or MSG lies before them.
 use Prim.Native.Nat.{ℕ, suc, min, max, ◌≤◌, ◌<◌}
 use mathlib.Core.Path.{◌≡◌, refl, ap, sym, ◌∙◌}
-use mathlib.Core.List.{List, [], ◌∷◌, ◌++◌, map, map_append}
+use mathlib.Core.List.{List, [], ◌∷◌, ◌++◌, map, map-append}
 use mathlib.Core.Bool.{Bool, true, false, ◌&&◌}
 use native.Mathlib.Decide.{dec_le}
 use native.Mathlib.Omega.{arith}
@@ -241,7 +241,7 @@ module _ (l : OwnLists) (c : Course) (t v : ℕ) where
       let ds : List Trigger = counting (leb msg) (map in_grains l.dwells) in
       rw (sym (counted below l.column.soaks), sym (counted (leb msg) l.dwells)) (ap (λ (k : ℕ). nearest rising v (nearest rising v k ys) xs)
       (sym (near_append rising v n (map (λ (g : Trigger). g.level) ss) (map (λ (g : Trigger). g.level) ds))
-      ∙ ap (nearest rising v n) (sym (map_append (λ (g : Trigger). g.level) ss ds)))
+      ∙ ap (nearest rising v n) (sym (map-append (λ (g : Trigger). g.level) ss ds)))
       ∙ all_of rising v t msg xs ys (map (λ (g : Trigger). g.level) (ss ++ ds)))
 
   next_falling : down_all v t msg ramp deload dwells soaks ≡ next_stop falling (lists_by l c) t v

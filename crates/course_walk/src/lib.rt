@@ -10,7 +10,7 @@ ghost use Rattle.course_walk.specs.Walk.{Reaches, WalkAhead, RunAhead, Known, af
 // ---- going along a course
 
 // Where a course stands at a second: its level, and the seconds left of a hold.
-#[derive(Drop)]
+#[derive(Clone, Copy)]
 pub struct Place {
     pub second: u32,
     pub level: u64,
@@ -19,7 +19,7 @@ pub struct Place {
 
 // How far a course has been followed: the place, and what is left there of the segment under way. A way of 0 says that no
 // segment is known.
-#[derive(Drop)]
+#[derive(Clone, Copy)]
 pub struct Reached {
     pub place: Place,
     pub rest: course::Segment,

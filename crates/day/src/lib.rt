@@ -1,7 +1,7 @@
 // The day: what was let in, whether it is closed, what close found.
 
 // A day: what was let in, whether it is closed, what close found.
-#[derive(Drop)]
+#[derive(Clone, Copy)]
 pub struct Day {
     pub taken: profile::Taken,
     pub closed: bool,
@@ -9,7 +9,7 @@ pub struct Day {
 }
 
 // What taking a record gives: the answer, the day after it, and how many bytes it used.
-#[derive(Drop)]
+#[derive(Clone, Copy)]
 pub struct Stepped {
     pub answer: records::Answer,
     pub day: Day,
@@ -17,7 +17,7 @@ pub struct Stepped {
 }
 
 // What taking records one after another comes to: the answer to the last one, and the day.
-#[derive(Drop)]
+#[derive(Clone, Copy)]
 pub struct Ran {
     pub answer: records::Answer,
     pub day: Day,

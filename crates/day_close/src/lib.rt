@@ -14,7 +14,7 @@ use records::{Answer, Refusal};
 // ---- the fates
 
 // The fates of the first `count` instructions, by number.
-#[derive(Drop)]
+#[derive(Clone, Copy)]
 pub struct Fates {
     pub count: usize,
     pub fates: [u8; level::INSTRUCTIONS],
@@ -99,7 +99,7 @@ pub fn find(t: profile::Taken, halves: u32) -> profile::Finding
 // ---- the answer to a close, and the closed day
 
 // What close finds, and the answer to it: accepted, or a quantity above the short-term maximum.
-#[derive(Drop)]
+#[derive(Clone, Copy)]
 pub struct CloseRead {
     pub answer: Answer,
     pub finding: Finding,

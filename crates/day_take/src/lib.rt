@@ -6,7 +6,7 @@ ghost use Rattle.day_take.specs.Rest.{rest_after, counted_by};
 use day::{Day, Stepped};
 
 // What taking a record gives, and the part of the caller's slice that it did not use.
-#[derive(Drop)]
+#[derive(Clone, Copy)]
 pub struct TakenRest<'a> {
     pub stepped: Stepped,
     pub rest: &'a [u8],

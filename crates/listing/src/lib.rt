@@ -1,7 +1,7 @@
 // The listing of a day.
 
 // What asking for a listing gives: the answer, and how many bytes of the lent slice were written.
-#[derive(Drop)]
+#[derive(Clone, Copy)]
 pub struct Listed {
     pub answer: records::Answer,
     pub count: usize,
@@ -9,7 +9,7 @@ pub struct Listed {
 
 // What printing for an input gives: how many bytes of the lent slice were written, and whether the input ends too early to be
 // answered.
-#[derive(Drop)]
+#[derive(Clone, Copy)]
 pub struct Printed {
     pub count: usize,
     pub more: bool,

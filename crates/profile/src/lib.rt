@@ -2,7 +2,7 @@
 
 // The course under way: whether the unit is maximised, the target (kW) that MXOF goes back to, and the seconds off where
 // the course began.
-#[derive(Drop)]
+#[derive(Clone, Copy)]
 pub struct UnderWay {
     pub course: course::Course,
     pub maximised: bool,
@@ -11,7 +11,7 @@ pub struct UnderWay {
 }
 
 // What an instruction is read with: the level just before (grains), and the seconds off.
-#[derive(Drop)]
+#[derive(Clone, Copy)]
 pub struct State {
     pub level: u64,
     pub off: u32,
@@ -19,7 +19,7 @@ pub struct State {
 
 // What a fate-0 instruction sets: the level that its course starts from (grains), the target (kW), the heat, the rates
 // that replace all five of their kind (0 for none), whether it maximises, and the target that MXOF goes back to.
-#[derive(Drop)]
+#[derive(Clone, Copy)]
 pub struct Setting {
     pub from: u64,
     pub target: u32,
@@ -31,7 +31,7 @@ pub struct Setting {
 }
 
 // What an instruction comes to at its acting second: fate 7, and the course under way goes on; or fate 0, and what it sets.
-#[derive(Drop)]
+#[derive(Clone, Copy)]
 pub enum Outcome {
     Ignored,
     Sets(Setting),
@@ -40,7 +40,7 @@ pub enum Outcome {
 // What a day starts from at 06:00: the level (grains), the target (kW), the heat, the rates that replace all five of their kind (0
 // for none), whether the unit is maximised, the target that MXOF goes back to, and the seconds off. The level has the 32 bits of the
 // record, so that the sums of no day overflow.
-#[derive(Drop)]
+#[derive(Clone, Copy)]
 pub struct Start {
     pub level: u32,
     pub target: u32,
@@ -53,7 +53,7 @@ pub struct Start {
 }
 
 // What was let in: the unit, what the day starts from, and the instructions, `count` of them.
-#[derive(Drop)]
+#[derive(Clone, Copy)]
 pub struct Taken {
     pub hasUnit: bool,
     pub unit: records::UnitData,
@@ -65,7 +65,7 @@ pub struct Taken {
 
 // What close found: the fates by number, the courses (`started` of them), twice the recorded area from 06:00 to each half-hour
 // boundary (grain-seconds), the last course under way, and the state at the day's end.
-#[derive(Drop)]
+#[derive(Clone, Copy)]
 pub struct Finding {
     pub fates: [u8; level::INSTRUCTIONS],
     pub started: usize,
@@ -76,7 +76,7 @@ pub struct Finding {
 }
 
 // The closing state, which E prints: level, target (kW), heat, seconds off.
-#[derive(Drop)]
+#[derive(Clone, Copy)]
 pub struct Closing {
     pub level: level::Level,
     pub target: u32,

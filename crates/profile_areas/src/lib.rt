@@ -113,7 +113,7 @@ pub fn note_piece(
 
 // How far a course was followed on the way to a second: where the last piece ended before it, the place at that second, the
 // seconds off at both, and the total at the first.
-#[derive(Drop)]
+#[derive(Clone, Copy)]
 pub struct Passed {
     pub reached: course_walk::Reached,
     pub ahead: course_walk::Place,

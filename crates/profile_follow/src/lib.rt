@@ -11,7 +11,7 @@ ghost use Rattle.profile_follow.specs.Following.{set_out, went_to, place_in, Fol
 
 // How far they are followed: the course under way, the courses so far with it as the last (the first `started` places),
 // and the fates, in acting order, of those that have acted.
-#[derive(Drop)]
+#[derive(Clone, Copy)]
 pub struct Walk {
     pub now: profile::UnderWay,
     pub courses: [course::Course; level::COURSES],
@@ -40,7 +40,7 @@ fn begin_walk(now: profile::UnderWay) -> Walk
 
 // How far the course under way is followed: its heading, where it was reached, the seconds off there, and twice the area of the
 // day up to there.
-#[derive(Drop)]
+#[derive(Clone, Copy)]
 pub struct OnCourse {
     pub up: bool,
     pub reached: course_walk::Reached,
@@ -107,7 +107,7 @@ fn place_in(at: usize) -> usize
 }
 
 // What following comes to: the walk, twice the recorded area from 06:00 to each half-hour boundary, and the state at the day's end.
-#[derive(Drop)]
+#[derive(Clone, Copy)]
 pub struct FollowedDay {
     pub walk: Walk,
     pub sums: [u64; level::BOUNDARIES],

@@ -16,7 +16,7 @@ fn put_front(out: &[u8], n: usize) -> bool
 }
 
 // The place that a read came to, and whether it failed.
-#[derive(Drop)]
+#[derive(Clone, Copy)]
 pub struct ReadTo {
     pub at: usize,
     pub failed: bool,
@@ -44,7 +44,7 @@ fn print_first(buf: &[u8], n: usize, out: &mut [u8]) -> Printed
 }
 
 // How many bytes were read, how many are to be written, and whether a read failed.
-#[derive(Drop)]
+#[derive(Clone, Copy)]
 pub struct Answered {
     pub at: usize,
     pub count: usize,

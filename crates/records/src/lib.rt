@@ -10,14 +10,14 @@ pub const INSTRUCTION_SIZE: usize = 22;
 pub const CLOSE_SIZE: usize = 1;
 
 // A soak or dwell trigger: a level in kW, and the minutes that the unit holds there. 0 minutes: no hold.
-#[derive(Drop)]
+#[derive(Clone, Copy)]
 pub struct Trigger {
     pub level: u32,
     pub minutes: u32,
 }
 
 // A start-up column: block load in kW, rates in kW a minute, breaks in kW, soak triggers.
-#[derive(Drop)]
+#[derive(Clone, Copy)]
 pub struct Column {
     pub block: u32,
     pub rates: [u32; 3],
@@ -26,14 +26,14 @@ pub struct Column {
 }
 
 // A ramp-up or ramp-down list.
-#[derive(Drop)]
+#[derive(Clone, Copy)]
 pub struct Ramp {
     pub rates: [u32; 5],
     pub breaks: [u32; 4],
 }
 
 // The deload list.
-#[derive(Drop)]
+#[derive(Clone, Copy)]
 pub struct Deload {
     pub rates: [u32; 2],
     pub breaks: [u32; 1],
@@ -41,7 +41,7 @@ pub struct Deload {
 
 // A unit's technical data. Levels in kW, cooling boundaries in minutes; `msg` is the Minimum Stable Generation.
 // The columns stand by heat: hot, warm, cold.
-#[derive(Drop)]
+#[derive(Clone, Copy)]
 pub struct UnitData {
     pub capacity: u32,
     pub maximum: u32,
@@ -56,7 +56,7 @@ pub struct UnitData {
 }
 
 // The opening: level at 06:00 in grains, target in kW, heat (1 hot, 2 warm, 3 cold), seconds off.
-#[derive(Drop)]
+#[derive(Clone, Copy)]
 pub struct Opening {
     pub level: u32,
     pub target: u32,
@@ -65,7 +65,7 @@ pub struct Opening {
 }
 
 // What an instruction does at its acting second (Table 7).
-#[derive(Drop)]
+#[derive(Clone, Copy)]
 pub enum Effect {
     Trip,
     Mwof,
@@ -77,7 +77,7 @@ pub enum Effect {
 }
 
 // What a code means: the lag in seconds, the rank (1 the highest), the effect.
-#[derive(Drop)]
+#[derive(Clone, Copy)]
 pub struct Meaning {
     pub lag: u32,
     pub rank: u8,
@@ -85,7 +85,7 @@ pub struct Meaning {
 }
 
 // A code byte read.
-#[derive(Drop)]
+#[derive(Clone, Copy)]
 pub enum Coded {
     Means(Meaning),
     Unknown,
@@ -93,7 +93,7 @@ pub enum Coded {
 
 // A dispatch instruction. The issue time is kept as seconds above -604,800; level in kW; up and down rate in kW a
 // minute, 0 for none given.
-#[derive(Drop)]
+#[derive(Clone, Copy)]
 pub struct Instruction {
     pub effective: u32,
     pub issue: u32,
@@ -104,7 +104,7 @@ pub struct Instruction {
 }
 
 // The refusals of both lists.
-#[derive(Drop)]
+#[derive(Clone, Copy)]
 pub enum Refusal {
     UnknownKind,
     TooFewBytes,
@@ -126,7 +126,7 @@ pub enum Refusal {
 }
 
 // The answer to a call.
-#[derive(Drop)]
+#[derive(Clone, Copy)]
 pub enum Answer {
     Accepted,
     Refused(Refusal),

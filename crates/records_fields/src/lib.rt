@@ -19,14 +19,14 @@ const MOST_OFF: u32 = 10000000;
 const WEEK: u32 = 604800;
 
 // An opening's body: the answer to its fields, and the opening.
-#[derive(Drop)]
+#[derive(Clone, Copy)]
 pub struct OpeningRead {
     pub answer: Answer,
     pub opening: records::Opening,
 }
 
 // An instruction's body: the answer to its fields, and the instruction.
-#[derive(Drop)]
+#[derive(Clone, Copy)]
 pub struct InstructionRead {
     pub answer: Answer,
     pub instruction: records::Instruction,

@@ -3,7 +3,7 @@ use Prim.Native.Nat.{ℕ, ◌+◌, ◌<◌, ◌≤◌}
 use native.Mathlib.Omega.{arith}
 use native.Mathlib.Numerals.{add-one}
 use mathlib.Core.Path.{◌≡◌, refl}
-use mathlib.Core.Bool.{Bool, true, false, ◌&&◌, ◌||◌, or_false}
+use mathlib.Core.Bool.{Bool, true, false, ◌&&◌, ◌||◌, or-false}
 use mathlib.Core.List.{List, [], ◌∷◌, map}
 use lib.Dec.{leb}
 use lib.ListN.{length, get_or, drop, get_or-map}
@@ -54,5 +54,5 @@ unfolding some
 some_three f [] z e = absurd (omega arith)
 some_three f (x ∷ []) z e = absurd (omega arith)
 some_three f (x ∷ y ∷ []) z e = absurd (omega arith)
-some_three f (x ∷ y ∷ w ∷ []) z e = rw (or_false (f w))
+some_three f (x ∷ y ∷ w ∷ []) z e = rw (or-false (f w))
 some_three f (x ∷ y ∷ w ∷ v ∷ vs) z e = absurd (omega arith)

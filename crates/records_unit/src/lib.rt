@@ -91,7 +91,7 @@ pub fn unit_of(ns: [u32; 62]) -> UnitData
 }
 
 // A unit's body: the answer to its 62 numbers, and the unit.
-#[derive(Drop)]
+#[derive(Clone, Copy)]
 pub struct UnitRead {
     pub answer: Answer,
     pub unit: UnitData,

@@ -1,7 +1,7 @@
 -- Walks over the first places of an array, and the cases of the definitions, each with its conditions as plain facts.
 use mathlib.Core.Path.{◌≡◌, refl, sym, ap, ◌∙◌}
 use mathlib.Core.List.{List, [], ◌∷◌, ◌++◌, map, append_assoc, append-nil}
-use mathlib.Core.Bool.{Bool, true, false, ◌&&◌, ◌||◌, not, and_false}
+use mathlib.Core.Bool.{Bool, true, false, ◌&&◌, ◌||◌, not, and-false}
 use Prim.Native.Nat.{ℕ, zero, suc, ◌+◌, ◌≤◌, ◌<◌, min, max}
 use native.Mathlib.Numerals.{add-one}
 use native.Mathlib.Decide.{dec_le}
@@ -153,7 +153,7 @@ module _ (os : List Numbered) (t : ℕ) (o : Numbered) where
 
   pub group_gone : superseded os o ≡ true → in_group os t o ≡ false
   unfolding in_group
-  group_gone e = rw e (and_false (eqb (effective_of o) t))
+  group_gone e = rw e (and-false (eqb (effective_of o) t))
 
   pub group_left : effective_of o ≡ t → superseded os o ≡ false → in_group os t o ≡ true
   unfolding in_group

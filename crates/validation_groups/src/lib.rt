@@ -6,7 +6,7 @@ ghost use Rattle.validation_rank.specs.Picked.{picked_list};
 ghost use Rattle.validation_groups.specs.Working.{no_numbered, numbered_at, sequence_of, pushed, joined, Holds, Table, Entered, EnteredIn, LatestAsked, later_of, latest_at, has_time_at, follows_time, alone_at, rising_from, earlier_of, next_time_among, Rising, Run};
 
 // Some of the instructions, in order: the first `count` places.
-#[derive(Drop)]
+#[derive(Clone, Copy)]
 pub struct Sequence {
     pub items: [validation::Numbered; level::INSTRUCTIONS],
     pub count: usize,

@@ -1,6 +1,6 @@
 -- The cases of step 4 and of the fates by number, each with its conditions as plain facts.
 use mathlib.Core.Path.{◌≡◌, refl, sym, ap, ◌∙◌}
-use mathlib.Core.List.{List, [], ◌∷◌, ◌++◌, map, map_append}
+use mathlib.Core.List.{List, [], ◌∷◌, ◌++◌, map, map-append}
 use mathlib.Core.Bool.{Bool, ◌||◌}
 use Prim.Native.Nat.{ℕ, zero, suc, ◌+◌, ◌≤◌, ◌<◌, min}
 use native.Mathlib.Numerals.{add-one}
@@ -45,7 +45,7 @@ module _ (is : List Instruction) (i : ℕ) (h : i < length is) where
   time_more : (f : Numbered → ℕ) (ts : List ℕ) (v : ℕ) → i < length ts →
       v ≡ f (record { number = 1 + length (take i is); instruction = get_or is i no_numbered.instruction }) →
       take i ts ≡ map f (numbered 1 (take i is)) → take (i + 1) (set ts i v) ≡ map f (numbered 1 (take (i + 1) is))
-  time_more f ts v k e q = rw (one_more, map_append f (numbered 1 (take i is)), add-one, take-suc-set ts i v k, q, e)
+  time_more f ts v k e q = rw (one_more, map-append f (numbered 1 (take i is)), add-one, take-suc-set ts i v k, q, e)
 
   pub timed_more : (times issues : List ℕ) → i < length times → i < length issues → Timed (numbered 1 (take i is)) (take i times) (take i issues) →
       let x : Instruction = get_or is i no_numbered.instruction in

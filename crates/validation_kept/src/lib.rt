@@ -11,7 +11,7 @@ ghost use Rattle.validation_kept.specs.Late.{late_fate_by, LateFates, SettledBy,
 ghost use Rattle.validation_sequence.specs.Working.{NotedBeside, Soon};
 
 // What steps 1 to 4 come to: the fates by number, those that act in time order, and how many these are.
-#[derive(Drop)]
+#[derive(Clone, Copy)]
 pub struct Validation {
     pub fates: [u8; level::INSTRUCTIONS],
     pub acts: [validation::Numbered; level::INSTRUCTIONS],

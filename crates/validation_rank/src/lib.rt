@@ -8,7 +8,7 @@ ghost use Rattle.validation.specs.Kept.{effect_of, goes_before, or_else, present
 ghost use Rattle.validation_rank.specs.Picked.{picked_list, best_from};
 
 // One of them, or none.
-#[derive(Drop)]
+#[derive(Clone, Copy)]
 pub enum Picked {
     One(validation::Numbered),
     Nothing,

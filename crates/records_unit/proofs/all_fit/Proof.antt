@@ -1,6 +1,6 @@
 use Prim.Native.Nat.{◌≤◌, ◌-◌}
 use mathlib.Core.Path.{◌≡◌, refl, sym, ◌∙◌}
-use mathlib.Core.Bool.{◌&&◌, and_true}
+use mathlib.Core.Bool.{◌&&◌, and-true}
 use native.Mathlib.Omega.{arith}
 use borrow.Author.Rules.{rules}
 use lib.ListN.{drop}
@@ -30,7 +30,7 @@ unfolding unit_ranges column_ranges ramp_ranges a_level a_maximum a_rate a_hold 
 returns c =
     let l = c.before.loop in
     let e : l.i ≡ 62 = omega arith in
-    sym (and_true l.fit) ∙ (rw e at l.invariant.1)
+    sym (and-true l.fit) ∙ (rw e at l.invariant.1)
 
 pub all_fit_spec : {M : Type 1} → statement M
 all_fit_spec =
