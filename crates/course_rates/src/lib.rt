@@ -1,4 +1,6 @@
 // The lists that a course goes by, and its rate at a level. A course's own lists are handed on by value.
+#![tactic(auto)]
+
 ghost use Rattle.std.specs.Prelude.{◌≡◌, ◌+◌, ◌-◌, ◌<◌, ◌≤◌, [], ◌∷◌, map, get_or};
 ghost use Rattle.level.specs.Choice.{pick};
 ghost use Rattle.level.specs.Level.{grains};
@@ -22,6 +24,7 @@ pub fn no_course() -> course::Course
 }
 
 // So many kW in grains.
+#[tactic(auto, unfolding(level::specs::Level::from_kw, level::specs::Level::grains))]
 pub fn grains_of(kw: u32) -> u64
     ensures { GrainsOf kw result }
 {
@@ -30,6 +33,7 @@ pub fn grains_of(kw: u32) -> u64
 }
 
 // The place of a heat's column.
+#[tactic(auto, unfolding(course::specs::Lists::place_of))]
 pub fn place_of(heat: u32) -> usize
     ensures { (result ≡ place_of heat) × (result < 3) }
 {
@@ -41,6 +45,7 @@ pub fn place_of(heat: u32) -> usize
 }
 
 // The start-up column of a heat.
+#[tactic(auto, unfolding(course::specs::Lists::column_for))]
 pub fn column_for(u: records::UnitData, heat: u32) -> records::Column
     ensures { result ≡ column_for u heat }
 {
@@ -69,6 +74,7 @@ pub fn ramp_of(up: bool, rising: records::Ramp, falling: records::Ramp) -> recor
 }
 
 // A course's own lists, picked from the unit's once.
+#[tactic(auto, using(crate::proofs::Anew::ramp_picked), unfolding(crate::specs::Ways::own_lists))]
 pub fn own_lists(u: records::UnitData, c: course::Course, up: bool) -> OwnLists
     ensures { result ≡ own_lists u c up }
 {
@@ -86,6 +92,7 @@ pub fn own_lists(u: records::UnitData, c: course::Course, up: bool) -> OwnLists
 }
 
 // Whether ramp-up (rising) or ramp-down (falling) is in use at the level v.
+#[tactic(auto, unfolding(crate::specs::Ways::ramping))]
 fn in_ramp(up: bool, msg: u64, v: u64) -> bool
     ensures { result ≡ ramping (headed up) msg v }
 {
@@ -98,6 +105,7 @@ fn in_ramp(up: bool, msg: u64, v: u64) -> bool
 // ---- the rate at a level
 
 // 1 where the level v has passed a break: at or below it when rising, strictly below when falling.
+#[tactic(auto, using(crate::proofs::Rates::up_passed, crate::proofs::Rates::up_ahead, crate::proofs::Rates::down_passed, crate::proofs::Rates::down_ahead))]
 fn passed_one(up: bool, v: u64, b: u32) -> usize
     ensures { (result ≡ passed (headed up) v (grains b ∷ [])) × (result ≤ 1) }
 {
@@ -115,6 +123,7 @@ fn passed_one(up: bool, v: u64, b: u32) -> usize
 }
 
 // The count of breaks that the level v has passed.
+#[tactic(auto, using(crate::proofs::Rates::passed_four))]
 fn passed_four(up: bool, v: u64, bs: [u32; 4]) -> usize
     ensures { (result ≡ passed (headed up) v (map grains bs)) × (result ≤ 4) }
 {
@@ -125,6 +134,7 @@ fn passed_four(up: bool, v: u64, bs: [u32; 4]) -> usize
     a + b + c + d
 }
 
+#[tactic(auto, using(crate::proofs::Rates::passed_two))]
 fn passed_two(up: bool, v: u64, bs: [u32; 2]) -> usize
     ensures { (result ≡ passed (headed up) v (map grains bs)) × (result ≤ 2) }
 {
@@ -140,6 +150,7 @@ fn passed_single(up: bool, v: u64, bs: [u32; 1]) -> usize
 }
 
 // The rate at place n of a ramp list, where r replaces all five unless it is 0.
+#[tactic(auto, using(crate::proofs::Rates::own_rate, crate::proofs::Rates::given_rate))]
 fn replaced_rate(rates: [u32; 5], r: u32, n: usize) -> u64
     requires { n ≤ 4 }
     ensures { result ≡ get_or (replaced r rates) n 0 }
