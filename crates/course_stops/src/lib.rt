@@ -1,4 +1,6 @@
 // A course at a level: its next stop, the hold there, the segment that lies ahead.
+#![tactic(auto)]
+
 ghost use Rattle.std.specs.Prelude.{◌≡◌, ◌+◌, ◌*◌, ◌-◌, ◌<◌, ◌≤◌, ◌^◌, [], ◌∷◌, map, ltb};
 ghost use Rattle.level.specs.Choice.{pick};
 ghost use Rattle.level.specs.Level.{grains};
@@ -10,6 +12,7 @@ ghost use Rattle.course_stops.specs.Ahead.{segment_to, segment_from};
 // ---- the hold at a level
 
 // The seconds for which a trigger holds the level w.
+#[tactic(auto, using(crate::proofs::Holds::held_at, crate::proofs::Holds::held_off))]
 fn held_one(w: u64, g: records::Trigger) -> u64
     ensures { (result ≡ holding w (in_grains g ∷ [])) × (result ≤ 60 * 2 ^ 32) }
 {
@@ -21,6 +24,7 @@ fn held_one(w: u64, g: records::Trigger) -> u64
 }
 
 // Added where triggers coincide.
+#[tactic(auto, using(crate::proofs::Holds::held_three))]
 fn held_three(w: u64, gs: [records::Trigger; 3]) -> u64
     ensures { (result ≡ holding w (map in_grains gs)) × (result ≤ 180 * 2 ^ 32) }
 {
@@ -30,6 +34,7 @@ fn held_three(w: u64, gs: [records::Trigger; 3]) -> u64
     a + b + c
 }
 
+#[tactic(auto, using(crate::proofs::Holds::held_two))]
 fn held_two(w: u64, gs: [records::Trigger; 2]) -> u64
     ensures { (result ≡ holding w (map in_grains gs)) × (result ≤ 180 * 2 ^ 32) }
 {
@@ -39,6 +44,7 @@ fn held_two(w: u64, gs: [records::Trigger; 2]) -> u64
 }
 
 // Below MSG only soaks hold, and only a rising level.
+#[tactic(auto, using(crate::proofs::Holds::hold_soak, crate::proofs::Holds::hold_no_soak), unfolding(course_rates::specs::Ways::lists_by))]
 fn soaked(l: course_rates::OwnLists, c: course::Course, up: bool, w: u64) -> u64
     requires w_bound { w < grains l.msg }
     requires fact { w ≡ grains c.target → ⊥ }
@@ -53,6 +59,7 @@ fn soaked(l: course_rates::OwnLists, c: course::Course, up: bool, w: u64) -> u64
 }
 
 // The hold (seconds) at the stop w.
+#[tactic(auto, using(crate::proofs::Holds::hold_target, crate::proofs::Holds::hold_dwell), unfolding(course_rates::specs::Ways::lists_by))]
 pub fn hold_at(l: course_rates::OwnLists, c: course::Course, up: bool, w: u64) -> u64
     ensures { (result ≡ hold_at (headed up) (lists_by l c) (grains c.target) w) × (result ≤ 180 * 2 ^ 32) }
 {
@@ -71,6 +78,7 @@ pub fn hold_at(l: course_rates::OwnLists, c: course::Course, up: bool, w: u64) -
 // ---- the next stop
 
 // The level w, where it lies past v and before n; else n.
+#[tactic(auto, using(crate::proofs::Nexts::up_behind, crate::proofs::Nexts::up_near, crate::proofs::Nexts::up_far, crate::proofs::Nexts::down_behind, crate::proofs::Nexts::down_near, crate::proofs::Nexts::down_far))]
 fn nearer(up: bool, v: u64, w: u64, n: u64) -> u64
     ensures { result ≡ nearest (headed up) v n (w ∷ []) }
 {
@@ -100,6 +108,7 @@ fn break_stop(up: bool, v: u64, b: u32, n: u64) -> u64
     nearer(up, v, w, n)
 }
 
+#[tactic(auto, using(crate::proofs::Nexts::four_breaks))]
 fn ramp_breaks(up: bool, v: u64, bs: [u32; 4], n: u64) -> u64
     ensures { result ≡ nearest (headed up) v n (map grains bs) }
 {
@@ -109,6 +118,7 @@ fn ramp_breaks(up: bool, v: u64, bs: [u32; 4], n: u64) -> u64
     break_stop(up, v, bs[0], b)
 }
 
+#[tactic(auto, using(crate::proofs::Nexts::two_breaks))]
 fn column_breaks(v: u64, bs: [u32; 2], n: u64) -> u64
     ensures { result ≡ nearest rising v n (map grains bs) }
 {
@@ -116,6 +126,7 @@ fn column_breaks(v: u64, bs: [u32; 2], n: u64) -> u64
     break_stop(true, v, bs[0], b)
 }
 
+#[tactic(auto, using(crate::proofs::Nexts::one_break))]
 fn deload_break(v: u64, bs: [u32; 1], n: u64) -> u64
     ensures { result ≡ nearest falling v n (map grains bs) }
 {
@@ -134,6 +145,7 @@ fn trigger_level(v: u64, g: records::Trigger) -> u64
 }
 
 // With a trigger, which counts where it has minutes.
+#[tactic(auto, using(crate::proofs::Nexts::near_trigger))]
 fn trigger_stop(up: bool, v: u64, g: records::Trigger, n: u64) -> u64
     ensures { result ≡ nearest (headed up) v n (timed_levels (g ∷ [])) }
 {
@@ -141,6 +153,7 @@ fn trigger_stop(up: bool, v: u64, g: records::Trigger, n: u64) -> u64
     nearer(up, v, w, n)
 }
 
+#[tactic(auto, using(crate::proofs::Nexts::three_triggers))]
 fn dwell_stops(up: bool, v: u64, gs: [records::Trigger; 3], n: u64) -> u64
     ensures { result ≡ nearest (headed up) v n (timed_levels gs) }
 {
@@ -149,6 +162,7 @@ fn dwell_stops(up: bool, v: u64, gs: [records::Trigger; 3], n: u64) -> u64
     trigger_stop(up, v, gs[0], b)
 }
 
+#[tactic(auto, using(crate::proofs::Nexts::two_triggers))]
 fn soak_stops(v: u64, gs: [records::Trigger; 2], n: u64) -> u64
     ensures { result ≡ nearest rising v n (timed_levels gs) }
 {
@@ -158,6 +172,7 @@ fn soak_stops(v: u64, gs: [records::Trigger; 2], n: u64) -> u64
 
 // The candidates in turn, the nearest so far going along; the target is the furthest. Only the lists of the level's own side
 // of MSG are looked at, and no break or trigger is asked for its side: across MSG it lies behind, or MSG comes first.
+#[tactic(auto, using(crate::proofs::Sides::rising_above, crate::proofs::Sides::rising_below))]
 fn stop_rising(l: course_rates::OwnLists, c: course::Course, v: u64) -> u64
     ensures { result ≡ next_stop rising (lists_by l c) (grains c.target) v }
 {
@@ -178,6 +193,7 @@ fn stop_rising(l: course_rates::OwnLists, c: course::Course, v: u64) -> u64
     column_breaks(v, cs, s)
 }
 
+#[tactic(auto, using(crate::proofs::Sides::falling_above, crate::proofs::Sides::falling_below))]
 fn stop_falling(l: course_rates::OwnLists, c: course::Course, v: u64) -> u64
     ensures { result ≡ next_stop falling (lists_by l c) (grains c.target) v }
 {
@@ -209,6 +225,7 @@ pub fn next_stop(l: course_rates::OwnLists, c: course::Course, up: bool, v: u64)
 // ---- segments
 
 // The unsigned difference of two levels.
+#[tactic(auto, unfolding(course::specs::Course::gap))]
 pub fn gap_between(v: u64, w: u64) -> u64
     ensures { result ≡ gap v w }
 {
@@ -219,6 +236,7 @@ pub fn gap_between(v: u64, w: u64) -> u64
 }
 
 // The segment from the level v to the stop w.
+#[tactic(auto, unfolding(crate::specs::Ahead::segment_to))]
 fn segment_to(
     l: course_rates::OwnLists,
     c: course::Course,
@@ -235,6 +253,7 @@ fn segment_to(
 }
 
 // The segment from the level v to the next stop: way, rate and hold.
+#[tactic(auto, unfolding(crate::specs::Ahead::segment_from))]
 pub fn segment_from(
     l: course_rates::OwnLists,
     c: course::Course,
