@@ -8,7 +8,7 @@ use native.Mathlib.Nat.{mul-le-mul_right, div-add-mod', div-lt_iff_lt-mul}
 use borrow.Author.Tests.{lt-ltb, le-ltb, eq-eqb, ne_eqb}
 use Rattle.course.specs.declared.Segment.{Segment}
 use Rattle.course.specs.Lists.{Lists}
-use Rattle.course.specs.Course.{Heading, rising, falling, toward, gap, rate_at, next_stop, second}
+use Rattle.course.specs.Course.{Heading, rising, falling, toward, gap, rate_at, next_stop}
 use Rattle.course.specs.Headings.{Past, Short}
 use Rattle.course.proofs.Near.{gap_to, short_past}
 use Rattle.course.proofs.Ahead.{next_past}

@@ -1,5 +1,7 @@
 // Along a course, one straight piece after another: `begin_at`, `walk_on`. A course goes by its own lists; proofs/Own.antt says that
 // they do for it what the unit's do.
+#![tactic(auto)]
+
 ghost use Rattle.std.specs.Prelude.{◌≡◌, ◌+◌, ◌*◌, ◌-◌, ◌/◌, min, ◌<◌, ◌≤◌, ◌^◌, ltb, eqb};
 ghost use Rattle.level.specs.Choice.{pick};
 ghost use Rattle.level.specs.Level.{grains};
@@ -38,6 +40,7 @@ fn arrived(place: Place) -> Reached
 }
 
 // The level v moved by m in the heading's direction.
+#[tactic(auto, using(crate::proofs::Onward::room_up, crate::proofs::Onward::room_down), unfolding(course::specs::Course::toward))]
 pub fn moved(up: bool, v: u64, m: u64) -> u64
     requires { Reaches (headed up) v m }
     ensures { result ≡ toward (headed up) v m }
@@ -49,6 +52,7 @@ pub fn moved(up: bool, v: u64, m: u64) -> u64
 }
 
 // To the end of a hold, or to the second n.
+#[tactic(auto, unfolding(crate::specs::Walk::after_hold))]
 fn after_hold(p: Place, n: u32) -> Place
     requires { p.second < n }
     ensures { result ≡ after_hold n p }
@@ -71,6 +75,7 @@ fn after_hold(p: Place, n: u32) -> Place
 }
 
 // At rest to the second n.
+#[tactic(auto, unfolding(crate::specs::Walk::after_rest))]
 fn after_rest(p: Place, n: u32) -> Place
     ensures { result ≡ after_rest n p }
 {
@@ -82,6 +87,7 @@ fn after_rest(p: Place, n: u32) -> Place
 }
 
 // A second to the stop of a segment.
+#[tactic(auto, unfolding(crate::specs::Walk::after_short))]
 fn after_short(up: bool, p: Place, s: course::Segment) -> Place
     requires second_bound { p.second + 1 < 2 ^ 32 }
     requires reaches { Reaches (headed up) p.level s.way }
@@ -96,6 +102,7 @@ fn after_short(up: bool, p: Place, s: course::Segment) -> Place
 }
 
 // f seconds at the full rate of a segment, with what is left of it.
+#[tactic(auto, using(crate::proofs::Onward::reaches_less, crate::proofs::Rest::left_is), unfolding(crate::specs::Walk::after_run, crate::specs::Walk::rest_run))]
 fn after_run(up: bool, p: Place, s: course::Segment, f: u32) -> Reached
     requires { RunAhead (headed up) p s f }
     ensures { result ≡ record { place = after_run (headed up) f p s; rest = rest_run f s } }
@@ -141,6 +148,7 @@ fn run_seconds(p: Place, s: course::Segment, n: u32) -> u32
 }
 
 // The straight piece that a segment begins with.
+#[tactic(auto, using(crate::proofs::Onward::full_way), unfolding(crate::specs::Walk::along, crate::specs::Walk::rest_along))]
 fn along_segment(up: bool, p: Place, s: course::Segment, n: u32) -> Reached
     requires second_lt_n { p.second < n }
     requires reaches { Reaches (headed up) p.level s.way }
@@ -198,6 +206,7 @@ pub fn is_rising(c: course::Course) -> bool
 }
 
 // Where a course begins, with so many seconds left of a hold; the segment that lies ahead, unless it holds or is at its target.
+#[tactic(auto, using(crate::proofs::Rest::reached_none, crate::proofs::Rest::reached_found))]
 pub fn begin_at(l: course_rates::OwnLists, c: course::Course, up: bool, left: u64) -> Reached
     ensures { result ≡ reached_at (headed up) (lists_by l c) (grains c.target) (record { second = c.begin; level = c.start.grains; left = left }) }
 {
