@@ -14,7 +14,7 @@ ROOT = pathlib.Path(sys.argv[1] if len(sys.argv) > 1 else pathlib.Path(__file__)
 CRATES = ROOT / "crates"
 DECLARED = re.compile(
     r"\s*(?:unfoldable |abbrev )?(?:pub )?(?:unfoldable |abbrev )?(?:pub )?([a-z][^\s:{}()]*)\s+(?:[({].*[)}] )*:(?:\s|$)")
-NOT_DECLARED = ("let", "use", "module", "record", "where")
+NOT_DECLARED = ("let ", "use ", "module ", "record ", "where ")
 
 # Two names that would become one: the lemma gets `_lem`.
 APART = {

@@ -31,13 +31,13 @@ module _ (d : Day) (s : List ℕ) (cs : List Call) where
   unfolding after_calls step_by
   after_refused e = simp e
 
-  let-taken : accepted (answer_of d s) ≡ true → let_in d (sends s ∷ cs) ≡ front s ∷ let_in (day_with (found_in paper) d (kind_of s) (body_of s)) cs
+  let_taken : accepted (answer_of d s) ≡ true → let_in d (sends s ∷ cs) ≡ front s ∷ let_in (day_with (found_in paper) d (kind_of s) (body_of s)) cs
   unfolding let_in step_by
-  let-taken e = simp e
+  let_taken e = simp e
 
-  let-refused : accepted (answer_of d s) ≡ false → let_in d (sends s ∷ cs) ≡ let_in d cs
+  let_refused : accepted (answer_of d s) ≡ false → let_in d (sends s ∷ cs) ≡ let_in d cs
   unfolding let_in step_by
-  let-refused e = simp (e, e)
+  let_refused e = simp (e, e)
 
   wrote_send : wrote d (sends s ∷ cs) ≡ wrote (step_of d s).day cs
   unfolding wrote
@@ -52,9 +52,9 @@ module _ (d : Day) (o : List ℕ) (cs : List Call) where
   unfolding after_calls
   after_ask = refl
 
-  let-ask : let_in d (asks o ∷ cs) ≡ let_in d cs
+  let_ask : let_in d (asks o ∷ cs) ≡ let_in d cs
   unfolding let_in
-  let-ask = refl
+  let_ask = refl
 
   pub wrote_one : accepted (list_answer d o) ≡ true → wrote d (asks o ∷ cs) ≡ printed_day d ∷ wrote d cs
   unfolding wrote list_of lent_after
@@ -82,14 +82,14 @@ after_append (sends s ∷ cs) more d = after_append cs more (step_of d s).day
 
 pub made_after : (cs : List Call) (d : Day) (rs : List (List ℕ)) → Made d rs → Made (after_calls d cs) (rs ++ let_in d cs)
 made_after [] d rs m = unfold after_calls let_in in rw append-nil m
-made_after (asks o ∷ cs) d rs m = rw (after_ask d o cs, let-ask d o cs) (made_after cs d rs m)
+made_after (asks o ∷ cs) d rs m = rw (after_ask d o cs, let_ask d o cs) (made_after cs d rs m)
 made_after (sends s ∷ cs) d rs m =
     by_bool (accepted (answer_of d s))
     (λ e. let p : RecordPasses (found_in paper) d s = passed (found_in paper) d s (is_accepted (answer_of d s) e) in
     let t : Day = day_with (found_in paper) d (kind_of s) (body_of s) in
-    rw (after_taken d s cs e, let-taken d s cs e) (rw (append_assoc rs (front s ∷ []) (let_in t cs)) at
+    rw (after_taken d s cs e, let_taken d s cs e) (rw (append_assoc rs (front s ∷ []) (let_in t cs)) at
     (made_after cs t (rs ++ (front s ∷ [])) (made_with d rs s m p))))
-    (λ e. rw (after_refused d s cs e, let-refused d s cs e) (made_after cs d rs m))
+    (λ e. rw (after_refused d s cs e, let_refused d s cs e) (made_after cs d rs m))
 
 -- a closed day stays as it is
 pub stays : (cs : List Call) (d : Day) → d.closed ≡ true → after_calls d cs ≡ d
@@ -101,6 +101,7 @@ stays (sends s ∷ cs) d c =
 
 -- each accepted listing is that of the day after all calls
 pub wrote_are : (cs : List Call) (d : Day) → All (λ w. w ≡ printed_day (after_calls d cs)) (wrote d cs)
+unfolding after_calls
 wrote_are [] d = unfold wrote in tt
 wrote_are (sends s ∷ cs) d = rw (wrote_send d s cs, after_send d s cs) (wrote_are cs (step_of d s).day)
 wrote_are (asks o ∷ cs) d =

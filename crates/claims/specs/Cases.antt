@@ -1,5 +1,5 @@
 -- Believed: document 01, Try. The starred cases: the bytes sent, and what is asked of the day.
-use Rattle.std.specs.Prelude.{ℕ, ◌+◌, ◌/◌, ◌%◌, List, [], ◌∷◌, ◌++◌, get_or, replicate}
+use Rattle.std.specs.Prelude.{ℕ, ◌/◌, ◌%◌, List, [], ◌∷◌, ◌++◌, get_or, replicate}
 use Rattle.records.specs.declared.Effect.{Effect}
 use Rattle.records.specs.declared.Effect.TheVariants.{Trip, Mwof, Sync, Fail}
 use Rattle.records.specs.Answers.{number_of}

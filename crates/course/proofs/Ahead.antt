@@ -39,10 +39,10 @@ module _ (h : Heading) (l : Lists) (t v e : ℕ) where
   unfolding next_stop
   ahead_clear q = near_clear h v e t (candidates h l t) q
 
-use-same : (h : Heading) (l : Lists) (t v e : ℕ) → Short h e v → Every (λ w. Past h v w → Past h e w) (candidates h l t) →
+use_same : (h : Heading) (l : Lists) (t v e : ℕ) → Short h e v → Every (λ w. Past h v w → Past h e w) (candidates h l t) →
     (in_use h l e ≡ in_use h l v) × Every (λ b. Past h v b → Past h e b) (in_use h l v).breaks
 unfolding in_use breaks_in_use candidates
-use-same rising l t v e p c =
+use_same rising l t v e p c =
     let bs = every_left (λ b. v < b → e < b) (breaks_in_use rising l) _ c.1.1 in
     let below = every_left (λ b. v < b → e < b) (those (λ b. ltb b l.msg) l.column.breaks) _ bs in
     let above = every_right (λ b. v < b → e < b) (those (λ b. ltb b l.msg) l.column.breaks) _ bs in
@@ -52,7 +52,7 @@ use-same rising l t v e p c =
       | no q ↦ simp (le-ltb v l.msg (omega arith), le-ltb e l.msg (omega arith))
           (refl, every_those _ (λ b. leb l.msg b) (λ b f g. omega (arith, leb-false l.msg b f)) l.up.breaks above)
     ]
-use-same falling l t v e p c =
+use_same falling l t v e p c =
     let bs = every_left (λ b. b < v → b < e) (breaks_in_use falling l) _ c.1.1 in
     let above = every_left (λ b. b < v → b < e) (those (λ b. ltb l.msg b) l.down.breaks) _ bs in
     let below = every_right (λ b. b < v → b < e) (those (λ b. ltb l.msg b) l.down.breaks) _ bs in
@@ -67,7 +67,7 @@ use-same falling l t v e p c =
 pub rate_same : (h : Heading) (l : Lists) (t v e : ℕ) → Short h e v → Past h e (next_stop h l t v) → rate_at h l e ≡ rate_at h l v
 unfolding rate_at
 rate_same h l t v e p q =
-    let u = use-same h l t v e p (ahead_clear h l t v e q) in
+    let u = use_same h l t v e p (ahead_clear h l t v e q) in
     rw (u.0, passed_same h v e (in_use h l v).breaks p u.1)
 
 pub next_same : (h : Heading) (l : Lists) (t v e : ℕ) → Short h e v → Past h e (next_stop h l t v) → next_stop h l t e ≡ next_stop h l t v

@@ -29,14 +29,14 @@ pub record Driven (l : Lists) : Type 0 where
   pub down : Runs l.down
   pub deload : Runs l.deload
 
-use-runs : (h : Heading) (l : Lists) (v : ℕ) → Driven l → Runs (in_use h l v)
+use_runs : (h : Heading) (l : Lists) (v : ℕ) → Driven l → Runs (in_use h l v)
 unfolding in_use
-use-runs rising l v d = go (ltb v l.msg)
+use_runs rising l v d = go (ltb v l.msg)
   where
     go : (b : Bool) → Runs (pick b l.column l.up)
     go true = d.column
     go false = d.up
-use-runs falling l v d = go (ltb l.msg v)
+use_runs falling l v d = go (ltb l.msg v)
   where
     go : (b : Bool) → Runs (pick b l.down l.deload)
     go true = d.down
@@ -49,7 +49,7 @@ passed_le falling v bs = those_length _ bs
 
 pub rate_some : (h : Heading) (l : Lists) → Driven l → (v : ℕ) → 1 ≤ rate_at h l v
 unfolding rate_at
-rate_some h l d v = use-runs h l v d _ (passed_le h v _)
+rate_some h l d v = use_runs h l v d _ (passed_le h v _)
 
 gap_self : (v : ℕ) → gap v v ≡ 0
 unfolding gap

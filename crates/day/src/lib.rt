@@ -1,4 +1,5 @@
 // The day: what was let in, whether it is closed, what close found.
+#![tactic(auto)]
 
 // A day: what was let in, whether it is closed, what close found.
 #[derive(Clone, Copy)]

@@ -1,4 +1,6 @@
 // Levels in grains.
+#![tactic(auto)]
+
 ghost use Rattle.std.specs.Prelude.{◌≡◌, min, max};
 ghost use Rattle.level.specs.Level.{from_kw};
 

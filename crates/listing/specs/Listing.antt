@@ -1,5 +1,5 @@
 -- Believed: document 01, The printed day. The printed day, byte by byte, and what asking for it returns.
-use Rattle.std.specs.Prelude.{ℕ, suc, ◌+◌, List, [], ◌∷◌, ◌++◌, not, ltb, eqb, length}
+use Rattle.std.specs.Prelude.{ℕ, suc, List, [], ◌∷◌, ◌++◌, not, ltb, eqb, length}
 use Rattle.level.specs.Choice.{pick}
 use Rattle.records.specs.declared.Answer.{Answer}
 use Rattle.records.specs.declared.Refusal.TheVariants.{NotReady, SliceTooShort}

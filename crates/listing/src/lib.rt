@@ -1,4 +1,5 @@
 // The listing of a day.
+#![tactic(auto)]
 
 // What asking for a listing gives: the answer, and how many bytes of the lent slice were written.
 #[derive(Clone, Copy)]

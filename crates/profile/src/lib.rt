@@ -1,4 +1,5 @@
 // The operating profile of a day.
+#![tactic(auto)]
 
 // The course under way: whether the unit is maximised, the target (kW) that MXOF goes back to, and the seconds off where
 // the course began.

@@ -1,4 +1,5 @@
 // Records: what they hold, and the answers that they get.
+#![tactic(auto)]
 
 // The bytes of a record of each kind, with the byte of kind.
 pub const UNIT_SIZE: usize = 249;
