@@ -8,8 +8,7 @@ use records_unit::UnitRead;
 // The records of `input` up to close are taken, each put in its place, and the listing of the day is written to the front of
 // `out`. The result is the count of bytes written, or, at a refusal, its number times 2^32; then `out` is as it was. Where the
 // slice suffices for any day that records make, the listing is not measured first.
-#[unsafe(no_mangle)]
-pub extern "C" fn gristpebble_listing(input: &[u8], out: &mut [u8]) -> u64
+pub fn gristpebble_listing(input: &[u8], out: &mut [u8]) -> u64
     ensures { (result ≡ listed_result input.now out.old) × (out.new ≡ listed_lent input.now out.old) }
 {
     let mut t = day_enter::no_taken();

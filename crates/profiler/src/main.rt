@@ -1,18 +1,20 @@
 // The listing program: reads records from standard input up to close and prints the listing, or at the first refusal only
 // the line `X n`. Where reading or writing fails, it says so in one line on standard error.
+#![tactic(auto)]
+
 ghost use Rattle.std.specs.Prelude.{◌≡◌, false, ◌≤◌, length, take};
 ghost use Rattle.listing.specs.Listing.{suffices};
 ghost use Rattle.listing.specs.Program.{ends_early};
 ghost use Rattle.listing_program.specs.Shown.{Shown};
 
-use libc::{STDERR_FILENO, STDIN_FILENO, STDOUT_FILENO};
 use listing::Printed;
+use std::io::{Print, Read, Stdin, Stdout};
 
 // The first n bytes are written; whether all of them were.
-fn put_front(out: &[u8], n: usize) -> bool
+fn put_front(stdout: Stdout, out: &[u8], n: usize) -> bool
     requires { n ≤ length out.now }
 {
-    io::write_all(STDOUT_FILENO, &out[..n])
+    stdout.write_all(&out[..n]).is_ok()
 }
 
 // The place that a read came to, and whether it failed.
@@ -23,15 +25,18 @@ pub struct ReadTo {
 }
 
 // One read, to the place n on; what was read before stays.
-fn read_on(buf: &mut [u8], n: usize) -> ReadTo
+fn read_on(stdin: Stdin, buf: &mut [u8], n: usize) -> ReadTo
     requires { n ≤ length buf.old }
     ensures { (result.at ≤ length buf.new) × (take n buf.new ≡ take n buf.old) }
 {
+    let mut input = stdin;
     let part = &mut buf[n..];
-    let got = libc::read(STDIN_FILENO, part);
-    ReadTo {
-        at: n + io::count(got, part),
-        failed: got < 0,
+    match input.read(part) {
+        Ok(got) => ReadTo {
+            at: n + got,
+            failed: false,
+        },
+        Err(_) => ReadTo { at: n, failed: true },
     }
 }
 
@@ -54,14 +59,14 @@ pub struct Answered {
 // Reads until the bytes are answered, at close or at a refusal: bytes after them change nothing (`answered`). Where the input
 // ends before, the answer is what it was; a full buffer is always answered (`full_answered`). A read that fails is not the end
 // of the input.
-fn print_input(buf: &mut [u8], out: &mut [u8]) -> Answered
+fn print_input(stdin: Stdin, buf: &mut [u8], out: &mut [u8]) -> Answered
     requires { suffices ≤ length out.old }
     ensures { result.failed ≡ false → Shown (take result.at buf.new) result.count out.new }
 {
     let mut n: usize = 0;
     let mut printed = print_first(buf, n, out);
     while printed.more && n < buf.len() {
-        let next = read_on(buf, n);
+        let next = read_on(stdin, buf, n);
         if next.failed {
             return Answered {
                 at: n,
@@ -86,18 +91,23 @@ fn print_input(buf: &mut [u8], out: &mut [u8]) -> Answered
     }
 }
 
-fn main() {
-    let mut buf = io::buffer();
+// A line on standard error; where that fails, nothing more can be said.
+fn complain(rt: &HostRuntime, line: &str) {
+    match rt.stderr().write_all(line.as_bytes()) {
+        Ok(()) => {}
+        Err(_) => {}
+    }
+}
+
+fn main(rt: HostRuntime) {
+    let mut buf = [0u8; 4096];
     let mut out = [0u8; listing::SUFFICES];
-    let answered = print_input(&mut buf, &mut out);
+    let answered = print_input(rt.stdin(), &mut buf, &mut out);
     if answered.failed {
-        io::write_all(STDERR_FILENO, b"profiler: the input could not be read\n");
+        complain(&rt, "profiler: the input could not be read\n");
         return;
     }
-    if !put_front(&out, answered.count) {
-        io::write_all(
-            STDERR_FILENO,
-            b"profiler: the output could not be written whole\n",
-        );
+    if !put_front(rt.stdout(), &out, answered.count) {
+        complain(&rt, "profiler: the output could not be written whole\n");
     }
 }
