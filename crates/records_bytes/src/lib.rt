@@ -1,4 +1,6 @@
 // Readers of bytes, numbers and codes; the numbers of the answers.
+#![tactic(auto)]
+
 ghost use Rattle.std.specs.Prelude.{◌≡◌, ◌<◌, ◌^◌, get_or};
 ghost use Rattle.records.specs.declared.Coded.TheVariants.{Means};
 ghost use Rattle.records.specs.Answers.{refusal_number, number_of, accepted};
@@ -60,6 +62,7 @@ fn means(lag: u32, rank: u8, effect: Effect) -> Coded
 }
 
 // Lag, rank and effect of a code byte.
+#[tactic(auto, unfolding(records::specs::Codes::meaning_of))]
 pub fn decode(code: u8) -> Coded
     ensures { result ≡ meaning_of code }
 {
