@@ -1,4 +1,6 @@
 // A unit's body: its 62 numbers, the unit that they make, their ranges, and whether the figures agree (refusals 3 and 4).
+#![tactic(auto)]
+
 ghost use Rattle.std.specs.Prelude.{◌≡◌, ◌+◌, ◌<◌, ◌≤◌, ltb};
 ghost use Rattle.records.specs.Records.{numbers, trigger_of, column_of, unit_of};
 ghost use Rattle.level.specs.Lists.{some};
@@ -8,6 +10,7 @@ ghost use Rattle.records_unit.specs.Decoded.{unit_read, unit_answer_for, RampAt}
 use records::{Answer, Column, Deload, Ramp, Refusal, Trigger, UnitData};
 
 // The 62 numbers of a unit's body.
+#[tactic(auto, unfolding(records::specs::Records::numbers))]
 pub fn unit_numbers(body: &[u8]) -> [u32; 62]
     ensures { result ≡ numbers body.now 62 }
 {
@@ -32,6 +35,7 @@ fn trigger_of(ns: [u32; 62], at: usize, minutes: usize) -> Trigger
 }
 
 // The start-up column whose ten numbers begin at a place.
+#[tactic(auto, unfolding(records::specs::Records::column_of))]
 fn column_of(ns: [u32; 62], at: usize) -> Column
     requires { at + 10 ≤ 62 }
     ensures { result ≡ column_of ns at }
@@ -60,6 +64,7 @@ fn ramp_at(ns: [u32; 62], at: usize) -> Ramp
 }
 
 // The unit of 62 numbers.
+#[tactic(auto, unfolding(records::specs::Records::unit_of))]
 pub fn unit_of(ns: [u32; 62]) -> UnitData
     ensures { result ≡ unit_of ns }
 {
@@ -248,6 +253,7 @@ fn all_fit(ns: [u32; 62]) -> bool
 }
 
 // A break lies below the one before it.
+#[tactic(auto, unfolding(records::specs::Fields::falls))]
 fn breaks_fall(breaks: &[u32]) -> bool
     ensures { result ≡ falls breaks.now }
 {
@@ -288,6 +294,7 @@ fn some_block_above(msg: u32, columns: [Column; 3]) -> bool
 }
 
 // A unit's figures disagree.
+#[tactic(auto, unfolding(records::specs::Fields::disagrees))]
 fn unit_disagrees(u: UnitData) -> bool
     ensures { result ≡ disagrees u }
 {
@@ -321,6 +328,7 @@ fn unit_answer(ns: [u32; 62], u: UnitData) -> Answer
 }
 
 // The unit that a body holds, and the answer to its numbers.
+#[tactic(auto, unfolding(records::specs::Fields::unit_answer))]
 pub fn read_unit(body: &[u8]) -> UnitRead
     ensures { result ≡ unit_read body.now }
 {
