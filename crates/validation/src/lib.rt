@@ -1,4 +1,5 @@
 // Which instructions are kept.
+#![tactic(auto)]
 
 // An instruction with its number. A carrier has the level and the rates of the MWOF that it carries.
 #[derive(Clone, Copy)]
