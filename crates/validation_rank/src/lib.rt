@@ -1,4 +1,6 @@
 // Which instruction is used of those at one effective time, step 2: ranks and carriers.
+#![tactic(auto)]
+
 ghost use Rattle.std.specs.Prelude.{◌≡◌, ◌<◌, true, List, [], ◌∷◌};
 ghost use Rattle.level.specs.Choice.{pick};
 ghost use Rattle.records.specs.declared.Effect.TheVariants.{Sync, Desy};
@@ -27,6 +29,7 @@ pub fn has_code(o: validation::Numbered, code: records::Effect) -> bool
 // ---- step 2: the one that is used of those left at one effective time
 
 // x, entered after o, goes before it.
+#[tactic(auto, unfolding(validation::specs::Kept::goes_before))]
 fn goes_before(x: validation::Numbered, o: validation::Numbered) -> bool
     ensures { result ≡ goes_before x o }
 {
@@ -57,6 +60,7 @@ fn higher(x: validation::Numbered, o: validation::Numbered) -> validation::Numbe
 }
 
 // The highest ranked so far, with o looked at.
+#[tactic(auto, unfolding(validation::specs::Kept::highest, crate::specs::Picked::best_from))]
 pub fn better(best: Picked, o: validation::Numbered) -> Picked
     ensures { picked_list result ≡ best_from (picked_list best) (o ∷ []) }
 {
@@ -70,6 +74,7 @@ pub fn better(best: Picked, o: validation::Numbered) -> Picked
 }
 
 // o, where it has this code.
+#[tactic(auto, unfolding(validation::specs::Kept::present, level::specs::Lists::those))]
 pub fn of_code(o: validation::Numbered, code: records::Effect) -> Picked
     ensures { picked_list result ≡ present code (o ∷ []) }
 {
@@ -90,6 +95,7 @@ pub fn or_else(first: Picked, other: Picked) -> Picked
 }
 
 // c with the level and the rates of m.
+#[tactic(auto, unfolding(validation::specs::Kept::carrying))]
 fn carry(m: validation::Numbered, c: validation::Numbered) -> validation::Numbered
     ensures { result ≡ carrying m c }
 {
@@ -111,6 +117,7 @@ fn carry(m: validation::Numbered, c: validation::Numbered) -> validation::Number
 }
 
 // The highest ranked of a group; an MWOF goes into the carrier, where there is one.
+#[tactic(auto, unfolding(validation::specs::Kept::merged))]
 fn merge(highest: validation::Numbered, carrier: Picked) -> validation::Numbered
     ensures { (g : List Numbered) → picked_list carrier ≡ or_else (present Sync g) (present Desy g) → result ∷ [] ≡ merged g highest }
 {
