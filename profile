@@ -19,14 +19,15 @@ progress() {
     if [ -t 2 ]; then printf '\r%s\033[K' "$1" >&2; fi
 }
 
-# Counts the proved crates among the lines that rt prints.
+# Counts the proved crates among the lines that rt prints: `crate NAME: ..`, then `logic=proved ..`.
 follow() {
-    proved=0
+    proved=0 name=''
     while IFS= read -r line; do
         case $line in
-        'rt: '*' proved ('*)
-            proved=$((proved + 1)) name=${line#rt: }
-            progress "$proved of $total crates proved, last: ${name%% *}"
+        'crate '*': '*) name=${line#crate } ;;
+        'logic=proved'*)
+            proved=$((proved + 1))
+            progress "$proved of $total crates proved, last: ${name%%:*}"
             ;;
         esac
     done
@@ -45,27 +46,23 @@ interrupted() {
 build() {
     command -v rt >/dev/null 2>&1 || fail 'rt, the command of the kit of Rattle, is not on PATH'
     mkdir -p "$here/target" || fail 'target/ could not be made'
-    # The crates that the program reaches, in the order of crates.txt, in which they are proved soonest.
-    crates=$(awk -F: 'function reach(name,    words, k, n) {
+    # How many crates the program reaches.
+    total=$(awk -F: 'function reach(name,    words, k, n) {
             if (name in reached || !(name in uses)) return
             reached[name]
             n = split(uses[name], words, " ")
             for (k = 1; k <= n; k++) reach(words[k])
         }
-        { names[NR] = $1; uses[$1] = $2 }
-        END { reach("profiler"); for (k = 1; k <= NR; k++) if (names[k] in reached) print names[k] }' "$here/crates.txt")
-    total=$(echo "$crates" | awk 'END { print NR }')
-    # One job more than there are processors, at most four: rt waits for the slowest of those that it began together.
-    jobs=$(($(nproc 2>/dev/null || echo 2) + 1))
-    [ "$jobs" -le 4 ] || jobs=4
+        { split($1, words, " "); uses[words[1]] = $2 }
+        END { reach("profiler"); for (name in reached) total++; print total }' "$here/crates.txt")
     if [ -t 2 ]; then
         progress "0 of $total crates proved"
     else
         printf 'proving %s crates, log in target/profiler.log\n' "$total" >&2
     fi
     trap interrupted INT
-    # shellcheck disable=SC2086
-    status=$({ { (CDPATH='' cd -- "$here" && RT_JOBS="${RT_JOBS:-$jobs}" exec rt check $crates) </dev/null 2>&1 3>&-; echo $? >&3; } | tee "$log" | follow; } 3>&1 >&2)
+    # `rt run` runs the program that it made: here on an empty input.
+    status=$({ { (CDPATH='' cd -- "$here/crates/profiler" && exec rt run) </dev/null 2>&1 3>&-; echo $? >&3; } | tee "$log" | follow; } 3>&1 >&2)
     trap - INT
     if [ "$status" != 0 ]; then
         # A program that was linked all the same is not taken for built.
@@ -73,8 +70,9 @@ build() {
         tail -n 20 "$log" >&2
         fail 'the program is not proved; the whole log is target/profiler.log'
     fi
-    [ -x "$program" ] || fail 'rt made no target/bin/profiler; remove target/ and try again'
-    touch "$program"
+    made=$here/crates/profiler/out/profiler
+    [ -x "$made" ] || fail 'rt made no program; remove crates/profiler/out and try again'
+    { mkdir -p "${program%/*}" && cp "$made" "$program" && touch "$program"; } || fail 'target/bin/profiler could not be made'
 }
 
 words() {
@@ -93,7 +91,7 @@ if [ $# -eq 1 ] && [ -z "$only" ]; then
     [ -e "$file" ] || fail "$file: no such file"
     [ -r "$file" ] || fail "$file: it may not be read"
 fi
-if [ ! -x "$program" ] || [ -n "$(find "$here/crates" "$here/crates.txt" -newer "$program" -print -quit)" ]; then
+if [ ! -x "$program" ] || [ -n "$(find "$here/crates" "$here/crates.txt" -name out -prune -o -newer "$program" -print -quit)" ]; then
     build
 fi
 [ -z "$only" ] || exit 0

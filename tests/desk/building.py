@@ -11,15 +11,17 @@ from pathlib import Path
 from support import PROFILER, ROOT, DeskTest
 
 STAND_IN = f"""#!/bin/sh
-echo 'rt: level proved (1 s)'
+echo 'crate level: modules loaded=1 checked=1'
+echo 'logic=proved functions=1'
 if [ -n "${{RT_WAITS-}}" ]; then
     sleep 60 &
     echo $! >"$RT_WAITS"
     wait
 fi
-echo 'rt: profiler proved (1 s)'
-mkdir -p target/bin
-cp {PROFILER} target/bin/profiler
+echo 'crate profiler: modules loaded=1 checked=1'
+echo 'logic=proved functions=1'
+mkdir -p out
+cp {PROFILER} out/profiler
 """
 WAIT = 20
 
@@ -41,7 +43,7 @@ class Building(DeskTest):
             self.copy.mkdir(exist_ok=True)
             leave = shutil.ignore_patterns("__pycache__", "out")
             shutil.copytree(source, self.copy / name, ignore=leave) if source.is_dir() else shutil.copy(source, self.copy / name)
-        (self.copy / "crates").mkdir()
+        (self.copy / "crates" / "profiler").mkdir(parents=True)
         self.script("bin/rt", STAND_IN.removeprefix("#!/bin/sh\n"))
         self.waits = self.folder / "waits"
         self.out = self.copy / "examples" / "morning" / "out"
@@ -62,7 +64,7 @@ class Building(DeskTest):
         self.assertIn("crates proved, last: level", shown)
         self.assertIn("11 of 11: ", shown)
         self.assertNotIn("\n", shown)
-        self.assertIn("rt: profiler proved", (self.copy / "target" / "profiler.log").read_text())
+        self.assertIn("crate profiler: ", (self.copy / "target" / "profiler.log").read_text())
 
     def test_not_proved(self):
         self.script("bin/rt", "echo wrong; exit 1\n")

@@ -169,26 +169,33 @@ def words_part():
 
 STAND_IN = """#!/bin/sh
 # Prints what rt prints, and makes the program. RT_TRY: fail, unmade, wait.
-[ "$*" = 'check %(crates)s' ] || exit 9
+[ "$*" = run ] && [ "${PWD##*/}" = profiler ] || exit 9
 cat >/dev/null
-echo called >>../calls-of-rt
+echo called >>../../../calls-of-rt
 for name in %(crates)s; do
     echo "fn $name::main: proved"
-    echo "rt: $name proved (1 s)"
+    echo "crate $name: modules loaded=1 checked=1"
+    if [ "${RT_TRY-}" = fail ] && [ $name = profiler ]; then
+        for n in 1 2 3 4 5 6 7 8 9 10 11 12 13 14 15 16 17 18 19 20 21 22 23 24 25; do echo "error $n" >&2; done
+        echo 'logic=not-proved'
+        exit 1
+    fi
+    echo 'logic=proved functions=1'
     if [ "${RT_TRY-}" = wait ]; then
         sleep 60 &
-        echo $! >../sleeper
+        echo $! >../../../sleeper
         wait
     fi
 done
-[ "${RT_TRY-}" = unmade ] || { mkdir -p target/bin && cp "$RT_PROGRAM" target/bin/profiler; }
-if [ "${RT_TRY-}" = fail ]; then
-    for n in 1 2 3 4 5 6 7 8 9 10 11 12 13 14 15 16 17 18 19 20 21 22 23 24 25; do echo "error $n" >&2; done
-    echo 'rt: FAILED: profiler'
-    exit 1
-fi
-echo 'rt: ok'
+[ "${RT_TRY-}" = unmade ] || { mkdir -p out && cp "$RT_PROGRAM" out/profiler; }
+echo 'X 2'
 """
+
+
+def rt_lines(name):
+    return f"fn {name}::main: proved", f"crate {name}: modules loaded=1 checked=1", "logic=proved functions=1"
+
+
 TOOLS = "sh awk cat cp dirname find mkdir sed sleep tail tee touch".split()
 
 
@@ -198,7 +205,7 @@ class Copy:
     def __init__(self, folder, shell, program):
         self.top, self.shell, self.program = folder, shell, program
         self.here = folder / "copy"
-        for name in "bindings", "crates":
+        for name in "bindings", "crates/profiler":
             (self.here / name).mkdir(parents=True)
         for name in "profile", "crates.txt", "bindings/refusals.txt":
             shutil.copy(ROOT / name, self.here / name)
@@ -207,7 +214,7 @@ class Copy:
             name.mkdir()
         for name in TOOLS:
             (self.tools / name).symlink_to(shutil.which(name))
-        uses = dict(line.split(":") for line in (ROOT / "crates.txt").read_text(encoding="utf-8").splitlines())
+        uses = dict((line.split(":")[0].split()[0], line.split(":")[1]) for line in (ROOT / "crates.txt").read_text(encoding="utf-8").splitlines())
         reached, todo = set(), ["profiler"]
         while todo:
             name = todo.pop()
@@ -233,7 +240,8 @@ class Copy:
         return len(calls.read_text(encoding="utf-8").splitlines()) if calls.exists() else 0
 
     def fresh(self):
-        shutil.rmtree(self.here / "target", ignore_errors=True)
+        for made in "target", "crates/profiler/out":
+            shutil.rmtree(self.here / made, ignore_errors=True)
 
 
 def profile_answers(copy, words):
@@ -294,11 +302,11 @@ def profile_build(copy):
     got = copy.run(day)
     check("./profile, built first", got == (0, whole, first), got)
     made = {str(path.relative_to(copy.here)) for path in copy.here.rglob("*") if path.is_file() and path not in before}
-    check("./profile, what a build leaves", made == {"target/profiler.log", "target/bin/profiler"}, made)
+    check("./profile, what a build leaves", made == {"target/profiler.log", "target/bin/profiler", "crates/profiler/out/profiler"}, made)
     log = (copy.here / "target/profiler.log").read_text(encoding="utf-8").splitlines()
     check(
         "./profile, whole log",
-        log == [line for name in copy.crates for line in (f"fn {name}::main: proved", f"rt: {name} proved (1 s)")] + ["rt: ok"],
+        log == [line for name in copy.crates for line in rt_lines(name)] + ["X 2"],
         log[-3:],
     )
     count = copy.built()
@@ -308,7 +316,7 @@ def profile_build(copy):
     copy.fresh()
     for again in "", ", again":
         status, printed, said = copy.run(day, trying="fail")
-        last = [f"error {n}" for n in range(7, 26)] + ["rt: FAILED: profiler"]
+        last = [f"error {n}" for n in range(7, 26)] + ["logic=not-proved"]
         last.append("profile: the program is not proved; the whole log is target/profiler.log")
         good = status == 2 and not printed and said == first + ("\n".join(last) + "\n").encode()
         check(f"./profile, not proved{again}", good, status, printed, said)
