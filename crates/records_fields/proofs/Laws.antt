@@ -9,7 +9,7 @@ use Rattle.records.specs.declared.Instruction.{Instruction}
 use Rattle.records.specs.declared.Answer.{Answer}
 use Rattle.records.specs.declared.Answer.TheVariants.{Accepted, Refused}
 use Rattle.records.specs.declared.Refusal.TheVariants.{EffectiveTime, IssueTime, LevelOrRates}
-use Rattle.records.specs.Codes.{meaning_of, is_unknown, same}
+use Rattle.records.specs.Codes.{meaning_of, is_unknown}
 use Rattle.records.specs.Records.{instruction_of}
 use Rattle.records.specs.Fields.{figures_fit, instruction_answer}
 use Rattle.records_fields.specs.Decoded.{instruction_read, instruction_answer_for}

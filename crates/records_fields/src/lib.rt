@@ -1,4 +1,6 @@
 // The bodies of an opening and of an instruction, each decoded once: refusals 5 to 9, and what the fields say.
+#![tactic(auto)]
+
 ghost use Rattle.std.specs.Prelude.{◌≡◌, not};
 ghost use Rattle.records.specs.declared.Refusal.TheVariants.{OpeningField};
 ghost use Rattle.records.specs.Answers.{refusing};
@@ -33,6 +35,7 @@ pub struct InstructionRead {
 }
 
 // Refusal 5, of an opening.
+#[tactic(auto, unfolding(records::specs::Fields::opening_fits))]
 fn opening_answer(o: records::Opening) -> Answer
     ensures { result ≡ refusing (not (opening_fits o)) OpeningField }
 {
@@ -48,6 +51,7 @@ fn opening_answer(o: records::Opening) -> Answer
 }
 
 // The opening that a body holds, and the answer to its fields.
+#[tactic(auto, unfolding(records::specs::Records::opening_of, records::specs::Fields::opening_answer))]
 pub fn read_opening(body: &[u8]) -> OpeningRead
     ensures { result ≡ opening_read body.now }
 {
@@ -66,6 +70,7 @@ pub fn read_opening(body: &[u8]) -> OpeningRead
 }
 
 // A signed issue time as seconds above -604,800.
+#[tactic(auto, unfolding(records::specs::Records::issue_of))]
 fn issue_of(n: u32) -> u32
     ensures { result ≡ issue_of n }
 {
@@ -99,6 +104,7 @@ fn is_unknown(coded: records::Coded) -> bool
 }
 
 // Level and rates are what the code allows: MWOF carries them, the others 0.
+#[tactic(auto, unfolding(records::specs::Fields::figures_fit))]
 fn figures_fit(i: records::Instruction) -> bool
     ensures { result ≡ figures_fit i }
 {
@@ -111,6 +117,7 @@ fn figures_fit(i: records::Instruction) -> bool
 }
 
 // Refusals 6 to 9, of an instruction whose code is unknown or known, in a day of so many seconds.
+#[tactic(auto, unfolding(crate::specs::Decoded::instruction_answer_for))]
 fn instruction_answer(end: u32, unknown: bool, i: records::Instruction) -> Answer
     ensures { result ≡ instruction_answer_for end unknown i }
 {
@@ -130,6 +137,7 @@ fn instruction_answer(end: u32, unknown: bool, i: records::Instruction) -> Answe
 }
 
 // The instruction that a body holds, and the answer to its fields, in a day of so many seconds.
+#[tactic(auto, unfolding(records::specs::Records::instruction_of), using(crate::proofs::Laws::read_is))]
 pub fn read_instruction(end: u32, body: &[u8]) -> InstructionRead
     ensures { result ≡ instruction_read end body.now }
 {
