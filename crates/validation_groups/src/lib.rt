@@ -1,4 +1,6 @@
 // Which instruction is used at each effective time, steps 1 and 2: over up to forty instructions with their numbers.
+#![tactic(auto)]
+
 ghost use Rattle.std.specs.Prelude.{◌≡◌, ◌-◌, ◌<◌, ◌≤◌, ◌&&◌, [], length, take, get_or};
 ghost use Rattle.level.specs.Numbers.{instruction_places};
 ghost use Rattle.validation.specs.Kept.{numbered, group, used_of, used};
@@ -47,6 +49,7 @@ pub fn no_one() -> validation::Numbered
 }
 
 // None of them.
+#[tactic(auto, unfolding(level::specs::Lists::filled))]
 pub fn empty() -> Sequence
     ensures { result ≡ sequence_of [] }
 {
@@ -56,6 +59,7 @@ pub fn empty() -> Sequence
 }
 
 // With one more.
+#[tactic(auto, unfolding(crate::specs::Working::pushed))]
 fn push(s: Sequence, o: validation::Numbered) -> Sequence
     requires { s.count < instruction_places }
     ensures { result ≡ pushed s o }
@@ -68,6 +72,7 @@ fn push(s: Sequence, o: validation::Numbered) -> Sequence
 }
 
 // With what was picked.
+#[tactic(auto, unfolding(crate::specs::Working::joined))]
 fn push_picked(s: Sequence, picked: validation_rank::Picked) -> Sequence
     requires { s.count < instruction_places }
     ensures { result ≡ joined s picked }
@@ -81,6 +86,7 @@ fn push_picked(s: Sequence, picked: validation_rank::Picked) -> Sequence
 // ---- step 1: of equal effective times only the latest issue time stays
 
 // The later of the best so far and the issue time j, where its effective time x is t.
+#[tactic(auto, unfolding(crate::specs::Working::later_of))]
 fn later(x: u32, j: u32, t: u32, best: u32) -> u32
     ensures { result ≡ later_of x j t best }
 {
@@ -112,6 +118,7 @@ fn latest_at(
 }
 
 // A place is among the first n and has the time t.
+#[tactic(auto, unfolding(crate::specs::Working::has_time_at))]
 fn has_time(times: &[u32; level::INSTRUCTIONS], n: usize, at: usize, t: u32) -> bool
     requires { n ≤ instruction_places }
     ensures { result ≡ has_time_at times.now n at t }
@@ -123,6 +130,7 @@ fn has_time(times: &[u32; level::INSTRUCTIONS], n: usize, at: usize, t: u32) -> 
 }
 
 // The place before has the time t.
+#[tactic(auto, unfolding(crate::specs::Working::follows_time))]
 fn follows_time(times: &[u32; level::INSTRUCTIONS], at: usize, t: u32) -> bool
     requires { at ≤ instruction_places }
     ensures { result ≡ follows_time times.now at t }
@@ -134,6 +142,7 @@ fn follows_time(times: &[u32; level::INSTRUCTIONS], at: usize, t: u32) -> bool
 }
 
 // The times stand in order, and neither neighbour of a place has its time: no other has it.
+#[tactic(auto, unfolding(crate::specs::Working::alone_at))]
 fn stands_alone(times: &[u32; level::INSTRUCTIONS], n: usize, at: usize, ordered: bool) -> bool
     requires { (at < n) × (n ≤ instruction_places) }
     ensures { result ≡ (ordered && alone_at times.now n at) }
@@ -211,6 +220,7 @@ fn used_at(
 // ---- those used, in time order
 
 // The earlier of a time from t on and the best so far.
+#[tactic(auto, unfolding(crate::specs::Working::earlier_of))]
 fn earlier(x: u32, t: u32, best: u32) -> u32
     ensures { result ≡ earlier_of x t best }
 {
