@@ -1,4 +1,6 @@
 // Writers of decimal numbers and of a line of any kind, each of which fills the front of the part that it is lent.
+#![tactic(auto)]
+
 ghost use Rattle.std.specs.Prelude.{◌≤◌, length};
 ghost use Rattle.lines.specs.Text.{decimal, field, line};
 ghost use Rattle.lines.specs.Writing.{Written, Measured};
