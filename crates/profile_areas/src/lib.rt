@@ -1,5 +1,7 @@
 // Along a course up to a second: the running sum of twice its area, noted at each half-hour boundary that a piece passes, and the
 // seconds off.
+#![tactic(auto)]
+
 ghost use Rattle.std.specs.Prelude.{◌≡◌, ◌+◌, ◌≤◌};
 ghost use Rattle.course_rates.specs.Ways.{headed};
 ghost use Rattle.profile_areas.specs.Passing.{summed, Noted, line_from, piece_from, LineAhead, PieceAhead, CourseAhead, Passing};
@@ -12,6 +14,7 @@ ghost use Rattle.profile_areas.specs.Watching.{off_starting, off_between};
 const MOST_OFF: u64 = 10000000;
 
 // So many seconds off and so many more, held.
+#[tactic(auto, using(crate::proofs::Off::held_low, crate::proofs::Off::held_high))]
 fn held_off(off: u32, more: u32) -> u32
     ensures { result ≡ held (off + more) }
 {
@@ -23,6 +26,7 @@ fn held_off(off: u32, more: u32) -> u32
 }
 
 // The seconds off where a course begins.
+#[tactic(auto, using(crate::proofs::Off::starting_off, crate::proofs::Off::starting_on))]
 pub fn off_starting(c: course::Course, off: u32) -> u32
     ensures { result ≡ off_starting c off }
 {
@@ -34,6 +38,7 @@ pub fn off_starting(c: course::Course, off: u32) -> u32
 }
 
 // The seconds off at q, by those at p.
+#[tactic(auto, using(crate::proofs::Off::between_from, crate::proofs::Off::between_to, crate::proofs::Off::between_off))]
 pub fn off_between(p: course_walk::Place, q: course_walk::Place, off: u32) -> u32
     requires { p.second ≤ q.second }
     ensures { result ≡ off_between p q off }
