@@ -51,6 +51,7 @@ module _ {l : OwnLists} {c : Course} {up : Bool} {before n : ℕ} where
         known = a.known;
         later = omega arith;
         within = a.later;
+        ends_before = λ lt. lt;
         short = a.short;
         low = a.low;
         stands = sym (standing_here h ls t p.second p refl);
@@ -110,6 +111,7 @@ module _ {l : OwnLists} {c : Course} {up : Bool} {before n : ℕ} where
         known = known;
         later = omega (arith, s.later, x.step.later);
         within = omega arith;
+        ends_before = λ lt. ends;
         short = x.step.short;
         low = x.low;
         stands = stands_on h ls t from p q q.second s.stands s.later (omega (arith, x.step.later))

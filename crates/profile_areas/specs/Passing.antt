@@ -118,8 +118,8 @@ pub record Watching (u : UnitData) (c : Course) (before : ℕ) (up : Bool) (p : 
   pub moment : moment_of p ≡ moment_at (trajectory_of u c) (p.second - c.begin)
   pub off_is : off ≡ (watch (trajectory_of u c) before (p.second - c.begin)).off
 
--- what has been passed on the way from a place towards the second n, up to where the course is reached: the sums a have become ys and
--- the total
+-- what has been passed on the way from a place towards the second n, up to where the course is reached, which lies before n unless the way
+-- began there: the sums a have become ys and the total
 pub record PassProgress (l : OwnLists) (c : Course) (up : Bool) (from : Place) (before n : ℕ) (a : Summed) (ys : List ℕ) (at : Reached)
     (off total : ℕ) : Type 0 where
   pub adds : AddsOn (headed up) (lists_by l c) (grains c.target) from a (summed at.place.second ys total)
@@ -127,6 +127,7 @@ pub record PassProgress (l : OwnLists) (c : Course) (up : Bool) (from : Place) (
   pub known : Known (headed up) (lists_by l c) (grains c.target) at
   pub later : from.second ≤ at.place.second
   pub within : at.place.second ≤ n
+  pub ends_before : from.second < n → at.place.second < n
   pub short : Short (headed up) (grains c.target) at.place.level
   pub low : at.place.level < level_bound
   pub stands : at.place ≡ standing (headed up) (lists_by l c) (grains c.target) at.place.second from

@@ -16,7 +16,7 @@ pub returns-then-n-q : goal.returns-then-n-q
 returns-then-n-q c =
     let low : c.args.c.target < 2 ^ 32 = omega arith in
     let x = next_piece c.loop-at.invariant low c.loop-at-test.true c.walk_on-next.ensures.0 in
-    progress_cut c.loop-at.invariant x c.off_between-later.ensures c.if-n-q.true
+    progress_cut c.loop-at.invariant x c.off_between-later.ensures (omega arith)
 
 pub note_piece-total-requires : goal.note_piece-total-requires
 note_piece-total-requires c =
@@ -41,4 +41,4 @@ pub loop-at-preserved : goal.loop-at-preserved
 loop-at-preserved c =
     let low : c.args.c.target < 2 ^ 32 = omega arith in
     let x = next_piece c.loop-at.invariant low c.loop-at-test.true c.walk_on-next.ensures.0 in
-    progress_more c.loop-at.invariant x c.off_between-later.ensures c.if-n-q.false c.walk_on-next.ensures.1 c.note_piece-total.ensures
+    progress_more c.loop-at.invariant x c.off_between-later.ensures (omega arith) c.walk_on-next.ensures.1 c.note_piece-total.ensures
