@@ -1,5 +1,7 @@
 // A unit, an opening or an instruction at the front of the input, as a day with this state answers it: the refusals in the
 // paper's order, and what the record says. A slice of any kind is read as one of the kind asked for.
+#![tactic(auto)]
+
 ghost use Rattle.std.specs.Prelude.{◌≡◌, ◌<◌, []};
 ghost use Rattle.day.specs.Step.{too_high};
 ghost use Rattle.day_enter.specs.Fronts.{unit_refused, opening_refused, instruction_refused, unit_front, below_maximum, opening_front, instruction_front, close_front};
@@ -16,6 +18,7 @@ use records_unit::UnitRead;
 // ---- nothing let in
 
 // A unit of zeros.
+#[tactic(auto, unfolding(records::specs::Records::unit_of, records::specs::Records::column_of, records::specs::Records::trigger_of))]
 pub fn no_unit() -> records::UnitData
     ensures { result ≡ unit_of [] }
 {
@@ -52,6 +55,7 @@ pub fn no_unit() -> records::UnitData
 }
 
 // An opening of zeros.
+#[tactic(auto, unfolding(records::specs::Records::opening_of))]
 pub fn no_opening() -> records::Opening
     ensures { result ≡ opening_of [] }
 {
@@ -64,6 +68,7 @@ pub fn no_opening() -> records::Opening
 }
 
 // What an opening starts: no rate replaced, not maximised.
+#[tactic(auto, unfolding(profile::specs::Taken::start_of))]
 pub fn start_of(o: records::Opening) -> profile::Start
     ensures { result ≡ start_of o }
 {
@@ -80,6 +85,7 @@ pub fn start_of(o: records::Opening) -> profile::Start
 }
 
 // Nothing let in.
+#[tactic(auto, unfolding(profile::specs::Taken::no_taken))]
 pub fn no_taken() -> profile::Taken
     ensures { result ≡ no_taken }
 {
@@ -98,6 +104,7 @@ pub fn no_taken() -> profile::Taken
 }
 
 // Nothing found.
+#[tactic(auto, unfolding(profile::specs::Finding::no_finding))]
 fn no_finding() -> profile::Finding
     ensures { result ≡ no_finding }
 {
@@ -120,6 +127,7 @@ fn no_finding() -> profile::Finding
 }
 
 // The day that has taken no record.
+#[tactic(auto, unfolding(day::specs::Day::empty))]
 pub fn empty_day() -> Day
     ensures { result ≡ empty }
 {
@@ -144,6 +152,7 @@ fn refuse_unit(r: Refusal) -> UnitRead
 }
 
 // A unit at the front of the input.
+#[tactic(auto, unfolding(crate::specs::Fronts::unit_front))]
 pub fn unit_front(hasUnit: bool, closed: bool, input: &[u8]) -> UnitRead
     ensures { result ≡ unit_front hasUnit closed input.now }
 {
@@ -160,6 +169,7 @@ pub fn unit_front(hasUnit: bool, closed: bool, input: &[u8]) -> UnitRead
 }
 
 // Refusal 22: level or target above the short-term maximum, or seconds off with a level above 0.
+#[tactic(auto, unfolding(day::specs::Step::too_high, level::specs::Level::from_kw))]
 fn too_high(unit: records::UnitData, o: records::Opening) -> bool
     ensures { result ≡ too_high unit o }
 {
@@ -172,6 +182,7 @@ fn too_high(unit: records::UnitData, o: records::Opening) -> bool
 }
 
 // An opening whose fields are answered, held to the unit's short-term maximum.
+#[tactic(auto, using(crate::proofs::Laws::opening_high, crate::proofs::Laws::opening_low))]
 fn below_maximum(unit: records::UnitData, read: OpeningRead) -> OpeningRead
     ensures { result ≡ below_maximum unit read }
 {
@@ -196,6 +207,7 @@ fn refuse_opening(r: Refusal) -> OpeningRead
 }
 
 // An opening at the front of the input.
+#[tactic(auto, unfolding(crate::specs::Fronts::opening_front))]
 pub fn opening_front(
     hasUnit: bool,
     hasStart: bool,
@@ -234,6 +246,7 @@ fn refuse_instruction(r: Refusal) -> InstructionRead
 }
 
 // An instruction at the front of the input.
+#[tactic(auto, unfolding(crate::specs::Fronts::instruction_front))]
 pub fn instruction_front(hasUnit: bool, closed: bool, count: usize, input: &[u8]) -> InstructionRead
     ensures { result ≡ instruction_front hasUnit closed count input.now }
 {
@@ -253,6 +266,7 @@ pub fn instruction_front(hasUnit: bool, closed: bool, count: usize, input: &[u8]
 }
 
 // A close, before anything is found.
+#[tactic(auto, unfolding(crate::specs::Fronts::close_front))]
 pub fn close_front(hasStart: bool, closed: bool) -> Answer
     ensures { result ≡ close_front hasStart closed }
 {
