@@ -1,4 +1,6 @@
 // Which instructions are kept, step 3: in time order, each against the last kept one.
+#![tactic(auto)]
+
 ghost use Rattle.std.specs.Prelude.{◌≡◌, ◌+◌, ◌-◌, ◌<◌, ◌≤◌, true, List, [], ◌∷◌, length, take, get_or};
 ghost use Rattle.level.specs.Choice.{pick};
 ghost use Rattle.level.specs.Numbers.{instruction_places};
@@ -22,6 +24,7 @@ pub fn place_of(number: u32) -> usize
 }
 
 // The fate of a number; a number that no instruction has is passed over.
+#[tactic(auto, unfolding(crate::specs::Working::set_fate))]
 fn put_fate(fates: &mut [u8; level::INSTRUCTIONS], number: u32, fate: u8)
     requires { length fates.old ≡ instruction_places }
     ensures { fates.new ≡ set_fate fates.old number fate }
@@ -37,6 +40,7 @@ fn put_fate(fates: &mut [u8; level::INSTRUCTIONS], number: u32, fate: u8)
 }
 
 // One repeats the last kept one: SYNC after SYNC, DESY after DESY, TRIP after TRIP.
+#[tactic(auto, unfolding(validation::specs::Kept::repeats, crate::specs::Working::stack_of))]
 fn is_repeat(o: validation::Numbered, last: validation::Numbered, height: usize) -> bool
     ensures { (ks : List Numbered) → last ≡ get_or ks (height - 1) no_numbered → result ≡ repeats o (stack_of ks height) }
 {
@@ -91,6 +95,7 @@ fn place_before(place: usize) -> usize
 }
 
 // The kept SYNC k is at most an hour before o.
+#[tactic(auto, unfolding(validation::specs::Kept::sync_within_hour))]
 fn within_hour(k: validation::Numbered, o: validation::Numbered) -> bool
     ensures { same (effect_of k) Sync ≡ true → result ≡ sync_within_hour (effective_of o) (k ∷ []) }
 {
@@ -190,6 +195,7 @@ pub fn check_all(
 // ---- step 4: by acting time
 
 // Effective time and lag. The sum of two numbers of a record may pass 32 bits.
+#[tactic(auto, unfolding(validation::specs::Kept::acting))]
 fn acting_time(o: validation::Numbered) -> u64
     ensures { (result ≡ acting o) × (result < never) }
 {
