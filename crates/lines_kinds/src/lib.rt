@@ -1,10 +1,13 @@
 // Writers of the four kinds of line and of the line of a refusal, each of which fills the front of the part that it is lent.
+#![tactic(auto)]
+
 ghost use Rattle.std.specs.Prelude.{◌≡◌, ◌≤◌, ◌+◌, length};
 ghost use Rattle.lines.specs.Lines.{f_line, s_line, q_line, e_line, x_line};
 ghost use Rattle.lines.specs.Text.{decimal};
 ghost use Rattle.lines.specs.Writing.{Written, Measured};
 
 // `F n fate`
+#[tactic(auto, unfolding(lines::specs::Lines::f_line), using(lines::proofs::Decimals::line_two))]
 pub fn put_f(out: &mut [u8], n: u64, fate: u64) -> usize
     requires { length (f_line n fate) ≤ length out.old }
     ensures { Written (f_line n fate) result out.old out.new }
@@ -14,6 +17,7 @@ pub fn put_f(out: &mut [u8], n: u64, fate: u64) -> usize
 }
 
 // `S from to level level`: seconds, then grains where the run is entered and where it is left.
+#[tactic(auto, unfolding(lines::specs::Lines::s_line), using(lines::proofs::Decimals::line_four))]
 pub fn put_s(out: &mut [u8], from: u64, to: u64, enter: u64, leave: u64) -> usize
     requires { length (s_line from to enter leave) ≤ length out.old }
     ensures { Written (s_line from to enter leave) result out.old out.new }
@@ -23,6 +27,7 @@ pub fn put_s(out: &mut [u8], from: u64, to: u64, enter: u64, leave: u64) -> usiz
 }
 
 // `Q first last kW`
+#[tactic(auto, unfolding(lines::specs::Lines::q_line), using(lines::proofs::Decimals::line_three))]
 pub fn put_q(out: &mut [u8], first: u64, last: u64, kw: u64) -> usize
     requires { length (q_line first last kw) ≤ length out.old }
     ensures { Written (q_line first last kw) result out.old out.new }
@@ -32,6 +37,7 @@ pub fn put_q(out: &mut [u8], first: u64, last: u64, kw: u64) -> usize
 }
 
 // `E level target heat off`: grains, kW, heat, seconds.
+#[tactic(auto, unfolding(lines::specs::Lines::e_line), using(lines::proofs::Decimals::line_four))]
 pub fn put_e(out: &mut [u8], level: u64, target: u64, heat: u64, off: u64) -> usize
     requires { length (e_line level target heat off) ≤ length out.old }
     ensures { Written (e_line level target heat off) result out.old out.new }
@@ -41,6 +47,7 @@ pub fn put_e(out: &mut [u8], level: u64, target: u64, heat: u64, off: u64) -> us
 }
 
 // `X n`, of the listing program.
+#[tactic(auto, unfolding(lines::specs::Lines::x_line), using(lines::proofs::Decimals::line_one))]
 pub fn put_x(out: &mut [u8], n: u64) -> usize
     requires { length (x_line n) ≤ length out.old }
     ensures { Written (x_line n) result out.old out.new }
@@ -51,6 +58,7 @@ pub fn put_x(out: &mut [u8], n: u64) -> usize
 
 // ---- the widths of lines, to measure before writing: a letter, a blank and the digits of each number, a line feed
 
+#[tactic(auto, using(lines::proofs::Widths::f_length))]
 pub fn f_width(n: u64, fate: u64) -> usize
     ensures { Measured (f_line n fate) 44 result }
 {
@@ -68,12 +76,14 @@ fn four_width(a: u64, b: u64, c: u64, d: u64) -> usize
         + 6
 }
 
+#[tactic(auto, using(lines::proofs::Widths::s_length))]
 pub fn s_width(from: u64, to: u64, enter: u64, leave: u64) -> usize
     ensures { Measured (s_line from to enter leave) 86 result }
 {
     four_width(from, to, enter, leave)
 }
 
+#[tactic(auto, using(lines::proofs::Widths::q_length))]
 pub fn q_width(first: u64, last: u64, kw: u64) -> usize
     ensures { Measured (q_line first last kw) 65 result }
 {
@@ -83,6 +93,7 @@ pub fn q_width(first: u64, last: u64, kw: u64) -> usize
         + 5
 }
 
+#[tactic(auto, using(lines::proofs::Widths::e_length))]
 pub fn e_width(level: u64, target: u64, heat: u64, off: u64) -> usize
     ensures { Measured (e_line level target heat off) 86 result }
 {
