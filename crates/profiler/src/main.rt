@@ -11,9 +11,10 @@ use listing::Printed;
 use std::io::{Print, Read, Stdin, Stdout};
 
 // The first n bytes are written; whether all of them were.
-fn put_front(stdout: Stdout, out: &[u8], n: usize) -> bool
-    requires { n ≤ length out.now }
-{
+fn put_front(stdout: Stdout, out: &[u8], n: usize) -> bool {
+    if out.len() < n {
+        return false;
+    }
     stdout.write_all(&out[..n]).is_ok()
 }
 
@@ -24,11 +25,16 @@ pub struct ReadTo {
     pub failed: bool,
 }
 
-// One read, to the place n on; what was read before stays.
+// One read, to the place n on, none where the buffer ends there; what was read before stays.
 fn read_on(stdin: Stdin, buf: &mut [u8], n: usize) -> ReadTo
-    requires { n ≤ length buf.old }
-    ensures { (result.at ≤ length buf.new) × (take n buf.new ≡ take n buf.old) }
+    ensures { n ≤ length buf.old → (result.at ≤ length buf.new) × (take n buf.new ≡ take n buf.old) }
 {
+    if buf.len() <= n {
+        return ReadTo {
+            at: n,
+            failed: false,
+        };
+    }
     let mut input = stdin;
     let part = &mut buf[n..];
     match input.read(part) {
