@@ -1,10 +1,13 @@
 // The quantity of twice an area, and refusal 27.
+#![tactic(auto)]
+
 ghost use Rattle.std.specs.Prelude.{◌≡◌, ◌≤◌};
 ghost use Rattle.level.specs.Numbers.{most_half_hours};
 ghost use Rattle.profile.specs.Profile.{rounded};
 ghost use Rattle.profile_quantity.specs.Summing.{some_above};
 
 // The quantity (kW) of twice an area: "the floor of (that + 108,000)/216,000".
+#[tactic(auto, unfolding(profile::specs::Profile::rounded))]
 pub fn quantity_of(twice: u64) -> u64
     ensures { result ≡ rounded twice }
 {
