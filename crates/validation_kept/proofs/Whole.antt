@@ -15,7 +15,7 @@ use Rattle.level.specs.Numbers.{instruction_places}
 use Rattle.level.specs.Lists.{filled}
 use Rattle.records.specs.declared.Instruction.{Instruction}
 use Rattle.validation.specs.declared.Numbered.{Numbered}
-use Rattle.validation.specs.Kept.{numbered, Mark, superseded, Checked, check, used_from, used, acting, actors, late_marks, turned, kept_of, validated, fate_among, fates_of}
+use Rattle.validation.specs.Kept.{numbered, Mark, superseded, Checked, check, used_from, used, actors, late_marks, turned, kept_of, validated, fate_among, fates_of}
 use Rattle.validation.proofs.Few.{numbered_length, Fated, fated_append, checked_fated, late_fated}
 use Rattle.validation_groups.specs.declared.Sequence.{Sequence}
 use Rattle.validation_kept.specs.declared.Validation.{Validation}

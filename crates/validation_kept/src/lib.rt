@@ -1,4 +1,6 @@
 // Which instructions are kept, steps 1 to 4: over up to forty instructions with their numbers. Steps 1 and 2 are in `validation_groups`.
+#![tactic(auto)]
+
 ghost use Rattle.std.specs.Prelude.{◌≡◌, ℕ, ◌≤◌, List, [], length, take};
 ghost use Rattle.level.specs.Lists.{filled};
 ghost use Rattle.level.specs.Choice.{pick};
@@ -38,6 +40,7 @@ fn first_fate(first: bool, fate: u8, second: bool, other: u8) -> u8
 
 // The fate that step 4 gives one that acts at the time own: 6 where the earliest of those after it acts no later, else 8 where it
 // acts at the day's end or later; 0 where it acts.
+#[tactic(auto, unfolding(crate::specs::Late::late_fate_by))]
 fn late_fate(earliest: u64, own: u64, end: u32) -> u8
     ensures { result ≡ late_fate_by end own earliest }
 {
@@ -184,6 +187,7 @@ fn time_all(
 }
 
 // What comes of no instruction.
+#[tactic(auto, unfolding(level::specs::Lists::filled))]
 fn none_entered() -> Validation
     ensures { result ≡ acting_with (filled instruction_places 0 []) [] }
 {
