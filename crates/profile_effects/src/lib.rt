@@ -1,4 +1,6 @@
 // What an instruction comes to at its acting second, and the course that it begins.
+#![tactic(auto)]
+
 ghost use Rattle.std.specs.Prelude.{◌≡◌, ◌+◌, ◌<◌, ◌^◌, eqb};
 ghost use Rattle.level.specs.Choice.{pick};
 ghost use Rattle.records.specs.declared.UnitData.{UnitData};
@@ -19,6 +21,7 @@ fn unless(idle: bool, g: profile::Setting) -> profile::Outcome
 }
 
 // TRIP: level 0 at that second, target 0.
+#[tactic(auto, unfolding(profile::specs::Effects::outcome_by))]
 fn trip(now: profile::UnderWay, i: records::Instruction, s: profile::State) -> profile::Outcome
     ensures { (u : UnitData) → result ≡ outcome_by u now i s Trip }
 {
@@ -46,6 +49,7 @@ fn mwof_heat(v: u64, before: u32) -> u32
 }
 
 // MWOF(x): target the smaller of x and capacity; from 0 with the cold column.
+#[tactic(auto, unfolding(profile::specs::Effects::outcome_by, profile::specs::Effects::mwof_target))]
 fn mwof(
     u: records::UnitData,
     now: profile::UnderWay,
@@ -70,6 +74,7 @@ fn mwof(
 }
 
 // MXON: target the short-term maximum, ramp-up rate 5 for all five.
+#[tactic(auto, unfolding(profile::specs::Effects::outcome_by))]
 fn mxon(
     u: records::UnitData,
     now: profile::UnderWay,
@@ -93,6 +98,7 @@ fn mxon(
 }
 
 // The heat of a start after so many seconds off.
+#[tactic(auto, using(crate::proofs::Laws::heat_hot, crate::proofs::Laws::heat_warm, crate::proofs::Laws::heat_cold))]
 fn heat_by(u: records::UnitData, off: u32) -> u32
     ensures { result ≡ heat_by u off }
 {
@@ -109,6 +115,7 @@ fn heat_by(u: records::UnitData, off: u32) -> u32
 }
 
 // SYNC: target the larger of its x and MSG, at most capacity; column by seconds off.
+#[tactic(auto, unfolding(profile::specs::Effects::outcome_by, profile::specs::Effects::sync_target))]
 fn sync(
     u: records::UnitData,
     now: profile::UnderWay,
@@ -133,6 +140,7 @@ fn sync(
 }
 
 // MXOF: target that of the last MWOF or SYNC with fate 0, or the opening's; ramp-down rate 1 for all five.
+#[tactic(auto, unfolding(profile::specs::Effects::outcome_by))]
 fn mxof(
     u: records::UnitData,
     now: profile::UnderWay,
@@ -156,6 +164,7 @@ fn mxof(
 }
 
 // DESY: target 0.
+#[tactic(auto, unfolding(profile::specs::Effects::outcome_by))]
 fn desy(now: profile::UnderWay, i: records::Instruction, s: profile::State) -> profile::Outcome
     ensures { (u : UnitData) → result ≡ outcome_by u now i s Desy }
 {
@@ -173,6 +182,7 @@ fn desy(now: profile::UnderWay, i: records::Instruction, s: profile::State) -> p
 }
 
 // What an instruction comes to, read with the state just before.
+#[tactic(auto, unfolding(profile::specs::Effects::outcome_by))]
 pub fn outcome_of(
     u: records::UnitData,
     now: profile::UnderWay,
@@ -198,6 +208,7 @@ pub fn outcome_of(
 // ---- the course that it starts
 
 // "At level 0 with a target above 0 the level goes at once to the smaller of block load and target."
+#[tactic(auto, using(crate::proofs::Laws::step_stays, crate::proofs::Laws::step_no_target, crate::proofs::Laws::step_block, crate::proofs::Laws::step_target))]
 fn step_up(block: u64, target: u64, v: u64) -> u64
     ensures { result ≡ stepped block target v }
 {
@@ -214,6 +225,7 @@ fn step_up(block: u64, target: u64, v: u64) -> u64
 }
 
 // The course (document 01's own term) that a setting makes at a second.
+#[tactic(auto, unfolding(profile::specs::Effects::course_from, level::specs::Level::from_kw))]
 fn course_from(u: records::UnitData, begin: u32, g: profile::Setting) -> course::Course
     ensures { result ≡ course_from u begin g }
 {
@@ -233,6 +245,7 @@ fn course_from(u: records::UnitData, begin: u32, g: profile::Setting) -> course:
 }
 
 // It under way, the unit having been off so many seconds where it began.
+#[tactic(auto, unfolding(profile::specs::Effects::under_way))]
 fn under_way(u: records::UnitData, begin: u32, g: profile::Setting, off: u32) -> profile::UnderWay
     ensures { result ≡ under_way u begin g off }
 {
@@ -246,6 +259,7 @@ fn under_way(u: records::UnitData, begin: u32, g: profile::Setting, off: u32) ->
 }
 
 // The course that the start of a day sets going at 06:00.
+#[tactic(auto, unfolding(profile::specs::Effects::start_course))]
 pub fn start_course(u: records::UnitData, s: profile::Start) -> profile::UnderWay
     ensures { result ≡ start_course u s }
 {
@@ -262,6 +276,7 @@ pub fn start_course(u: records::UnitData, s: profile::Start) -> profile::UnderWa
 }
 
 // The second at which an instruction acts, where it fits.
+#[tactic(auto, unfolding(validation::specs::Kept::acting))]
 pub fn acting_second(o: validation::Numbered) -> u32
     requires { acting o < 2 ^ 32 }
     ensures { result ≡ acting o }
@@ -272,6 +287,7 @@ pub fn acting_second(o: validation::Numbered) -> u32
 }
 
 // The course that an instruction of fate 0 begins at its acting second with what it sets.
+#[tactic(auto, unfolding(profile::specs::Effects::begun))]
 pub fn begin_course(
     u: records::UnitData,
     o: validation::Numbered,
