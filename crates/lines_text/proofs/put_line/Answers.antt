@@ -4,7 +4,8 @@ use Rattle.lines.proofs.Laying.{Laying, Room, lay_letter, over_letter, lay_byte,
 use Rattle.lines_text.proofs.put_line.Goals as goal
 
 -- the next number has room
-room : (vs : List ℕ) (letter i at : ℕ) (o out : List ℕ) → i < length vs → Laying (line letter vs) (line_left vs i) o out at → Room (field (get_or vs i 0)) o out at
+room : (vs : List ℕ) (letter i at : ℕ) (o out : List ℕ) → i < length vs →
+    Laying (line letter vs) (line_left vs i) o out at → Room (field (get_or vs i 0)) o out at
 room vs letter i at o out h l = lay_next (number_next vs i h) l
 
 pub bounds-out-0 : goal.bounds-out-0
@@ -25,8 +26,10 @@ pub put_field-w-requires : goal.put_field-w-requires
 put_field-w-requires c = room_tail (room _ _ _ _ _ _ c.loop-i-test.true c.loop-i.invariant.lines)
 
 pub loop-i-preserved : goal.loop-i-preserved
-loop-i-preserved c =
-    record { within = omega arith; lines = lay_more (number_next c.args.vs.now c.loop-i.i c.loop-i-test.true) c.loop-i.invariant.lines c.put_field-w.ensures }
+loop-i-preserved c = record {
+  within = omega arith;
+  lines = lay_more (number_next c.args.vs.now c.loop-i.i c.loop-i-test.true) c.loop-i.invariant.lines c.put_field-w.ensures;
+}
 
 pub bounds-out-at : goal.bounds-out-at
 bounds-out-at c = omega (arith, lay_next (feed_next c.args.vs.now c.loop-i.i (omega arith)) c.loop-i.invariant.lines)
