@@ -1,4 +1,6 @@
 // The lines of a day, kind by kind: their widths, and their writers into the free tail of the output.
+#![tactic(auto)]
+
 ghost use Rattle.std.specs.Prelude.{◌≡◌, ◌+◌, ◌*◌, ◌-◌, ◌<◌, ◌≤◌, length, take, get_or};
 ghost use Rattle.level.specs.Choice.{pick};
 ghost use Rattle.level.specs.Level.{grains};
@@ -59,6 +61,7 @@ fn piece_width(p: course_walk::Place, q: course_walk::Place) -> usize
 }
 
 // The line of the straight piece from p to q.
+#[tactic(auto, unfolding(crate::specs::Rest::piece_line))]
 fn put_piece(out: &mut [u8], p: course_walk::Place, q: course_walk::Place) -> usize
     requires { length (piece_line p q) ≤ length out.old }
     ensures { Written (piece_line p q) result out.old out.new }
@@ -280,6 +283,7 @@ pub fn closing_width(e: profile::Closing) -> usize
 }
 
 // The line of the closing state.
+#[tactic(auto, unfolding(crate::specs::Rest::closing_line))]
 pub fn put_closing(out: &mut [u8], e: profile::Closing) -> usize
     requires { length (closing_line e) ≤ length out.old }
     ensures { Written (closing_line e) result out.old out.new }

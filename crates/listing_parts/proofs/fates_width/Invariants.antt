@@ -1,0 +1,10 @@
+use Rattle.std.proofs.Common.{◌*◌, ◌-◌}
+use Rattle.lines.proofs.Laying.{UpTo, Measuring}
+use Rattle.listing_parts.proofs.Laws.{fates_left}
+use Rattle.listing_parts.proofs.fates_width.Given as goal
+
+abbrev pub invariant-loop-i : goal.invariant-loop-i
+invariant-loop-i l = UpTo l.i l.n (Measuring (fates_left l.fates l.count 0) (fates_left l.fates l.count l.i) (44 * l.i) l.width)
+
+abbrev pub decreases-loop-i : goal.decreases-loop-i
+decreases-loop-i l = l.n - l.i

@@ -1,0 +1,39 @@
+use Rattle.std.proofs.Common.{◌≡◌, ℕ, ◌+◌, ◌-◌, ◌<◌, List, sym, ap, ◌∙◌, arith}
+use Rattle.profile.specs.Profile.{rounded}
+use Rattle.profile.specs.Finding.{quantity_at}
+use Rattle.profile_quantity.proofs.Above.{quantity_is}
+use Rattle.listing_parts.specs.Rest.{run_end, RunEnds}
+use Rattle.listing_parts.proofs.Laws.{quantity_here, run_on, run_ends, end_none}
+use Rattle.listing_parts.proofs.run_end.Invariants.{Progress}
+use Rattle.listing_parts.proofs.run_end.Goals as goal
+
+-- the run goes on over the half-hour at i; it ends at i
+goes_on_lem : {sums : List ℕ} {kw from end i : ℕ} → i < end → quantity_at sums i ≡ kw → Progress sums kw from end i → Progress sums kw from end (i + 1)
+goes_on_lem {sums = sums} {kw = kw} {from = from} {end = end} {i = i} h e p =
+    let later = p.later in
+    record { later = omega arith; within = omega arith; same = run_on sums i end kw h e ∙ p.same }
+
+ends : {sums : List ℕ} {kw from end i : ℕ} → Progress sums kw from end i → i ≡ run_end (quantity_at sums) kw i (end - i) →
+    RunEnds (quantity_at sums) kw from end i
+ends p e = record { at = e ∙ p.same; later = p.later; within = p.within }
+
+pub loop-i-preserved-then-x-twice : goal.loop-i-preserved-then-x-twice
+loop-i-preserved-then-x-twice c =
+    goes_on_lem c.loop-i-test.true
+    (sym (quantity_is c.args.sums.now c.loop-i.i) ∙ ap rounded (sym c.twice_at-x.ensures ∙ c.if-x-twice.true) ∙ sym c.requires.quantity)
+    c.loop-i.invariant
+
+pub returns-then-quantity_of-kw : goal.returns-then-quantity_of-kw
+returns-then-quantity_of-kw c =
+    let here = quantity_here c.args.sums.now c.loop-i.i _ _ c.twice_at-x.ensures c.quantity_of.ensures in
+    ends c.loop-i.invariant
+    (run_ends c.args.sums.now c.loop-i.i c.args.end c.args.kw c.loop-i-test.true (λ e. c.if-quantity_of-kw.true (here ∙ e)))
+
+pub loop-i-preserved : goal.loop-i-preserved
+loop-i-preserved c =
+    let here = quantity_here c.args.sums.now c.loop-i.i _ _ c.twice_at-x.ensures c.quantity_of.ensures in
+    goes_on_lem c.loop-i-test.true (sym here ∙ c.if-quantity_of-kw.false) c.loop-i.invariant
+
+pub returns : goal.returns
+returns c =
+    ends c.loop-i.invariant (sym (end_none (quantity_at c.args.sums.now) c.args.kw c.loop-i.i (c.args.end - c.loop-i.i) (omega arith)))
