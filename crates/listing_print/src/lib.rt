@@ -1,4 +1,6 @@
 // The listing of a day into a lent slice: measured first, then written.
+#![tactic(auto)]
+
 ghost use Rattle.std.specs.Prelude.{◌≡◌, true, ◌+◌, ◌-◌, ◌<◌, ◌≤◌, length};
 ghost use Rattle.lines.specs.Writing.{Written};
 ghost use Rattle.listing.specs.Listing.{printed_day, list_of, lent_after};
