@@ -17,7 +17,7 @@ use Rattle.course.specs.Course.{Heading, rising, falling, heading, Trajectory, M
 use Rattle.course.specs.Headings.{Past, Short}
 use Rattle.course.proofs.Near.{short_past, gap_some, gap_add, gap_toward, those_length, ahead}
 use Rattle.course.proofs.Ahead.{next_past, next_fewer}
-use Rattle.course.proofs.Rule.{at, segments_more, segments_stuck, segments_none, rule}
+use Rattle.course.proofs.Rule.{segments_more, segments_stuck, segments_none, rule}
 
 -- each rate that the breaks can number is there, and is at least 1
 abbrev pub Runs : Rates → Type 0

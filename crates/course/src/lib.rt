@@ -1,4 +1,5 @@
 // Courses.
+#![tactic(auto)]
 
 // A course (document 01's own term): what the opening or one instruction sets going. It begins at a second of the day,
 // at the level `start` (after any step), and goes to `target` (kW), with the start-up column of `heat`. `up` and `down`
