@@ -42,7 +42,10 @@ fn read_on(stdin: Stdin, buf: &mut [u8], n: usize) -> ReadTo
             at: n + got,
             failed: false,
         },
-        Err(_) => ReadTo { at: n, failed: true },
+        Err(_) => ReadTo {
+            at: n,
+            failed: true,
+        },
     }
 }
 
