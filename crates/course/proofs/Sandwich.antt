@@ -112,10 +112,10 @@ rise_low p h l j =
     omega (arith, mul_min p (q * l.rate) l.way, mul-le-mul_right {m = j - p} {n = q * p} l.rate (omega (arith, split_tick p j, mod-lt j h)))
 
 -- a course's recorded progress at ticks, by its legs
-recordedTick-cons : (p : ℕ) → 0 < p → (l : Segment) (ls : List Segment) (j : ℕ) →
+recorded_tick_cons : (p : ℕ) → 0 < p → (l : Segment) (ls : List Segment) (j : ℕ) →
     recorded_tick p (l ∷ ls) j ≡ between p (rise l) j + recorded_tick p ls (j - (seconds l + l.hold) * p)
 unfolding recorded_tick recorded rise
-recordedTick-cons p h l ls j =
+recorded_tick_cons p h l ls j =
     let s : ℕ = seconds l + l.hold in
     between_add p (rise l) (λ k. recorded ls (k - s)) (rise_up l) (λ k. recorded_mono ls (k - s) (suc k - s) (omega arith)) j
     ∙ ap (λ n. between p (rise l) j + n) (between_later p h (recorded ls) (recorded_zero ls) s j)
@@ -132,7 +132,7 @@ recorded_below_exact p h (l ∷ ls) ok j =
     let b : ℕ = j - (ticks p l + l.hold * p) in
     omega (
       arith,
-      recordedTick-cons p h l ls j,
+      recorded_tick_cons p h l ls j,
       rise_high p h l j,
       recorded_below_exact p h ls ok.1 a,
       exact_mono p ls a b (omega (arith, ticks_low p l ok.0)),
@@ -147,7 +147,7 @@ recorded_above_delayed p h (l ∷ ls) ok j =
     let b : ℕ = j - (seconds l + l.hold) * p in
     omega (
       arith,
-      recordedTick-cons p h l ls j,
+      recorded_tick_cons p h l ls j,
       rise_low p h l j,
       mul-le-mul_right {m = j - n} {n = j - p} l.rate (omega arith),
       recorded_above_delayed p h ls ok.1 b,

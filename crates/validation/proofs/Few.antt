@@ -40,18 +40,18 @@ merged_one g o =
     by_bool (same (effect_of o) Mwof)
     (λ e. rw e (or_else_lem (map (carrying o) carrier) (o ∷ []) (omega (arith, map_length (carrying o) carrier)) (omega arith))) (λ e. rw e (omega arith))
 
-used-one : (g : List Numbered) → length (used_of g) ≤ 1
+used_one : (g : List Numbered) → length (used_of g) ≤ 1
 unfolding used_of
-used-one [] = omega arith
-used-one (o ∷ os) = merged_one (o ∷ os) (highest o os)
+used_one [] = omega arith
+used_one (o ∷ os) = merged_one (o ∷ os) (highest o os)
 
-used-few : (end : ℕ) (os : List Numbered) (n t : ℕ) → length (used_from end os n t) ≤ n
+used_few : (end : ℕ) (os : List Numbered) (n t : ℕ) → length (used_from end os n t) ≤ n
 unfolding used_from
-used-few end os zero t = omega arith
-used-few end os (suc n) t =
+used_few end os zero t = omega arith
+used_few end os (suc n) t =
     let next = next_time end os t in
     by_bool (ltb next end)
-    (λ e. rw (e, used_from) (simp length-append (omega (arith, used-one (group os next), used-few end os n (suc next)))))
+    (λ e. rw (e, used_from) (simp length-append (omega (arith, used_one (group os next), used_few end os n (suc next)))))
     (λ e. rw (e, used_from) (omega arith))
 
 -- ---- kept
@@ -95,7 +95,7 @@ acts_few end os =
       actors_fewer end (turned s.kept []),
       turned_length s.kept [],
       check_all (record { kept = []; marks = [] }) (used_from end os (length os) 0),
-      used-few end os (length os) 0,
+      used_few end os (length os) 0,
     )
 
 -- ---- the fates of marks: 3, 4 and 5 of step 3; 6, 8 and 0 of step 4

@@ -64,9 +64,9 @@ module _ {A : Type 0} (d : A) (f : A → Bool) where
   some_no [] h = refl
   some_no (x ∷ xs) h = rw (h 0 (omega arith)) (some_no xs (λ j l. h (suc j) (omega arith)))
 
-used-alone : (o : Numbered) → o ∷ [] ≡ used_of (o ∷ [])
+used_alone : (o : Numbered) → o ∷ [] ≡ used_of (o ∷ [])
 unfolding used_of highest merged present those
-used-alone o = elim (ℕ_discrete (code_number (effect_of o)) (code_number Mwof)) [
+used_alone o = elim (ℕ_discrete (code_number (effect_of o)) (code_number Mwof)) [
   | no n ↦ simp (ne_eqb _ _ n)
   | yes e ↦
       let s : code_number (effect_of o) ≡ code_number Sync → ⊥ = omega arith in
@@ -95,7 +95,7 @@ module _ (os : List Numbered) (i : ℕ) (h : i < length os) (alone : (j : ℕ) �
       (rw (eq-eqb (time_at os i) (time_at os i) refl, stays)) (λ j l n. rw (ne_eqb (time_at os j) (time_at os i) (alone j l n)))
 
   pub alone_used : get_or os i no_numbered ∷ [] ≡ used_of (group os (time_at os i))
-  alone_used = used-alone (get_or os i no_numbered) ∙ ap used_of (sym group_alone)
+  alone_used = used_alone (get_or os i no_numbered) ∙ ap used_of (sym group_alone)
 
 -- ---- in order
 -- these have these times, which stand in order
