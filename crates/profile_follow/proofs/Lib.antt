@@ -2,3 +2,4 @@ pub mod Walking
 pub mod After
 pub mod Steps
 pub mod Ending
+pub mod Turn

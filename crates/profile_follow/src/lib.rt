@@ -1,5 +1,7 @@
 // The instructions that act, followed along the day from 06:00 to its end: the courses, the fates, twice the area up to each half-hour
 // boundary, and the state at its end.
+#![tactic(auto)]
+
 ghost use Rattle.std.specs.Prelude.{◌≡◌, true, [], ◌∷◌, ◌<◌, ◌≤◌, ◌^◌, take};
 ghost use Rattle.level.specs.Choice.{pick};
 ghost use Rattle.level.specs.Numbers.{most_half_hours};
@@ -49,6 +51,7 @@ pub struct OnCourse {
 }
 
 // A course at its beginning, with its lists and the total up to there.
+#[tactic(auto, unfolding(crate::specs::Following::set_out, course_walk::specs::Walk::beginning))]
 fn set_out(now: profile::UnderWay, l: course_rates::OwnLists, up: bool, total: u64) -> OnCourse
     ensures { result ≡ set_out now l up total }
 {
