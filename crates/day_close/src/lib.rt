@@ -1,5 +1,7 @@
 // What close finds from what was taken: the fates, the courses, twice the area up to each half-hour boundary, the last course and the
 // state at the day's end; the answer to it, and the day closed with it.
+#![tactic(auto)]
+
 ghost use Rattle.std.specs.Prelude.{◌≡◌, ◌≤◌};
 ghost use Rattle.level.specs.Numbers.{instruction_places, most_half_hours};
 ghost use Rattle.profile.specs.Profile.{found, paper};
