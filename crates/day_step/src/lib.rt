@@ -1,5 +1,7 @@
 // Taking the record at the front of the input into a day: a unit, an opening, an instruction by its front (`day_enter`), or
 // close.
+#![tactic(auto)]
+
 ghost use Rattle.std.specs.Prelude.{◌≡◌, get_or};
 ghost use Rattle.profile.specs.Profile.{paper};
 ghost use Rattle.day.specs.Day.{found_in};
