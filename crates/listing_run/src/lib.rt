@@ -1,4 +1,6 @@
 // The end of the records: a close, with the listing of the closed day, and the result of a call.
+#![tactic(auto)]
+
 ghost use Rattle.std.specs.Prelude.{◌≡◌, ◌*◌, ◌<◌, ◌≤◌, length};
 ghost use Rattle.records.specs.declared.Answer.TheVariants.{Accepted};
 ghost use Rattle.records.specs.Answers.{number_of};
@@ -18,6 +20,7 @@ pub fn answer_result(a: Answer) -> u64
 }
 
 // A listing's count or refusal, as the result of a call.
+#[tactic(auto, using(crate::proofs::Results::one_taken, crate::proofs::Results::one_refused))]
 fn listed_result(l: listing::Listed) -> u64
     ensures { result ≡ in_one l.answer l.count }
 {
