@@ -1,4 +1,6 @@
 // The taker of one record: what it returns holds the rest of the caller's slice.
+#![tactic(auto)]
+
 ghost use Rattle.std.specs.Prelude.{◌≡◌, drop};
 ghost use Rattle.day.specs.Step.{step_of};
 ghost use Rattle.day_take.specs.Rest.{rest_after, counted_by};
@@ -24,6 +26,7 @@ pub fn rest_after<'a>(s: Stepped, input: &'a [u8]) -> &'a [u8]
 }
 
 // Taking the record at the front of the input. On a refusal: its number, the same day, the whole slice.
+#[tactic(auto, using(crate::proofs::Laws::rest_is))]
 pub fn take<'a>(day: Day, input: &'a [u8]) -> TakenRest<'a>
     ensures { (result.stepped ≡ step_of day input.now) × (result.rest.now ≡ drop (step_of day input.now).used input.now) }
 {
@@ -59,6 +62,7 @@ fn apart<'a>(t: TakenRest<'a>, input: &'a [u8]) -> Stepped
 }
 
 // `take` for a caller that cuts its slice itself: plain parameters, and what is handed back holds no reference.
+#[tactic(auto, using(crate::proofs::Laws::counted_is))]
 pub fn take_front(day: Day, input: &[u8]) -> Stepped
     ensures { result ≡ step_of day input.now }
 {
