@@ -1,4 +1,6 @@
 // The library for others: records in, the listing out.
+#![tactic(auto)]
+
 ghost use Rattle.std.specs.Prelude.{◌≡◌, ◌<◌};
 ghost use Rattle.listing.specs.Result.{listed_result, listed_lent};
 
