@@ -1,4 +1,6 @@
 // The listing program between reading and writing: an input, and what is printed for it, in a lent slice.
+#![tactic(auto)]
+
 ghost use Rattle.std.specs.Prelude.{◌≡◌};
 ghost use Rattle.lines.specs.Lines.{x_line};
 ghost use Rattle.lines.specs.Writing.{Written};
