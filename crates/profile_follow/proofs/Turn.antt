@@ -1,7 +1,7 @@
 -- One turn of following: the instruction read, the course followed to where it acts, and what comes of it.
 use Rattle.std.proofs.Common.{◌≡◌, ℕ, ◌+◌, ◌*◌, ◌≤◌, ◌<◌, ltb, List, [], ◌∷◌, length, get_or, take, drop, ap, ◌∙◌, subst, arith}
 use Rattle.level.specs.Choice.{pick}
-use Rattle.level.specs.Numbers.{half_hour, instruction_places, course_places}
+use Rattle.level.specs.Numbers.{half_hour, instruction_places}
 use Rattle.level.specs.Bounds.{most_seconds}
 use Rattle.level.proofs.Lists.{left_cons, left_none}
 use Rattle.records.specs.declared.UnitData.{UnitData}
@@ -67,9 +67,6 @@ module _ {u : UnitData} {first : UnderWay} {acts : List Numbered} {n halves : �
 
   pub fate_room : w.acted < n → w.acted < instruction_places
   fate_room lt = omega (arith, lt, can.few)
-
-  pub course_room : w.acted < n → w.started < course_places
-  course_room lt = omega (arith, lt, can.few, v.progress.few)
 
   module _ {t : ℕ} (e : t ≡ pick (ltb w.acted n) (acting act) end) where
     second_there : t ≡ goal

@@ -12,4 +12,6 @@ pub returns-in-4 : goal.returns-in-4
 returns-in-4 c = c.close_step.ensures ∙ close_step (found_in paper) _ _ (omega arith) (omega arith)
 
 pub returns-in_default : goal.returns-in_default
-returns-in_default c = c.refused-in_default.ensures ∙ no_kind (found_in paper) _ _ (omega arith) (no_kinds _ (λ e. omega arith) (λ e. omega arith) (λ e. omega arith) (λ e. omega arith))
+returns-in_default c =
+    c.refused-in_default.ensures
+    ∙ no_kind (found_in paper) _ _ (omega arith) (no_kinds _ (λ e. omega arith) (λ e. omega arith) (λ e. omega arith) (λ e. omega arith))
