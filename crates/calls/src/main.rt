@@ -45,6 +45,7 @@ fn malformed(rt: &HostRuntime, day: Day) -> Turn {
 }
 
 // `A answer number`
+#[tactic(auto, using(lines::proofs::Decimals::line_two, lines::proofs::Decimals::word_width))]
 fn put_answer(rt: &HostRuntime, answer: records::Answer, number: usize) -> bool {
     let n = records_bytes::answer_number(answer);
     let mut line = [0u8; 44];
