@@ -107,6 +107,8 @@ def source(text):
 
 # An edit's texts, in spelling alone: names in snake case, projections tight.
 def projection(m):
+    if re.search(r" [-+*/<≤∷] ", m[1]):
+        return f"({m[1]}.{m[2]})"
     return f"{m[1]}.{m[2]}" if " " not in m[1] else f"({m[1]}).{m[2]}"
 
 

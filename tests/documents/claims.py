@@ -24,7 +24,7 @@ def module_of(path):
 
 
 for path in sorted(CRATES.rglob("*.antt")):
-    if "must-fail" in path.parts or "out" in path.parts:
+    if {"must-fail", "out"} & set(path.relative_to(CRATES).parts):
         continue
     home, record = module_of(path), None
     for line in path.read_text().split("\n"):
@@ -62,7 +62,7 @@ def expect(holds, message):
         failures.append(f"docs/CLAIMS.md: {message}")
 
 
-everything = "\n".join(p.read_text() for p in sorted(CRATES.rglob("*")) if p.suffix in (".rt", ".antt") and "out" not in p.parts)
+everything = "\n".join(p.read_text() for p in sorted(CRATES.rglob("*")) if p.suffix in (".rt", ".antt") and "out" not in p.relative_to(CRATES).parts)
 
 
 def known(name):

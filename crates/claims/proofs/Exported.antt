@@ -123,6 +123,10 @@ run_fits s r made a =
     let k = runs s [] r made in
     (k.closed a, rw k.left at (listing_suffices (calls_for s []) (ap (λ (d : Day). d.closed) k.left ∙ k.closed a)))
 
+pub ran_fits : (s : List ℕ) → (ran_by (found_in paper) s).answer ≡ Accepted →
+    ((ran_by (found_in paper) s).day.closed ≡ true) × (length (printed_day (ran_by (found_in paper) s).day) ≤ suffices)
+ran_fits s a = run_fits s (ran_by (found_in paper) s) refl a
+
 -- ---- what the run gives with the lent slice
 module _ (o : List ℕ) where
   refused_gives : (a : Answer) (d : Day) → 1 ≤ ends_with o a d → (run_result a d o ≡ ends_with o a d * 4294967296) × (lent_run a d o ≡ o)

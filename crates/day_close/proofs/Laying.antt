@@ -291,3 +291,5 @@ module _ (u : UnitData) (now : UnderWay) (os : List Numbered) (few : length os â
       â‰¡ filled instruction_places 0 (fates_of (numbered 1 is) (own ++ (validated end (numbered 1 is)).marks) (numbered 1 is))
   fates_found end is h =
       over_marks (numbered 1 is) is h own (validated end (numbered 1 is)).marks (follow_marks u now os).not_one (marks_not end (numbered 1 is))
+
+pub ruleset overs = (over_none, over_out, over_one, over_set)

@@ -23,6 +23,7 @@ pub struct Fates {
 }
 
 // One fate laid over: a number that none of the first `count` has, and a fate of 1, change nothing.
+#[tactic(auto, using(crate::proofs::Laying::overs), unfolding(crate::specs::Laying::overlaid))]
 fn lay_fate(s: Fates, number: u32, fate: u8) -> Fates
     requires { s.count ≤ instruction_places }
     ensures { result ≡ overlaid s number fate }
@@ -108,6 +109,7 @@ pub struct CloseRead {
 }
 
 // What close finds from what was taken.
+#[tactic(auto, using(crate::proofs::Closed::read_is))]
 pub fn find_close(taken: Taken) -> CloseRead
     ensures { result ≡ close_read taken }
 {

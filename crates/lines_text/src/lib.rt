@@ -69,6 +69,7 @@ fn counted_width(v: u64) -> usize
 }
 
 // How many digits v has: up to nine by comparisons, few of them for the usual widths.
+#[tactic(auto, using(crate::proofs::Digits::widths))]
 pub fn decimal_width(v: u64) -> usize
     ensures { Measured (decimal v) 20 result }
 {

@@ -33,6 +33,7 @@ fn listed_result(l: listing::Listed) -> u64
 
 // The end of the records at one of this kind, none of a unit, an opening and an instruction: a close of what was taken, with the
 // listing of the closed day, or no kind.
+#[tactic(auto, using(crate::proofs::Ended::no_kind_result, crate::proofs::Ended::no_kind_lent))]
 pub fn close_run(taken: profile::Taken, kind: u8, out: &mut [u8]) -> u64
     requires { (ended_by (open_day taken) kind).answer ≡ Accepted → length (printed_day (ended_by (open_day taken) kind).day) ≤ suffices }
     ensures { (result ≡ ran_result (ended_by (open_day taken) kind) out.old) × (out.new ≡ ran_lent (ended_by (open_day taken) kind) out.old) }

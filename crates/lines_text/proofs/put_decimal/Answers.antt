@@ -16,12 +16,6 @@ loop-i-init c =
       to_lay = ap (λ (l : List ℕ). laid l c.args.out.now) (last_all w.result c.args.v w.ensures.count_is);
     }
 
-pub bounds-out-i : goal.bounds-out-i
-bounds-out-i c = omega arith
-
-pub bounds-out-i-in-loop-i : goal.bounds-out-i-in-loop-i
-bounds-out-i-in-loop-i c = simp length-set (omega arith)
-
 pub loop-i-preserved : goal.loop-i-preserved
 loop-i-preserved c =
     let l = c.loop-i in
@@ -31,8 +25,13 @@ loop-i-preserved c =
       to_lay = sym (last_two (l.i - 2) l.left l.out (omega arith)) ∙ digits_left (l.i - 2 + 2) l.i _ _ _ l.invariant.to_lay (omega arith);
     }
 
-pub bounds-out-0 : goal.bounds-out-0
-bounds-out-0 c = omega arith
+pub returns : goal.returns
+unfolding last_digits
+returns c =
+    record {
+      count_is = c.decimal_width-width.ensures.count_is;
+      bytes = digits_left 0 c.loop-i.i _ _ _ c.loop-i.invariant.to_lay (omega arith);
+    }
 
 pub returns-then-i-gt0 : goal.returns-then-i-gt0
 unfolding last_digits
@@ -43,10 +42,11 @@ returns-then-i-gt0 c =
       bytes = sym (last_put 0 l.left l.out (omega arith)) ∙ digits_left 1 l.i _ _ _ l.invariant.to_lay (omega arith);
     }
 
-pub returns : goal.returns
-unfolding last_digits
-returns c =
-    record {
-      count_is = c.decimal_width-width.ensures.count_is;
-      bytes = digits_left 0 c.loop-i.i _ _ _ c.loop-i.invariant.to_lay (omega arith);
-    }
+pub bounds-out-i : goal.bounds-out-i
+bounds-out-i c = omega arith
+
+pub bounds-out-i-in-loop-i : goal.bounds-out-i-in-loop-i
+bounds-out-i-in-loop-i c = simp length-set (omega arith)
+
+pub bounds-out-0 : goal.bounds-out-0
+bounds-out-0 c = omega arith

@@ -1,0 +1,26 @@
+-- A run that ends at a refusal, and at no kind.
+use Rattle.std.proofs.Common.{◌≡◌, ◌*◌, ℕ, List, false, refl, ap, ◌∙◌}
+use Rattle.profile.specs.declared.Taken.{Taken}
+use Rattle.records.specs.declared.Answer.{Answer}
+use Rattle.records.specs.declared.Answer.TheVariants.{Refused}
+use Rattle.records.specs.declared.Refusal.TheVariants.{UnknownKind}
+use Rattle.records.specs.Answers.{accepted, number_of}
+use Rattle.day.specs.declared.Ran.{Ran}
+use Rattle.listing.specs.Result.{ran_result, ran_lent}
+use Rattle.listing_run.specs.Ended.{open_day, ended_by}
+use Rattle.listing_run.proofs.Runs.{end_none}
+use Rattle.listing_run.proofs.Results.{refused_run}
+
+-- a refusal ends the records r of a day with this taken, for a lent slice o
+pub refuses : (t : Taken) (r : Ran) (o : List ℕ) (a : Answer) {n : ℕ} → (record { answer = a; day = open_day t }) ≡ r → accepted a ≡ false →
+    n ≡ number_of a * 4294967296 → (n ≡ ran_result r o) × (o ≡ ran_lent r o)
+refuses t r o a e out q =
+    let f = refused_run a (open_day t) o out in
+    (q ∙ f.0 ∙ ap (λ (r : Ran). ran_result r o) e, f.1 ∙ ap (λ (r : Ran). ran_lent r o) e)
+
+-- no kind
+pub no_kind_result : (t : Taken) (kind : ℕ) (o : List ℕ) (n : ℕ) → (kind ≡ 4 → ⊥) → n ≡ 1 * 4294967296 → n ≡ ran_result (ended_by (open_day t) kind) o
+no_kind_result t kind o n h q = (refuses t _ o (Refused UnknownKind) (end_none _ _ h) refl q).0
+
+pub no_kind_lent : (t : Taken) (kind : ℕ) (o : List ℕ) → (kind ≡ 4 → ⊥) → o ≡ ran_lent (ended_by (open_day t) kind) o
+no_kind_lent t kind o h = (refuses t _ o (Refused UnknownKind) (end_none _ _ h) refl refl).1
