@@ -1,15 +1,13 @@
-use Rattle.std.proofs.Common.{◌≡◌, length, ap, sym, ◌∙◌, arith}
+use Rattle.std.proofs.Common.{length, ap, sym, ◌∙◌, arith}
 use borrow.Author.Tests.{leb-true}
-use Rattle.records.specs.declared.Answer.TheVariants.{Accepted}
 use Rattle.day.specs.declared.Day.{Day}
 use Rattle.day.specs.declared.Ran.{Ran}
-use Rattle.day_close.proofs.Closed.{close_early, close_refused, close_taken_lem}
+use Rattle.day_close.proofs.Closed.{close_early, close_refused}
 use Rattle.listing.specs.declared.Listed.{Listed}
 use Rattle.listing.specs.Listing.{suffices, printed_day}
 use Rattle.listing.specs.Result.{in_one, ran_result, ran_lent}
-use Rattle.listing_run.specs.Ended.{open_day, ended_by}
 use Rattle.listing_run.proofs.Runs.{end_close}
-use Rattle.listing_run.proofs.Ended.{refuses}
+use Rattle.listing_run.proofs.Ended.{refuses, closes}
 use Rattle.listing_run.proofs.close_run.Goals as goal
 
 pub returns-then-not-is_accepted : goal.returns-then-not-is_accepted
@@ -31,14 +29,8 @@ returns-then-not-is_accepted-2 c =
 
 pub list_closed-l-requires : goal.list_closed-l-requires
 list_closed-l-requires c =
-    let r = c.close_front-early in
-    let read = c.find_close-answer in
-    let not_early = sym c.is_accepted.ensures ∙ c.if-not-is_accepted.false in
-    let e : (record { answer = Accepted; day = c.closed_day-closed.result }) ≡ ended_by (open_day c.args.taken) c.args.kind =
-    ap (λ (x : Day). record { answer = Accepted; day = x }) c.closed_day-closed.ensures
-    ∙ end_close _ _ (omega arith) _
-    (close_taken_lem _ r.result r.ensures not_early read.result read.ensures
-    (sym c.is_accepted-2.ensures ∙ c.if-not-is_accepted-2.false)) in (
+    let e = closes c.args.taken c.args.kind (omega arith) _ c.close_front-early.ensures (sym c.is_accepted.ensures ∙ c.if-not-is_accepted.false) _
+    c.find_close-answer.ensures (sym c.is_accepted-2.ensures ∙ c.if-not-is_accepted-2.false) _ c.closed_day-closed.ensures in (
       ap (λ (d : Day). d.closed) c.closed_day-closed.ensures,
       λ f. omega (
         arith,
@@ -51,15 +43,9 @@ list_closed-l-requires c =
 pub returns : goal.returns
 returns c =
     let o = c.args.out.now in
-    let r = c.close_front-early in
-    let read = c.find_close-answer in
-    let not_early = sym c.is_accepted.ensures ∙ c.if-not-is_accepted.false in
-    let e : (record { answer = Accepted; day = c.closed_day-closed.result }) ≡ ended_by (open_day c.args.taken) c.args.kind =
-    ap (λ (x : Day). record { answer = Accepted; day = x }) c.closed_day-closed.ensures
-    ∙ end_close _ _ (omega arith) _
-    (close_taken_lem _ r.result r.ensures not_early read.result read.ensures
-    (sym c.is_accepted-2.ensures ∙ c.if-not-is_accepted-2.false)) in
-    let l = c.list_closed-l in (
+    let l = c.list_closed-l in
+    let e = closes c.args.taken c.args.kind (omega arith) _ c.close_front-early.ensures (sym c.is_accepted.ensures ∙ c.if-not-is_accepted.false) _
+    c.find_close-answer.ensures (sym c.is_accepted-2.ensures ∙ c.if-not-is_accepted-2.false) _ c.closed_day-closed.ensures in (
       c.listed_result.ensures ∙ ap (λ (x : Listed). in_one x.answer x.count) l.ensures.0 ∙ ap (λ (r : Ran). ran_result r o) e,
       l.ensures.1 ∙ ap (λ (r : Ran). ran_lent r o) e,
     )
