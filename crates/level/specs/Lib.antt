@@ -3,3 +3,4 @@ pub mod Lists
 pub mod Level
 pub mod Numbers
 pub mod Bounds
+pub mod Few

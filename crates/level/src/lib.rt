@@ -4,6 +4,10 @@
 ghost use Rattle.std.specs.Prelude.{◌≡◌, min, max};
 ghost use Rattle.level.specs.Level.{from_kw};
 
+mod few;
+
+pub use few::Few;
+
 // ---- numbers that more than one place needs, each said once; `specs/Numbers` has the same
 
 // The seconds of a half-hour.

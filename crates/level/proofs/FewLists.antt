@@ -1,0 +1,29 @@
+-- The first few of some.
+use mathlib.Core.Path.{◌≡◌, refl, sym, ap, ◌∙◌}
+use mathlib.Core.List.{List, [], ◌∷◌, ◌++◌}
+use Prim.Native.Nat.{ℕ, ◌≤◌, min}
+use native.Mathlib.Decide.{dec_le}
+use native.Mathlib.Omega.{arith}
+use lib.ListN.{length, take, drop, take-append-drop, length-take}
+use lib.Seq.{take-take, take_all, drop-append-le}
+use Rattle.std.proofs.lemmas.List.{drop_all}
+use Rattle.level.specs.Few.{Few, first_few}
+
+module _ {T : Type 0} (items : List T) (count n : ℕ) (h : count ≤ length items) where
+  pub first_few_is : (m : ℕ) → m ≡ min count n → (v : Few T) → record { these = take count items; spare = drop count items } ≡ v →
+      record { these = take m items; spare = drop m items } ≡ first_few v n
+  first_few_is m e v q = elim (dec_le n count) [
+    | yes p ↦
+        let k : m ≡ n = omega arith in
+        let low : n ≤ length (take count items) = omega (arith, length-take count items) in
+        let a = sym (take-take n count items p) in
+        let b : drop n items ≡ drop n (take count items) ++ drop count items =
+            ap (drop n) (sym (take-append-drop count items)) ∙ drop-append-le n (take count items) (drop count items) low in
+        rw k ((λ i. record { these = a i; spare = b i }) ∙ ap (λ (u : Few T). first_few u n) q)
+    | no p ↦
+        let k : m ≡ count = omega arith in
+        let all : length (take count items) ≤ n = omega (arith, length-take count items) in
+        let a = sym (take_all n (take count items) all) in
+        let b : drop count items ≡ drop n (take count items) ++ drop count items = rw (drop_all n (take count items) all) in
+        rw k ((λ i. record { these = a i; spare = b i }) ∙ ap (λ (u : Few T). first_few u n) q)
+  ]
