@@ -9,14 +9,16 @@ use lib.ListN.{length}
 use borrow.Author.Tests.{lt-ltb, le-ltb, le-leb, lt-leb, ltb-false, leb-false}
 use Rattle.level.specs.Lists.{those}
 use Rattle.course.specs.Lists.{Lists}
-use Rattle.course.specs.Course.{Heading, rising, falling, in_use, passed, breaks_in_use, triggers, rate_at, candidates, next_stop}
+use Rattle.course.specs.declared.Heading.{Heading}
+use Rattle.course.specs.declared.Heading.TheVariants.{Rising, Falling}
+use Rattle.course.specs.Course.{in_use, passed, breaks_in_use, triggers, rate_at, candidates, next_stop}
 use Rattle.course.specs.Headings.{Past, Short}
 use Rattle.course.proofs.Near.{Every, every_left, every_right, every_those, every_map, those_same, near_past, near_same, near_clear, ahead, near_fewer_all}
 
 -- no break of a list between v and e: the same count is passed
 passed_same : (h : Heading) (v e : ℕ) (bs : List ℕ) → Short h e v → Every (λ b. Past h v b → Past h e b) bs → passed h e bs ≡ passed h v bs
 unfolding passed
-passed_same rising v e bs p c =
+passed_same Rising v e bs p c =
     ap length (those_same (λ b. leb b e) (λ b. leb b v) bs (every_map (λ b. v < b → e < b) (λ b. leb b e ≡ leb b v) same bs c))
   where
     same : (b : ℕ) → (v < b → e < b) → leb b e ≡ leb b v
@@ -24,7 +26,7 @@ passed_same rising v e bs p c =
       | yes r ↦ le-leb b e (omega arith) ∙ sym (le-leb b v r)
       | no r ↦ lt-leb b e (q (omega arith)) ∙ sym (lt-leb b v (omega arith))
     ]
-passed_same falling v e bs p c =
+passed_same Falling v e bs p c =
     ap length (those_same (λ b. ltb b e) (λ b. ltb b v) bs (every_map (λ b. b < v → b < e) (λ b. ltb b e ≡ ltb b v) same bs c))
   where
     same : (b : ℕ) → (b < v → b < e) → ltb b e ≡ ltb b v
@@ -42,8 +44,8 @@ module _ (h : Heading) (l : Lists) (t v e : ℕ) where
 use_same : (h : Heading) (l : Lists) (t v e : ℕ) → Short h e v → Every (λ w. Past h v w → Past h e w) (candidates h l t) →
     (in_use h l e ≡ in_use h l v) × Every (λ b. Past h v b → Past h e b) (in_use h l v).breaks
 unfolding in_use breaks_in_use candidates
-use_same rising l t v e p c =
-    let bs = every_left (λ b. v < b → e < b) (breaks_in_use rising l) _ c.1.1 in
+use_same Rising l t v e p c =
+    let bs = every_left (λ b. v < b → e < b) (breaks_in_use Rising l) _ c.1.1 in
     let below = every_left (λ b. v < b → e < b) (those (λ b. ltb b l.msg) l.column.breaks) _ bs in
     let above = every_right (λ b. v < b → e < b) (those (λ b. ltb b l.msg) l.column.breaks) _ bs in
     elim (dec_le (suc v) l.msg) [
@@ -52,8 +54,8 @@ use_same rising l t v e p c =
       | no q ↦ simp (le-ltb v l.msg (omega arith), le-ltb e l.msg (omega arith))
           (refl, every_those _ (λ b. leb l.msg b) (λ b f g. omega (arith, leb-false l.msg b f)) l.up.breaks above)
     ]
-use_same falling l t v e p c =
-    let bs = every_left (λ b. b < v → b < e) (breaks_in_use falling l) _ c.1.1 in
+use_same Falling l t v e p c =
+    let bs = every_left (λ b. b < v → b < e) (breaks_in_use Falling l) _ c.1.1 in
     let above = every_left (λ b. b < v → b < e) (those (λ b. ltb l.msg b) l.down.breaks) _ bs in
     let below = every_right (λ b. b < v → b < e) (those (λ b. ltb l.msg b) l.down.breaks) _ bs in
     elim (dec_le (suc l.msg) v) [

@@ -10,7 +10,9 @@ use Rattle.course.specs.Exact.{exact, rate_product, ticks_of, exact_at}
 use Rattle.course.proofs.Segments.{exact_top, recorded_top}
 use Rattle.course.proofs.Bound.{bound_of_seconds}
 use Rattle.course.proofs.Product.{product_ok, product_pos}
-use Rattle.course.specs.Course.{Heading, rising, falling, heading, Trajectory, toward, gap, level_at, stops, distance, segments}
+use Rattle.course.specs.declared.Heading.{Heading}
+use Rattle.course.specs.declared.Heading.TheVariants.{Rising, Falling}
+use Rattle.course.specs.Course.{heading, Trajectory, toward, gap, level_at, stops, distance, segments}
 use Rattle.course.proofs.Whole.{Driven, short_start, level_segments, as_many, ways_whole, ways_within, segments_valid}
 
 area_up : (f g : ℕ → ℕ) (s : ℕ) → ((j : ℕ) → g j ≡ s + f j) → (a n : ℕ) → area g a n ≡ 2 * (s * n) + area f a n
@@ -25,12 +27,12 @@ area_down f g s h a (suc n) = omega (arith, h a, h (suc a), area_down f g s h (s
 
 -- two paths moved from s by what r and e say, either way
 bounds : (h : Heading) (s p b : ℕ) (r e v x : ℕ → ℕ) → ((j : ℕ) → v j ≡ toward h s (r j)) → ((j : ℕ) → x j ≡ toward h (s * p) (e j)) →
-    (h ≡ falling → (j : ℕ) → (r j ≤ s) × (e j ≤ s * p)) → (a n : ℕ) →
+    (h ≡ Falling → (j : ℕ) → (r j ≤ s) × (e j ≤ s * p)) → (a n : ℕ) →
     (p * p * area r a n ≤ area e (a * p) (n * p)) × (area e (a * p) (n * p) ≤ p * p * (area r a n + b)) →
     gap (p * p * area v a n) (area x (a * p) (n * p)) ≤ p * p * b
 unfolding toward gap
-bounds rising s p b r e v x hv hx top a n w = omega (arith, ap (λ m. p * p * m) (area_up r v s hv a n), area_up e x (s * p) hx (a * p) (n * p))
-bounds falling s p b r e v x hv hx top a n w =
+bounds Rising s p b r e v x hv hx top a n w = omega (arith, ap (λ m. p * p * m) (area_up r v s hv a n), area_up e x (s * p) hx (a * p) (n * p))
+bounds Falling s p b r e v x hv hx top a n w =
     let m = top refl in
     omega (
       arith,
@@ -39,7 +41,7 @@ bounds falling s p b r e v x hv hx top a n w =
     )
 
 -- a falling course goes no further than its start
-pub fall : (c : Trajectory) → heading c ≡ falling → (p j : ℕ) → (recorded (segments c) j ≤ c.start) × (exact p (segments c) j ≤ c.start * p)
+pub fall : (c : Trajectory) → heading c ≡ Falling → (p j : ℕ) → (recorded (segments c) j ≤ c.start) × (exact p (segments c) j ≤ c.start * p)
 unfolding distance gap
 fall c q p j =
     let t : c.target ≤ c.start = rw q at (short_start c) in

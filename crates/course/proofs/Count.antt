@@ -15,7 +15,9 @@ use Rattle.course.specs.Pieces.{seconds, piece, pieces_of, pieces_in}
 use Rattle.records.specs.declared.Trigger.{Trigger}
 use Rattle.course.specs.declared.Piece.{Piece}
 use Rattle.course.specs.Lists.{Lists}
-use Rattle.course.specs.Course.{Heading, rising, falling, heading, Trajectory, toward, gap, rate_at, triggers, holding, hold_at, stops, segments_of, segments}
+use Rattle.course.specs.declared.Heading.{Heading}
+use Rattle.course.specs.declared.Heading.TheVariants.{Rising, Falling}
+use Rattle.course.specs.Course.{heading, Trajectory, toward, gap, rate_at, triggers, holding, hold_at, stops, segments_of, segments}
 use Rattle.course.specs.Headings.{Short}
 use Rattle.course.proofs.Whole.{Shaped, counting_length, segments_fewer, at_most_thirteen_stops}
 use Rattle.course.proofs.Stops.{Ordered, stops_ordered}
@@ -88,8 +90,8 @@ either_length f g k h (w ∷ ws) = go (f w) (g w) (k w) (h w) (either_length f g
 none_equal : (h : Heading) (x v : ℕ) (ws : List ℕ) → Short h v x → Ordered h v ws → length (those (λ w. eqb x w) ws) ≡ 0
 unfolding those
 none_equal h x v [] s o = refl
-none_equal rising x v (w ∷ ws) s o = rw (ne_eqb x w (λ e. omega (arith, o.0))) (none_equal rising x w ws (omega (arith, o.0)) o.1)
-none_equal falling x v (w ∷ ws) s o = rw (ne_eqb x w (λ e. omega (arith, o.0))) (none_equal falling x w ws (omega (arith, o.0)) o.1)
+none_equal Rising x v (w ∷ ws) s o = rw (ne_eqb x w (λ e. omega (arith, o.0))) (none_equal Rising x w ws (omega (arith, o.0)) o.1)
+none_equal Falling x v (w ∷ ws) s o = rw (ne_eqb x w (λ e. omega (arith, o.0))) (none_equal Falling x w ws (omega (arith, o.0)) o.1)
 
 one_equal : (h : Heading) (x v : ℕ) (ws : List ℕ) → Ordered h v ws → length (those (λ w. eqb x w) ws) ≤ 1
 unfolding those
@@ -100,8 +102,8 @@ one_equal h x v (w ∷ ws) o = elim (ℕ_discrete x w) [
 ]
   where
     itself : (h : Heading) → x ≡ w → Short h w x
-    itself rising e = omega arith
-    itself falling e = omega arith
+    itself Rising e = omega arith
+    itself Falling e = omega arith
 
 nothing : (ws : List ℕ) → length (those (λ w. ltb 0 0) ws) ≡ 0
 unfolding those
@@ -156,7 +158,7 @@ module _ (h : Heading) (l : Lists) (t : ℕ) where
 
 triggers_five : (h : Heading) (l : Lists) → Shaped l → length (triggers h l) ≤ 5
 unfolding triggers
-triggers_five rising l s =
+triggers_five Rising l s =
     simp length-append (omega (
       arith,
       counting_length (λ v. ltb v l.msg) l.soaks,
@@ -164,7 +166,7 @@ triggers_five rising l s =
       s.soaks,
       s.dwells,
     ))
-triggers_five falling l s = omega (arith, counting_length (λ v. leb l.msg v) l.dwells, s.dwells)
+triggers_five Falling l s = omega (arith, counting_length (λ v. leb l.msg v) l.dwells, s.dwells)
 
 pub at_most_thirty_two_pieces : (c : Trajectory) → Shaped c.lists → (a n : ℕ) → length (pieces_in c a n) ≤ 32
 unfolding pieces_in segments

@@ -11,7 +11,9 @@ use Rattle.course.specs.Recorded.{SegmentOk, Ok, area}
 use Rattle.course.specs.Exact.{ticks, exact, exact_at, cut, cuts}
 use Rattle.course.proofs.Sums.{area_split, area_line}
 use Rattle.course.proofs.Segments.{ticks_rate, exact_zero}
-use Rattle.course.specs.Course.{Heading, rising, falling, heading, Trajectory, toward, segments}
+use Rattle.course.specs.declared.Heading.{Heading}
+use Rattle.course.specs.declared.Heading.TheVariants.{Rising, Falling}
+use Rattle.course.specs.Course.{heading, Trajectory, toward, segments}
 use Rattle.course.proofs.Bounds.{fall, area_down}
 
 -- twice the area from the tick lo to the tick hi
@@ -143,11 +145,11 @@ module _ (c : Trajectory) (p : ℕ) (ok : Ok p (segments c)) (lo hi : ℕ) (le :
   -- the exact level moves from the start by what the segments say
   window_by : (h : Heading) → heading c ≡ h → cuts p (exact_at p c) 0 (segments c) lo hi ≡ area (exact_at p c) lo (hi - lo)
   unfolding exact_at toward
-  window_by rising e =
+  window_by Rising e =
       cuts_span p (exact_at p c) lo hi le (segments c) ok 0 (c.start * p)
       (λ j. ap (exact_at p c) (zero-add j) ∙ ap (λ (h : Heading). toward h (c.start * p) (exact p (segments c) j)) e)
       ∙ ap (λ k. span (exact_at p c) k hi) none
-  window_by falling e =
+  window_by Falling e =
       let g : ℕ → ℕ = exact p (segments c) in
       let s : ℕ = c.start * p in
       let down : (j : ℕ) → exact_at p c j ≡ s - g j = λ j. ap (λ (h : Heading). toward h s (g j)) e in

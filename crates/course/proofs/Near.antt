@@ -11,70 +11,72 @@ use lib.ListN.{length}
 use borrow.Author.Tests.{lt-ltb, le-ltb}
 use Rattle.level.specs.Choice.{pick}
 use Rattle.level.specs.Lists.{those}
-use Rattle.course.specs.Course.{Heading, rising, falling, toward, gap, nearest}
+use Rattle.course.specs.declared.Heading.{Heading}
+use Rattle.course.specs.declared.Heading.TheVariants.{Rising, Falling}
+use Rattle.course.specs.Course.{toward, gap, nearest}
 use Rattle.course.specs.Headings.{Past, Short, past}
 
 pub past_yes : (h : Heading) (v w : ℕ) → Past h v w → past h v w ≡ true
-past_yes rising v w p = lt-ltb v w p
-past_yes falling v w p = lt-ltb w v p
+past_yes Rising v w p = lt-ltb v w p
+past_yes Falling v w p = lt-ltb w v p
 
 pub past_no : (h : Heading) (v w : ℕ) → Short h v w → past h v w ≡ false
-past_no rising v w p = le-ltb v w p
-past_no falling v w p = le-ltb w v p
+past_no Rising v w p = le-ltb v w p
+past_no Falling v w p = le-ltb w v p
 
 pub past_short : (h : Heading) (v w : ℕ) → Past h v w → Short h w v
-past_short rising v w p = omega arith
-past_short falling v w p = omega arith
+past_short Rising v w p = omega arith
+past_short Falling v w p = omega arith
 
 pub short_refl : (h : Heading) (v : ℕ) → Short h v v
-short_refl rising v = le_refl v
-short_refl falling v = le_refl v
+short_refl Rising v = le_refl v
+short_refl Falling v = le_refl v
 
 pub short_past : (h : Heading) (t v : ℕ) → Short h t v → v ≢ t → Past h v t
-short_past rising t v p q = elim (dec_le t v) [ yes r ↦ absurd (q (omega arith)) | no r ↦ omega arith ]
-short_past falling t v p q = elim (dec_le v t) [ yes r ↦ absurd (q (omega arith)) | no r ↦ omega arith ]
+short_past Rising t v p q = elim (dec_le t v) [ yes r ↦ absurd (q (omega arith)) | no r ↦ omega arith ]
+short_past Falling t v p q = elim (dec_le v t) [ yes r ↦ absurd (q (omega arith)) | no r ↦ omega arith ]
 
 pub past_on : (h : Heading) (v w t : ℕ) → Past h v w → Short h t w → Past h v t
-past_on rising v w t p q = omega arith
-past_on falling v w t p q = omega arith
+past_on Rising v w t p q = omega arith
+past_on Falling v w t p q = omega arith
 
 -- on the way from v to w
 module _ (v w : ℕ) where
   pub gap_some : (h : Heading) → Past h v w → 1 ≤ gap v w
   unfolding gap
-  gap_some rising p = omega arith
-  gap_some falling p = omega arith
+  gap_some Rising p = omega arith
+  gap_some Falling p = omega arith
 
   pub gap_to : (h : Heading) → Past h v w → toward h v (gap v w) ≡ w
   unfolding gap toward
-  gap_to rising p = omega arith
-  gap_to falling p = omega arith
+  gap_to Rising p = omega arith
+  gap_to Falling p = omega arith
 
   pub gap_left : (h : Heading) (m : ℕ) → Past h v w → m < gap v w →
       Past h (toward h v m) w × Short h (toward h v m) v × (gap (toward h v m) w ≡ gap v w - m)
   unfolding gap toward
-  gap_left rising m p q = omega arith
-  gap_left falling m p q = omega arith
+  gap_left Rising m p q = omega arith
+  gap_left Falling m p q = omega arith
 
   pub gap_add : (h : Heading) (t : ℕ) → Past h v w → Short h t w → gap v w + gap w t ≡ gap v t
   unfolding gap
-  gap_add rising t p q = omega arith
-  gap_add falling t p q = omega arith
+  gap_add Rising t p q = omega arith
+  gap_add Falling t p q = omega arith
 
 pub toward_add : (h : Heading) (v a b : ℕ) → toward h (toward h v a) b ≡ toward h v (a + b)
 unfolding toward
-toward_add rising v a b = omega arith
-toward_add falling v a b = omega arith
+toward_add Rising v a b = omega arith
+toward_add Falling v a b = omega arith
 
 pub toward_zero : (h : Heading) (v : ℕ) → toward h v 0 ≡ v
 unfolding toward
-toward_zero rising v = omega arith
-toward_zero falling v = omega arith
+toward_zero Rising v = omega arith
+toward_zero Falling v = omega arith
 
 pub gap_toward : (h : Heading) (v m : ℕ) → gap v (toward h v m) ≤ m
 unfolding gap toward
-gap_toward rising v m = omega arith
-gap_toward falling v m = omega arith
+gap_toward Rising v m = omega arith
+gap_toward Falling v m = omega arith
 
 -- every level of a list
 abbrev pub Every : (ℕ → Type 0) → List ℕ → Type 0
@@ -119,64 +121,64 @@ every_map P Q f (v ∷ vs) e = (f v e.0, every_map P Q f vs e.1)
 
 -- the clauses of nearest
 module _ (v t w : ℕ) (ws : List ℕ) where
-  pub up_take : v < w → nearest rising v t (w ∷ ws) ≡ min w (nearest rising v t ws)
+  pub up_take : v < w → nearest Rising v t (w ∷ ws) ≡ min w (nearest Rising v t ws)
   unfolding nearest
   up_take p = simp (lt-ltb v w p)
 
-  pub up_skip : w ≤ v → nearest rising v t (w ∷ ws) ≡ nearest rising v t ws
+  pub up_skip : w ≤ v → nearest Rising v t (w ∷ ws) ≡ nearest Rising v t ws
   unfolding nearest
   up_skip p = simp (le-ltb v w p)
 
-  pub down_take : w < v → nearest falling v t (w ∷ ws) ≡ max w (nearest falling v t ws)
+  pub down_take : w < v → nearest Falling v t (w ∷ ws) ≡ max w (nearest Falling v t ws)
   unfolding nearest
   down_take p = simp (lt-ltb w v p)
 
-  pub down_skip : v ≤ w → nearest falling v t (w ∷ ws) ≡ nearest falling v t ws
+  pub down_skip : v ≤ w → nearest Falling v t (w ∷ ws) ≡ nearest Falling v t ws
   unfolding nearest
   down_skip p = simp (le-ltb w v p)
 
 -- it lies past v, and not past t
 pub near_past : (h : Heading) (v t : ℕ) (ws : List ℕ) → Past h v t → Past h v (nearest h v t ws) × Short h t (nearest h v t ws)
 unfolding nearest
-near_past rising v t [] p = (p, le_refl t)
-near_past rising v t (w ∷ ws) p =
-    let ih = near_past rising v t ws p in
+near_past Rising v t [] p = (p, le_refl t)
+near_past Rising v t (w ∷ ws) p =
+    let ih = near_past Rising v t ws p in
     elim (dec_le (suc v) w) [ yes q ↦ omega (arith, up_take v t w ws q) | no q ↦ omega (arith, up_skip v t w ws (omega arith)) ]
-near_past falling v t [] p = (p, le_refl t)
-near_past falling v t (w ∷ ws) p =
-    let ih = near_past falling v t ws p in
+near_past Falling v t [] p = (p, le_refl t)
+near_past Falling v t (w ∷ ws) p =
+    let ih = near_past Falling v t ws p in
     elim (dec_le (suc w) v) [ yes q ↦ omega (arith, down_take v t w ws q) | no q ↦ omega (arith, down_skip v t w ws (omega arith)) ]
 
 -- from anywhere short of it, it is the same
 pub near_same : (h : Heading) (v e t : ℕ) (ws : List ℕ) → Short h e v → Past h e (nearest h v t ws) → nearest h e t ws ≡ nearest h v t ws
 unfolding nearest
-near_same rising v e t [] p q = refl
-near_same rising v e t (w ∷ ws) p q =
+near_same Rising v e t [] p q = refl
+near_same Rising v e t (w ∷ ws) p q =
     elim (dec_le (suc v) w) [
-      | yes y ↦ let u = up_take v t w ws y in omega (arith, up_take e t w ws (omega arith), near_same rising v e t ws p (omega arith))
-      | no n ↦ let u = up_skip v t w ws (omega arith) in omega (arith, up_skip e t w ws (omega arith), near_same rising v e t ws p (omega arith))
+      | yes y ↦ let u = up_take v t w ws y in omega (arith, up_take e t w ws (omega arith), near_same Rising v e t ws p (omega arith))
+      | no n ↦ let u = up_skip v t w ws (omega arith) in omega (arith, up_skip e t w ws (omega arith), near_same Rising v e t ws p (omega arith))
     ]
-near_same falling v e t [] p q = refl
-near_same falling v e t (w ∷ ws) p q =
+near_same Falling v e t [] p q = refl
+near_same Falling v e t (w ∷ ws) p q =
     elim (dec_le (suc w) v) [
-      | yes y ↦ let u = down_take v t w ws y in omega (arith, down_take e t w ws (omega arith), near_same falling v e t ws p (omega arith))
-      | no n ↦ let u = down_skip v t w ws (omega arith) in omega (arith, down_skip e t w ws (omega arith), near_same falling v e t ws p (omega arith))
+      | yes y ↦ let u = down_take v t w ws y in omega (arith, down_take e t w ws (omega arith), near_same Falling v e t ws p (omega arith))
+      | no n ↦ let u = down_skip v t w ws (omega arith) in omega (arith, down_skip e t w ws (omega arith), near_same Falling v e t ws p (omega arith))
     ]
 
 -- none of the levels lies between
 pub near_clear : (h : Heading) (v e t : ℕ) (ws : List ℕ) → Past h e (nearest h v t ws) → Every (λ w. Past h v w → Past h e w) ws
 unfolding nearest
-near_clear rising v e t [] q = tt
-near_clear rising v e t (w ∷ ws) q =
+near_clear Rising v e t [] q = tt
+near_clear Rising v e t (w ∷ ws) q =
     elim (dec_le (suc v) w) [
-      | yes y ↦ let u = up_take v t w ws y in (λ p. omega arith, near_clear rising v e t ws (omega arith))
-      | no n ↦ let u = up_skip v t w ws (omega arith) in (λ p. omega arith, near_clear rising v e t ws (omega arith))
+      | yes y ↦ let u = up_take v t w ws y in (λ p. omega arith, near_clear Rising v e t ws (omega arith))
+      | no n ↦ let u = up_skip v t w ws (omega arith) in (λ p. omega arith, near_clear Rising v e t ws (omega arith))
     ]
-near_clear falling v e t [] q = tt
-near_clear falling v e t (w ∷ ws) q =
+near_clear Falling v e t [] q = tt
+near_clear Falling v e t (w ∷ ws) q =
     elim (dec_le (suc w) v) [
-      | yes y ↦ let u = down_take v t w ws y in (λ p. omega arith, near_clear falling v e t ws (omega arith))
-      | no n ↦ let u = down_skip v t w ws (omega arith) in (λ p. omega arith, near_clear falling v e t ws (omega arith))
+      | yes y ↦ let u = down_take v t w ws y in (λ p. omega arith, near_clear Falling v e t ws (omega arith))
+      | no n ↦ let u = down_skip v t w ws (omega arith) in (λ p. omega arith, near_clear Falling v e t ws (omega arith))
     ]
 
 -- the number of levels past v
@@ -195,51 +197,51 @@ ahead_no h v w ws p = rw (past_no h v w p)
 pub ahead_le : (h : Heading) (v e : ℕ) (ws : List ℕ) → Short h e v → ahead h e ws ≤ ahead h v ws
 unfolding ahead those
 ahead_le h v e [] p = le_refl 0
-ahead_le rising v e (w ∷ ws) p =
-    let ih = ahead_le rising v e ws p in
+ahead_le Rising v e (w ∷ ws) p =
+    let ih = ahead_le Rising v e ws p in
     elim (dec_le (suc e) w) [
-      | yes q ↦ omega (arith, ahead_yes rising e w ws q, ahead_yes rising v w ws (omega arith))
+      | yes q ↦ omega (arith, ahead_yes Rising e w ws q, ahead_yes Rising v w ws (omega arith))
       | no q ↦ elim (dec_le (suc v) w) [
-        | yes r ↦ omega (arith, ahead_no rising e w ws (omega arith), ahead_yes rising v w ws r)
-        | no r ↦ omega (arith, ahead_no rising e w ws (omega arith), ahead_no rising v w ws (omega arith))
+        | yes r ↦ omega (arith, ahead_no Rising e w ws (omega arith), ahead_yes Rising v w ws r)
+        | no r ↦ omega (arith, ahead_no Rising e w ws (omega arith), ahead_no Rising v w ws (omega arith))
       ]
     ]
-ahead_le falling v e (w ∷ ws) p =
-    let ih = ahead_le falling v e ws p in
+ahead_le Falling v e (w ∷ ws) p =
+    let ih = ahead_le Falling v e ws p in
     elim (dec_le (suc w) e) [
-      | yes q ↦ omega (arith, ahead_yes falling e w ws q, ahead_yes falling v w ws (omega arith))
+      | yes q ↦ omega (arith, ahead_yes Falling e w ws q, ahead_yes Falling v w ws (omega arith))
       | no q ↦ elim (dec_le (suc w) v) [
-        | yes r ↦ omega (arith, ahead_no falling e w ws (omega arith), ahead_yes falling v w ws r)
-        | no r ↦ omega (arith, ahead_no falling e w ws (omega arith), ahead_no falling v w ws (omega arith))
+        | yes r ↦ omega (arith, ahead_no Falling e w ws (omega arith), ahead_yes Falling v w ws r)
+        | no r ↦ omega (arith, ahead_no Falling e w ws (omega arith), ahead_no Falling v w ws (omega arith))
       ]
     ]
 
 -- from the nearest on there are fewer, unless it is t
 pub near_fewer : (h : Heading) (v t : ℕ) (ws : List ℕ) (m : ℕ) → nearest h v t ws ≡ m → Past h v t → m ≢ t → ahead h m ws < ahead h v ws
 unfolding nearest
-near_fewer rising v t [] m e p q = absurd (q (sym e))
-near_fewer rising v t (w ∷ ws) m e p q =
-    let go = near_past rising v t ws p in
+near_fewer Rising v t [] m e p q = absurd (q (sym e))
+near_fewer Rising v t (w ∷ ws) m e p q =
+    let go = near_past Rising v t ws p in
     elim (dec_le (suc v) w) [
       | yes y ↦ let u = up_take v t w ws y in
-          elim (dec_le w (nearest rising v t ws)) [
-            | yes z ↦ omega (arith, ahead_no rising m w ws (omega arith), ahead_yes rising v w ws y, ahead_le rising v m ws (omega arith))
-            | no z ↦ omega (arith, ahead_yes rising m w ws (omega arith), ahead_yes rising v w ws y, near_fewer rising v t ws m (omega arith) p q)
+          elim (dec_le w (nearest Rising v t ws)) [
+            | yes z ↦ omega (arith, ahead_no Rising m w ws (omega arith), ahead_yes Rising v w ws y, ahead_le Rising v m ws (omega arith))
+            | no z ↦ omega (arith, ahead_yes Rising m w ws (omega arith), ahead_yes Rising v w ws y, near_fewer Rising v t ws m (omega arith) p q)
           ]
       | no y ↦ let u = up_skip v t w ws (omega arith) in
-          omega (arith, ahead_no rising m w ws (omega arith), ahead_no rising v w ws (omega arith), near_fewer rising v t ws m (omega arith) p q)
+          omega (arith, ahead_no Rising m w ws (omega arith), ahead_no Rising v w ws (omega arith), near_fewer Rising v t ws m (omega arith) p q)
     ]
-near_fewer falling v t [] m e p q = absurd (q (sym e))
-near_fewer falling v t (w ∷ ws) m e p q =
-    let go = near_past falling v t ws p in
+near_fewer Falling v t [] m e p q = absurd (q (sym e))
+near_fewer Falling v t (w ∷ ws) m e p q =
+    let go = near_past Falling v t ws p in
     elim (dec_le (suc w) v) [
       | yes y ↦ let u = down_take v t w ws y in
-          elim (dec_le (nearest falling v t ws) w) [
-            | yes z ↦ omega (arith, ahead_no falling m w ws (omega arith), ahead_yes falling v w ws y, ahead_le falling v m ws (omega arith))
-            | no z ↦ omega (arith, ahead_yes falling m w ws (omega arith), ahead_yes falling v w ws y, near_fewer falling v t ws m (omega arith) p q)
+          elim (dec_le (nearest Falling v t ws) w) [
+            | yes z ↦ omega (arith, ahead_no Falling m w ws (omega arith), ahead_yes Falling v w ws y, ahead_le Falling v m ws (omega arith))
+            | no z ↦ omega (arith, ahead_yes Falling m w ws (omega arith), ahead_yes Falling v w ws y, near_fewer Falling v t ws m (omega arith) p q)
           ]
       | no y ↦ let u = down_skip v t w ws (omega arith) in
-          omega (arith, ahead_no falling m w ws (omega arith), ahead_no falling v w ws (omega arith), near_fewer falling v t ws m (omega arith) p q)
+          omega (arith, ahead_no Falling m w ws (omega arith), ahead_no Falling v w ws (omega arith), near_fewer Falling v t ws m (omega arith) p q)
     ]
 
 pub near_fewer_all : (h : Heading) (v t : ℕ) (ws : List ℕ) (m : ℕ) → nearest h v t (t ∷ ws) ≡ m → Past h v t → ahead h m (t ∷ ws) < ahead h v (t ∷ ws)

@@ -14,7 +14,8 @@ use Rattle.course.specs.declared.Segment.{Segment}
 use Rattle.course.specs.declared.Piece.{Piece}
 use Rattle.course.specs.Recorded.{SegmentValid}
 use Rattle.course.specs.Lists.{Lists}
-use Rattle.course.specs.Course.{Heading, heading, Trajectory, toward, gap, rate_at, candidates, next_stop, hold_at, after, second, stops_from, segments_of, moment_at, segments, stops}
+use Rattle.course.specs.declared.Heading.{Heading}
+use Rattle.course.specs.Course.{heading, Trajectory, toward, gap, rate_at, candidates, next_stop, hold_at, after, second, stops_from, segments_of, moment_at, segments, stops}
 use Rattle.course.specs.Pieces.{seconds, piece, pieces_of, pieces_in, Part, part_from, part_on, same_part, part_changes}
 use Rattle.course.specs.Headings.{Past, Short}
 use Rattle.course.proofs.Near.{short_past, gap_some, ahead}

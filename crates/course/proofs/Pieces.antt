@@ -12,7 +12,9 @@ use Rattle.course.specs.Recorded.{SegmentValid, Valid, recorded, area, whole_way
 use Rattle.course.specs.Pieces.{seconds, piece, pieces_of, pieces_in}
 use Rattle.course.proofs.Sums.{sum_eq, area_split, area_line}
 use Rattle.course.proofs.Segments.{recorded_zero, seconds_low}
-use Rattle.course.specs.Course.{Heading, rising, falling, heading, Trajectory, toward, gap, level_at, distance, segments}
+use Rattle.course.specs.declared.Heading.{Heading}
+use Rattle.course.specs.declared.Heading.TheVariants.{Rising, Falling}
+use Rattle.course.specs.Course.{heading, Trajectory, toward, gap, level_at, distance, segments}
 use Rattle.course.specs.declared.Piece.{Piece}
 use Rattle.course.proofs.Near.{toward_add, toward_zero}
 use Rattle.course.proofs.Whole.{short_start, level_segments, ways_within, segments_valid}
@@ -35,22 +37,22 @@ traces_append h f a b n (p ∷ ps) qs e t = (e.0, e.1, e.2, traces_append h f p.
 
 -- room to fall
 abbrev pub Room : Heading → ℕ → ℕ → Type 0
-Room rising v m = Unit {0}
-Room falling v m = m ≤ v
+Room Rising v m = Unit {0}
+Room Falling v m = m ≤ v
 
 pub room_less : (h : Heading) (v m n : ℕ) → m ≤ n → Room h v n → Room h v m
-room_less rising v m n p r = tt
-room_less falling v m n p r = omega arith
+room_less Rising v m n p r = tt
+room_less Falling v m n p r = omega arith
 
 pub room_on : (h : Heading) (v m n : ℕ) → Room h v (m + n) → Room h (toward h v m) n
 unfolding toward
-room_on rising v m n r = tt
-room_on falling v m n r = omega arith
+room_on Rising v m n r = tt
+room_on Falling v m n r = omega arith
 
 along_of : (h : Heading) (v m n u w : ℕ) → Room h v (m + n) → u ≡ toward h v m → w ≡ toward h v (m + n) → Along h u n w
 unfolding toward
-along_of rising v m n u w r p q = omega arith
-along_of falling v m n u w r p q = omega arith
+along_of Rising v m n u w r p q = omega arith
+along_of Falling v m n u w r p q = omega arith
 
 -- from x to y by one rate, the path moving from v by m up to k
 module _ (h : Heading) (f : ℕ → ℕ) (v x y m k r u w : ℕ) where
@@ -219,11 +221,11 @@ line_down f a v r (suc n) h =
 -- twice the area under the path is that of the pieces
 area_of : (h : Heading) (f : ℕ → ℕ) (p : Piece) → Line h f p → p.from ≤ p.to →
     area f p.from (p.to - p.from) ≡ (p.to - p.from) * (p.enter + p.leave)
-area_of rising f p w le =
+area_of Rising f p w le =
     let m : ℕ = p.to - p.from in
     let e : p.leave ≡ p.enter + m * w.rate = w.ends ∙ ap f {x = p.to} {y = p.from + m} (omega arith) ∙ w.along m (le_refl m) in
     line_up f p.from p.enter w.rate m w.along ∙ ap (λ x. m * (p.enter + x)) (sym e)
-area_of falling f p w le =
+area_of Falling f p w le =
     let m : ℕ = p.to - p.from in
     let e : p.leave + m * w.rate ≡ p.enter =
     ap (λ x. x + m * w.rate) (w.ends ∙ ap f {x = p.to} {y = p.from + m} (omega arith)) ∙ w.along m (le_refl m) in
@@ -247,8 +249,8 @@ traces_area h f a n (p ∷ ps) e =
 module _ (c : Trajectory) where
   pub falls : (h : Heading) → heading c ≡ h → Room h c.start (whole_way (segments c))
   unfolding distance gap
-  falls rising q = tt
-  falls falling q = let t : c.target ≤ c.start = rw q at (short_start c) in omega (arith, ways_within c)
+  falls Rising q = tt
+  falls Falling q = let t : c.target ≤ c.start = rw q at (short_start c) in omega (arith, ways_within c)
 
   -- a course that begins at the second a: its pieces follow each other from a to n, none is empty, and each is the second-by-second level
   pub pieces_trace : (a n : ℕ) → a ≤ n → Traces (heading c) (λ k. level_at c (k - a)) a n (pieces_in c a n)
@@ -278,7 +280,7 @@ module _ (f : ℕ → ℕ) (p : Piece) (x y : ℕ) (a : p.from ≤ x) (b : x ≤
   moved_on k = omega arith
 
   cut_line : (h : Heading) → Line h f p → Line h f (record { from = x; to = y; enter = f x; leave = f y })
-  cut_line rising l = record {
+  cut_line Rising l = record {
     rate = l.rate;
     along =
         λ i q. omega (
@@ -291,7 +293,7 @@ module _ (f : ℕ → ℕ) (p : Piece) (x y : ℕ) (a : p.from ≤ x) (b : x ≤
         );
     ends = refl;
   }
-  cut_line falling l = record {
+  cut_line Falling l = record {
     rate = l.rate;
     along =
         λ i q. omega (

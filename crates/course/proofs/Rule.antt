@@ -11,7 +11,9 @@ use Rattle.course.specs.Pieces.{seconds}
 use Rattle.course.specs.Recorded.{recorded}
 use Rattle.course.proofs.Segments.{recorded_zero}
 use Rattle.course.specs.Lists.{Lists}
-use Rattle.course.specs.Course.{Heading, rising, falling, Moment, toward, gap, rate_at, candidates, next_stop, hold_at, arrived, second, after, stops_from, segments_of}
+use Rattle.course.specs.declared.Heading.{Heading}
+use Rattle.course.specs.declared.Heading.TheVariants.{Rising, Falling}
+use Rattle.course.specs.Course.{Moment, toward, gap, rate_at, candidates, next_stop, hold_at, arrived, second, after, stops_from, segments_of}
 use Rattle.course.specs.Headings.{Past, Short}
 use Rattle.course.proofs.Near.{past_short, short_past, past_on, gap_some, gap_to, gap_left, toward_add, toward_zero, ahead, ahead_le}
 use Rattle.course.proofs.Ahead.{rate_same, next_same, next_past, next_fewer}
@@ -20,8 +22,8 @@ abbrev pub at : ℕ → ℕ → Moment
 at v n = record { level = v; left = n }
 
 pub past_not : (h : Heading) (v t : ℕ) → Past h v t → v ≡ t → ⊥
-past_not rising v t p e = omega arith
-past_not falling v t p e = omega arith
+past_not Rising v t p e = omega arith
+past_not Falling v t p e = omega arith
 
 least_left : (a b : ℕ) → a ≤ b → min a b ≡ a
 least_left a b h = omega arith

@@ -7,7 +7,8 @@ use lib.Dec.{eqb}
 use borrow.Author.Tests.{lt-ltb, eq-eqb, ne_eqb}
 use Rattle.level.specs.Choice.{pick}
 use Rattle.course.specs.Lists.{Lists}
-use Rattle.course.specs.Course.{Heading, Moment, toward, gap, rate_at, next_stop, hold_at, second, after}
+use Rattle.course.specs.declared.Heading.{Heading}
+use Rattle.course.specs.Course.{Moment, toward, gap, rate_at, next_stop, hold_at, second, after}
 use Rattle.course.specs.Headings.{Past}
 use Rattle.course.proofs.Near.{past_on, gap_some, gap_to, gap_left, toward_add, toward_zero}
 use Rattle.course.proofs.Ahead.{rate_same, next_same, next_past}

@@ -7,7 +7,9 @@ use native.Mathlib.Decide.{dec_le, ℕ_discrete}
 use native.Mathlib.Omega.{arith}
 use borrow.Author.Tests.{eq-eqb, ne_eqb}
 use Rattle.course.specs.Lists.{Lists}
-use Rattle.course.specs.Course.{Heading, rising, falling, heading, Trajectory, nearest, candidates, next_stop, stops_from, stops}
+use Rattle.course.specs.declared.Heading.{Heading}
+use Rattle.course.specs.declared.Heading.TheVariants.{Rising, Falling}
+use Rattle.course.specs.Course.{heading, Trajectory, nearest, candidates, next_stop, stops_from, stops}
 use Rattle.course.specs.Headings.{Past, Short}
 use Rattle.course.proofs.Near.{short_past, ahead, up_take, up_skip, down_take, down_skip}
 use Rattle.course.proofs.Ahead.{next_past, next_fewer}
@@ -28,18 +30,18 @@ later m t w ws (inr a) = inr (inr a)
 
 near_among : (h : Heading) (v t : ℕ) (ws : List ℕ) (m : ℕ) → nearest h v t ws ≡ m → (m ≡ t) ⊎ Among m ws
 unfolding nearest
-near_among rising v t [] m e = inl (sym e)
-near_among rising v t (w ∷ ws) m e = elim (ℕ_discrete m w) [
+near_among Rising v t [] m e = inl (sym e)
+near_among Rising v t (w ∷ ws) m e = elim (ℕ_discrete m w) [
   | yes y ↦ inr (inl y)
-  | no n ↦ later m t w ws (near_among rising v t ws m (elim (dec_le (suc v) w) [
+  | no n ↦ later m t w ws (near_among Rising v t ws m (elim (dec_le (suc v) w) [
     | yes q ↦ let u = up_take v t w ws q in omega arith
     | no q ↦ omega (arith, up_skip v t w ws (omega arith))
   ]))
 ]
-near_among falling v t [] m e = inl (sym e)
-near_among falling v t (w ∷ ws) m e = elim (ℕ_discrete m w) [
+near_among Falling v t [] m e = inl (sym e)
+near_among Falling v t (w ∷ ws) m e = elim (ℕ_discrete m w) [
   | yes y ↦ inr (inl y)
-  | no n ↦ later m t w ws (near_among falling v t ws m (elim (dec_le (suc w) v) [
+  | no n ↦ later m t w ws (near_among Falling v t ws m (elim (dec_le (suc w) v) [
     | yes q ↦ let u = down_take v t w ws q in omega arith
     | no q ↦ omega (arith, down_skip v t w ws (omega arith))
   ]))
@@ -48,22 +50,22 @@ near_among falling v t (w ∷ ws) m e = elim (ℕ_discrete m w) [
 near_first : (h : Heading) (v t : ℕ) (ws : List ℕ) (x : ℕ) → Among x ws → Past h v x → Short h x (nearest h v t ws)
 unfolding nearest
 near_first h v t [] x m p = absurd m
-near_first rising v t (w ∷ ws) x (inl e) p = omega (arith, up_take v t w ws (omega arith))
-near_first rising v t (w ∷ ws) x (inr m) p =
-    let ih = near_first rising v t ws x m p in
+near_first Rising v t (w ∷ ws) x (inl e) p = omega (arith, up_take v t w ws (omega arith))
+near_first Rising v t (w ∷ ws) x (inr m) p =
+    let ih = near_first Rising v t ws x m p in
     elim (dec_le (suc v) w) [ yes q ↦ omega (arith, up_take v t w ws q) | no q ↦ omega (arith, up_skip v t w ws (omega arith)) ]
-near_first falling v t (w ∷ ws) x (inl e) p = omega (arith, down_take v t w ws (omega arith))
-near_first falling v t (w ∷ ws) x (inr m) p =
-    let ih = near_first falling v t ws x m p in
+near_first Falling v t (w ∷ ws) x (inl e) p = omega (arith, down_take v t w ws (omega arith))
+near_first Falling v t (w ∷ ws) x (inr m) p =
+    let ih = near_first Falling v t ws x m p in
     elim (dec_le (suc w) v) [ yes q ↦ omega (arith, down_take v t w ws q) | no q ↦ omega (arith, down_skip v t w ws (omega arith)) ]
 
 past_past : (h : Heading) (v w x : ℕ) → Past h v w → Past h w x → Past h v x
-past_past rising v w x p q = omega arith
-past_past falling v w x p q = omega arith
+past_past Rising v w x p q = omega arith
+past_past Falling v w x p q = omega arith
 
 not_there : (h : Heading) (v t x : ℕ) → v ≡ t → Past h v x → Short h t x → ⊥
-not_there rising v t x e p q = omega arith
-not_there falling v t x e p q = omega arith
+not_there Rising v t x e p q = omega arith
+not_there Falling v t x e p q = omega arith
 
 module _ (h : Heading) (l : Lists) (t : ℕ) where
   -- what the paper asks of a stop past v

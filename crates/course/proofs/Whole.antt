@@ -13,7 +13,9 @@ use Rattle.course.specs.Recorded.{Valid, recorded, whole_way}
 use Rattle.level.specs.Choice.{pick}
 use Rattle.records.specs.declared.Trigger.{Trigger}
 use Rattle.course.specs.Lists.{Rates, Lists}
-use Rattle.course.specs.Course.{Heading, rising, falling, heading, Trajectory, Moment, counting, toward, gap, in_use, passed, breaks_in_use, triggers, rate_at, candidates, next_stop, hold_at, arrived, second, after, rate_in_force, stops_from, segments_of, moment_at, level_at, rate_on, stops, distance, segments}
+use Rattle.course.specs.declared.Heading.{Heading}
+use Rattle.course.specs.declared.Heading.TheVariants.{Rising, Falling}
+use Rattle.course.specs.Course.{heading, Trajectory, Moment, counting, toward, gap, in_use, passed, breaks_in_use, triggers, rate_at, candidates, next_stop, hold_at, arrived, second, after, rate_in_force, stops_from, segments_of, moment_at, level_at, rate_on, stops, distance, segments}
 use Rattle.course.specs.Headings.{Past, Short}
 use Rattle.course.proofs.Near.{short_past, gap_some, gap_add, gap_toward, those_length, ahead}
 use Rattle.course.proofs.Ahead.{next_past, next_fewer}
@@ -31,12 +33,12 @@ pub record Driven (l : Lists) : Type 0 where
 
 use_runs : (h : Heading) (l : Lists) (v : ℕ) → Driven l → Runs (in_use h l v)
 unfolding in_use
-use_runs rising l v d = go (ltb v l.msg)
+use_runs Rising l v d = go (ltb v l.msg)
   where
     go : (b : Bool) → Runs (pick b l.column l.up)
     go true = d.column
     go false = d.up
-use_runs falling l v d = go (ltb l.msg v)
+use_runs Falling l v d = go (ltb l.msg v)
   where
     go : (b : Bool) → Runs (pick b l.down l.deload)
     go true = d.down
@@ -44,8 +46,8 @@ use_runs falling l v d = go (ltb l.msg v)
 
 passed_le : (h : Heading) (v : ℕ) (bs : List ℕ) → passed h v bs ≤ length bs
 unfolding passed
-passed_le rising v bs = those_length _ bs
-passed_le falling v bs = those_length _ bs
+passed_le Rising v bs = those_length _ bs
+passed_le Falling v bs = those_length _ bs
 
 pub rate_some : (h : Heading) (l : Lists) → Driven l → (v : ℕ) → 1 ≤ rate_at h l v
 unfolding rate_at
@@ -101,7 +103,7 @@ levels_length (g ∷ gs) = ap suc (levels_length gs)
 
 candidates_length : (h : Heading) (l : Lists) (t : ℕ) → Shaped l → length (candidates h l t) ≤ 13
 unfolding candidates breaks_in_use triggers
-candidates_length rising l t s =
+candidates_length Rising l t s =
     simp (length-append, levels_length)
     (omega (
       arith,
@@ -110,7 +112,7 @@ candidates_length rising l t s =
       counting_length (λ v. ltb v l.msg) l.soaks,
       counting_length (λ v. leb l.msg v) l.dwells,
     ))
-candidates_length falling l t s =
+candidates_length Falling l t s =
     simp (length-append, levels_length)
     (omega (
       arith,
@@ -197,11 +199,11 @@ short_start c = elim (dec_le (suc c.start) c.target) [
   | no p ↦ rw (le-ltb c.start c.target (omega arith)) (omega arith)
 ]
 
-pub up_heading : (c : Trajectory) → c.start < c.target → heading c ≡ rising
+pub up_heading : (c : Trajectory) → c.start < c.target → heading c ≡ Rising
 unfolding heading
 up_heading c p = simp (lt-ltb c.start c.target p)
 
-pub down_heading : (c : Trajectory) → c.target ≤ c.start → heading c ≡ falling
+pub down_heading : (c : Trajectory) → c.target ≤ c.start → heading c ≡ Falling
 unfolding heading
 down_heading c p = simp (le-ltb c.start c.target p)
 

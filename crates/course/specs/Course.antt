@@ -3,6 +3,8 @@ use Rattle.std.specs.Prelude.{ℕ, zero, suc, ◌+◌, ◌*◌, ◌-◌, min, ma
 use Rattle.level.specs.Choice.{pick}
 use Rattle.level.specs.Lists.{those}
 use Rattle.level.specs.Level.{grains}
+use Rattle.course.specs.declared.Heading.{Heading}
+use Rattle.course.specs.declared.Heading.TheVariants.{Rising, Falling}
 use Rattle.course.specs.declared.Segment.{Segment}
 use Rattle.records.specs.declared.Trigger.{Trigger}
 use Rattle.records.specs.declared.UnitData.{UnitData}
@@ -22,17 +24,13 @@ trajectory_of u c = record { start = c.start.grains; target = grains c.target; l
 abbrev pub no_course : Course
 no_course = record { begin = 0; start = record { grains = 0 }; target = 0; heat = 0; up = 0; down = 0 }
 
-pub data Heading : Type 0 where
-  rising : Heading
-  falling : Heading
-
 unfoldable pub heading : Trajectory → Heading
-heading c = pick (ltb c.start c.target) rising falling
+heading c = pick (ltb c.start c.target) Rising Falling
 
 -- the level v moved by m in the heading's direction
 unfoldable pub toward : Heading → ℕ → ℕ → ℕ
-toward rising v m = v + m
-toward falling v m = v - m
+toward Rising v m = v + m
+toward Falling v m = v - m
 
 -- the unsigned difference of two levels
 unfoldable pub gap : ℕ → ℕ → ℕ
@@ -44,13 +42,13 @@ distance c = gap c.start c.target
 
 -- "Rising below MSG uses the column, otherwise ramp-up; falling above MSG uses ramp-down, otherwise deload"
 unfoldable pub in_use : Heading → Lists → ℕ → Rates
-in_use rising l v = pick (ltb v l.msg) l.column l.up
-in_use falling l v = pick (ltb l.msg v) l.down l.deload
+in_use Rising l v = pick (ltb v l.msg) l.column l.up
+in_use Falling l v = pick (ltb l.msg v) l.down l.deload
 
 -- "the count of that list's breaks at or below the level when rising, strictly below when falling"
 unfoldable pub passed : Heading → ℕ → List ℕ → ℕ
-passed rising v breaks = length (those (λ b. leb b v) breaks)
-passed falling v breaks = length (those (λ b. ltb b v) breaks)
+passed Rising v breaks = length (those (λ b. leb b v) breaks)
+passed Falling v breaks = length (those (λ b. ltb b v) breaks)
 
 -- "The rate is the one numbered 1 plus the count"; number 1 stands at place 0
 unfoldable pub rate_at : Heading → Lists → ℕ → ℕ
@@ -58,8 +56,8 @@ rate_at h l v = get_or (in_use h l v).rates (passed h v (in_use h l v).breaks) 0
 
 -- "breaks of the list in use there": those at which their own list is in use
 unfoldable pub breaks_in_use : Heading → Lists → List ℕ
-breaks_in_use rising l = those (λ b. ltb b l.msg) l.column.breaks ++ those (λ b. leb l.msg b) l.up.breaks
-breaks_in_use falling l = those (λ b. ltb l.msg b) l.down.breaks ++ those (λ b. leb b l.msg) l.deload.breaks
+breaks_in_use Rising l = those (λ b. ltb b l.msg) l.column.breaks ++ those (λ b. leb l.msg b) l.up.breaks
+breaks_in_use Falling l = those (λ b. ltb l.msg b) l.down.breaks ++ those (λ b. leb b l.msg) l.deload.breaks
 
 -- "Triggers with 0 minutes don't count"
 unfoldable pub counting : (ℕ → Bool) → List Trigger → List Trigger
@@ -67,15 +65,15 @@ counting f gs = those (λ g. ltb 0 g.minutes && f g.level) gs
 
 -- "soak triggers below MSG when rising, dwell triggers at or above MSG both ways"
 unfoldable pub triggers : Heading → Lists → List Trigger
-triggers rising l = counting (λ v. ltb v l.msg) l.soaks ++ counting (λ v. leb l.msg v) l.dwells
-triggers falling l = counting (λ v. leb l.msg v) l.dwells
+triggers Rising l = counting (λ v. ltb v l.msg) l.soaks ++ counting (λ v. leb l.msg v) l.dwells
+triggers Falling l = counting (λ v. leb l.msg v) l.dwells
 
 -- the nearest of some levels strictly past v, and t if none is nearer
 unfoldable pub nearest : Heading → ℕ → ℕ → List ℕ → ℕ
-nearest rising v t [] = t
-nearest rising v t (w ∷ ws) = pick (ltb v w) (min w (nearest rising v t ws)) (nearest rising v t ws)
-nearest falling v t [] = t
-nearest falling v t (w ∷ ws) = pick (ltb w v) (max w (nearest falling v t ws)) (nearest falling v t ws)
+nearest Rising v t [] = t
+nearest Rising v t (w ∷ ws) = pick (ltb v w) (min w (nearest Rising v t ws)) (nearest Rising v t ws)
+nearest Falling v t [] = t
+nearest Falling v t (w ∷ ws) = pick (ltb w v) (max w (nearest Falling v t ws)) (nearest Falling v t ws)
 
 -- "added where triggers coincide": the seconds of all triggers at the level v
 unfoldable pub holding : ℕ → List Trigger → ℕ

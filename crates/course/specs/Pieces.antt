@@ -4,7 +4,8 @@ use Rattle.level.specs.Choice.{pick}
 use Rattle.course.specs.declared.Segment.{Segment}
 use Rattle.course.specs.declared.Piece.{Piece}
 use Rattle.course.specs.Lists.{Lists}
-use Rattle.course.specs.Course.{Trajectory, Moment, Heading, heading, toward, gap, rate_at, next_stop, moment_at, segments}
+use Rattle.course.specs.declared.Heading.{Heading}
+use Rattle.course.specs.Course.{Trajectory, Moment, heading, toward, gap, rate_at, next_stop, moment_at, segments}
 
 -- the whole seconds that a segment's way takes: the rest of the last second is lost
 unfoldable pub seconds : Segment → ℕ

@@ -4,7 +4,7 @@
 // A course (document 01's own term): what the opening or one instruction sets going. It begins at a second of the day,
 // at the level `start` (after any step), and goes to `target` (kW), with the start-up column of `heat`. `up` and `down`
 // replace all five ramp-up or ramp-down rates (kW a minute; 0: none does).
-#[derive(Clone, Copy)]
+#[derive(Clone, Copy, Default)]
 pub struct Course {
     pub begin: u32,
     pub start: level::Level,
@@ -12,6 +12,13 @@ pub struct Course {
     pub heat: u32,
     pub up: u32,
     pub down: u32,
+}
+
+// Which way a course's level goes on its way to the target.
+#[derive(Clone, Copy, PartialEq, Eq)]
+pub enum Heading {
+    Rising,
+    Falling,
 }
 
 // A straight piece of a course: from one second to another, and the levels there (grains).

@@ -1,3 +1,1 @@
-pub mod Arrays
 pub mod Rates
-pub mod Anew

@@ -1,20 +1,23 @@
 -- The hold at a level: below MSG the soaks of a rising course, from MSG on the dwells.
-use Prim.Native.Nat.{ℕ, ◌+◌, ◌*◌, ◌≤◌, ◌<◌}
+use Prim.Native.Nat.{ℕ, suc, ◌+◌, ◌*◌, ◌≤◌, ◌<◌}
 use mathlib.Core.Path.{◌≡◌, refl, ap, sym, ◌∙◌}
 use mathlib.Core.List.{List, [], ◌∷◌, ◌++◌, map}
 use mathlib.Core.Bool.{Bool, true, false, ◌&&◌}
 use native.Mathlib.Decide.{dec_le, ℕ_discrete}
 use native.Mathlib.Omega.{arith}
 use lib.Dec.{leb, ltb}
-use lib.ListN.{length, get_or}
+use native.Mathlib.Numerals.{add-one}
+use lib.ListN.{length, get_or, drop, drop_of_length-le}
+use lib.Seq.{drop-cons}
 use borrow.Author.Tests.{lt-ltb, le-ltb, le-leb, lt-leb, eq-eqb, ne_eqb}
 use Rattle.level.specs.Choice.{pick}
 use Rattle.level.specs.Lists.{those}
 use Rattle.level.specs.Level.{grains}
 use Rattle.records.specs.declared.Trigger.{Trigger}
 use Rattle.course.specs.Lists.{Lists, in_grains}
-use Rattle.course.specs.Course.{Heading, rising, falling, counting, triggers, holding, hold_at}
-use Rattle.course_rates.proofs.Arrays.{three_of, two_of}
+use Rattle.course.specs.declared.Heading.{Heading}
+use Rattle.course.specs.declared.Heading.TheVariants.{Rising, Falling}
+use Rattle.course.specs.Course.{counting, triggers, holding, hold_at}
 
 and_false : (a b : Bool) → b ≡ false → (a && b) ≡ false
 and_false true b e = e
@@ -48,21 +51,24 @@ module _ (w : ℕ) where
     | no e ↦ omega (arith, none, off_level g gs e, off_level g [] e)
   ]
 
-  -- the triggers of an array
-  abbrev one : Trigger → ℕ
-  one g = holding w (in_grains g ∷ [])
+  -- a loop over the triggers of a list has come to the place i, with so many seconds so far
+  module _ (gs : List Trigger) (i s : ℕ) where
+    abbrev left : ℕ → ℕ
+    left k = holding w (map in_grains (drop k gs))
 
-  pub held_three : (d : Trigger) (gs : List Trigger) → length gs ≡ 3 →
-      one (get_or gs 0 d) + one (get_or gs 1 d) + one (get_or gs 2 d) ≡ holding w (map in_grains gs)
-  held_three d gs e = rw (three_of d gs e) (omega (
-    arith,
-    none,
-    holding_cons (in_grains (get_or gs 0 d)) (in_grains (get_or gs 1 d) ∷ in_grains (get_or gs 2 d) ∷ []),
-    holding_cons (in_grains (get_or gs 1 d)) (in_grains (get_or gs 2 d) ∷ []),
-  ))
+    pub held_more : (d : Trigger) (m : ℕ) → i < length gs → m ≡ holding w (in_grains (get_or gs i d) ∷ []) →
+        s + left i ≡ left 0 → s + m + left (i + 1) ≡ left 0
+    held_more d m lt e so = omega (
+      arith,
+      so,
+      e,
+      ap (λ (hs : List Trigger). holding w (map in_grains hs)) (drop-cons gs i d lt),
+      holding_cons (in_grains (get_or gs i d)) (map in_grains (drop (suc i) gs)),
+      ap left (add-one i),
+    )
 
-  pub held_two : (d : Trigger) (gs : List Trigger) → length gs ≡ 2 → one (get_or gs 0 d) + one (get_or gs 1 d) ≡ holding w (map in_grains gs)
-  held_two d gs e = rw (two_of d gs e) (omega (arith, none, holding_cons (in_grains (get_or gs 0 d)) (in_grains (get_or gs 1 d) ∷ [])))
+    pub held_all : length gs ≤ i → s + left i ≡ left 0 → s ≡ left 0
+    held_all le so = omega (arith, so, none, ap (λ (hs : List Trigger). holding w (map in_grains hs)) (drop_of_length-le gs {i = i} le))
 
   holding_append : (gs hs : List Trigger) → holding w (gs ++ hs) ≡ holding w gs + holding w hs
   holding_append [] hs = omega (arith, none)
@@ -107,15 +113,15 @@ module _ (l : Lists) (t w : ℕ) where
   module _ (short : w ≡ t → ⊥) where
     pub hold_dwell : (h : Heading) → l.msg ≤ w → hold_at h l t w ≡ holding w l.dwells
     unfolding hold_at triggers
-    hold_dwell rising p = simp (ne_eqb w t short) (omega (
+    hold_dwell Rising p = simp (ne_eqb w t short) (omega (
       arith,
       holding_append w (counting (λ v. ltb v l.msg) l.soaks) (counting (λ v. leb l.msg v) l.dwells),
       holding_none w (λ v. ltb v l.msg) (le-ltb w l.msg p) l.soaks,
       holding_all w (λ v. leb l.msg v) (le-leb l.msg w p) l.dwells,
     ))
-    hold_dwell falling p = simp (ne_eqb w t short) (holding_all w (λ v. leb l.msg v) (le-leb l.msg w p) l.dwells)
+    hold_dwell Falling p = simp (ne_eqb w t short) (holding_all w (λ v. leb l.msg v) (le-leb l.msg w p) l.dwells)
 
-    pub hold_soak : w < l.msg → hold_at rising l t w ≡ holding w l.soaks
+    pub hold_soak : w < l.msg → hold_at Rising l t w ≡ holding w l.soaks
     unfolding hold_at triggers
     hold_soak p = simp (ne_eqb w t short) (omega (
       arith,
@@ -124,6 +130,6 @@ module _ (l : Lists) (t w : ℕ) where
       holding_none w (λ v. leb l.msg v) (lt-leb l.msg w p) l.dwells,
     ))
 
-    pub hold_no_soak : w < l.msg → hold_at falling l t w ≡ 0
+    pub hold_no_soak : w < l.msg → hold_at Falling l t w ≡ 0
     unfolding hold_at triggers
     hold_no_soak p = simp (ne_eqb w t short) (holding_none w (λ v. leb l.msg v) (lt-leb l.msg w p) l.dwells)

@@ -2,7 +2,8 @@
 use Rattle.std.specs.Prelude.{ℕ}
 use Rattle.course.specs.declared.Segment.{Segment}
 use Rattle.course.specs.Lists.{Lists}
-use Rattle.course.specs.Course.{Heading, gap, rate_at, next_stop, hold_at}
+use Rattle.course.specs.declared.Heading.{Heading}
+use Rattle.course.specs.Course.{gap, rate_at, next_stop, hold_at}
 
 module _ (h : Heading) (l : Lists) (t : ℕ) where
   -- the segment from v to w: way, rate, and the hold there

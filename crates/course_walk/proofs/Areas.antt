@@ -1,21 +1,19 @@
 -- Twice the area along a course.
 use Prim.Native.Nat.{ℕ, zero, suc, ◌+◌, ◌-◌, ◌≤◌}
 use mathlib.Core.Path.{◌≡◌, refl, ap, sym, ◌∙◌}
-use mathlib.Core.Bool.{Bool}
 use native.Mathlib.Omega.{arith}
-use lib.Dec.{ltb}
 use Rattle.level.specs.Lists.{sum}
-use Rattle.level.specs.Level.{grains}
 use Rattle.course.specs.Recorded.{area}
 use Rattle.course.proofs.Sums.{sum_eq}
 use Rattle.records.specs.declared.UnitData.{UnitData}
-use Rattle.course.specs.declared.Course.{Course}
 use Rattle.course.specs.Lists.{Lists}
-use Rattle.course.specs.Course.{Heading, heading, Moment, trajectory_of, after, moment_at, level_at}
+use Rattle.course.specs.declared.Heading.{Heading}
+use Rattle.course.specs.Course.{heading, Moment, trajectory_of, after, moment_at, level_at}
 use Rattle.course.proofs.Rule.{at}
 use Rattle.course.proofs.Seconds.{after_add}
 use Rattle.course_walk.specs.declared.Place.{Place}
-use Rattle.course_rates.specs.Ways.{headed, lists_in}
+use Rattle.course_rates.specs.declared.Route.{Route}
+use Rattle.course_rates.specs.Ways.{lists_in, route_of, target_of}
 use Rattle.course_walk.specs.Walk.{moment_of, beginning, standing, twice_to}
 use Rattle.course_walk.proofs.Courses.{heading_is, moment_is}
 
@@ -44,29 +42,29 @@ module _ (h : Heading) (l : Lists) (t n : ℕ) where
   twice_here p le = ap (area (path p) 0) {x = n - p.second} {y = 0} (omega arith)
 
 -- ---- in the course's own seconds
-module _ (u : UnitData) (c : Course) (up : Bool) (rises : up ≡ ltb c.start.grains (grains c.target)) where
+module _ (u : UnitData) (r : Route) (own : r ≡ route_of u r.course) where
   abbrev here : ℕ → ℕ → Place
-  here a m = standing (headed up) (lists_in u c) (grains c.target) m (beginning c a)
+  here a m = standing r.heading (lists_in u r.course) (target_of r) m (beginning r.course a)
 
   second_is : (a m : ℕ) → (here a m).second ≡ m
   unfolding standing
   second_is a m = refl
 
-  later_is : (a m j : ℕ) → after (headed up) (lists_in u c) (grains c.target) j (moment_of (here a m)) ≡ moment_at (trajectory_of u c) (m - a + j)
+  later_is : (a m j : ℕ) → after r.heading (lists_in u r.course) (target_of r) j (moment_of (here a m)) ≡ moment_at (trajectory_of u r.course) (m - a + j)
   unfolding trajectory_of moment_at
   later_is a m j =
-      let l : Lists = lists_in u c in
-      let t : ℕ = grains c.target in
+      let l : Lists = lists_in u r.course in
+      let t : ℕ = target_of r in
       let x : ℕ = m - a in
-      ap (after (headed up) l t j) (moment_is u c up rises a m)
-      ∙ ap (λ (k : Heading). after k l t j (moment_at (trajectory_of u c) x)) (sym (heading_is u c up rises))
-      ∙ sym (after_add (heading (trajectory_of u c)) l t x j (at c.start.grains 0))
+      ap (after r.heading l t j) (moment_is u r own a m)
+      ∙ ap (λ (k : Heading). after k l t j (moment_at (trajectory_of u r.course) x)) (sym (heading_is u r own))
+      ∙ sym (after_add (heading (trajectory_of u r.course)) l t x j (at r.course.start.grains 0))
 
   -- from the second m on, of a course that began at the second a
-  pub twice_is : (a m n : ℕ) → twice_to (headed up) (lists_in u c) (grains c.target) n (here a m) ≡ area (level_at (trajectory_of u c)) (m - a) (n - m)
+  pub twice_is : (a m n : ℕ) → twice_to r.heading (lists_in u r.course) (target_of r) n (here a m) ≡ area (level_at (trajectory_of u r.course)) (m - a) (n - m)
   unfolding twice_to level_at
   twice_is a m n =
       let x : ℕ = m - a in
-      ap (area (λ k. (after (headed up) (lists_in u c) (grains c.target) k (moment_of (here a m))).level) 0) (ap (λ (k : ℕ). n - k) (second_is a m))
-      ∙ area_same (λ k. (after (headed up) (lists_in u c) (grains c.target) k (moment_of (here a m))).level) (λ j. level_at (trajectory_of u c) (x + j))
-      (λ j. ap (λ (q : Moment). q.level) (later_is a m j)) 0 (n - m) ∙ sym (area_from (level_at (trajectory_of u c)) x (n - m))
+      ap (area (λ k. (after r.heading (lists_in u r.course) (target_of r) k (moment_of (here a m))).level) 0) (ap (λ (k : ℕ). n - k) (second_is a m))
+      ∙ area_same (λ k. (after r.heading (lists_in u r.course) (target_of r) k (moment_of (here a m))).level) (λ j. level_at (trajectory_of u r.course) (x + j))
+      (λ j. ap (λ (q : Moment). q.level) (later_is a m j)) 0 (n - m) ∙ sym (area_from (level_at (trajectory_of u r.course)) x (n - m))

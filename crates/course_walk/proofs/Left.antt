@@ -6,25 +6,26 @@ use mathlib.Core.Bool.{Bool}
 use native.Mathlib.Nat.{div-add-mod', mod-lt, div-eq_of_lt, div-eq_of_lt-le, le_of_mul-le-mul_right}
 use native.Mathlib.Decide.{dec_le, ℕ_discrete}
 use native.Mathlib.Omega.{arith}
-use lib.Dec.{ltb, eqb}
+use lib.Dec.{eqb}
 use lib.ListN.{length}
 use borrow.Author.Tests.{lt-ltb, le-ltb, eq-eqb, ne_eqb}
 use Rattle.level.specs.Choice.{pick}
 use Rattle.course.specs.declared.Segment.{Segment}
 use Rattle.course.specs.Pieces.{seconds, piece, pieces_of, pieces_in}
 use Rattle.course.proofs.Segments.{seconds_low}
-use Rattle.level.specs.Level.{grains}
 use Rattle.records.specs.declared.UnitData.{UnitData}
 use Rattle.course.specs.declared.Course.{Course}
 use Rattle.course.specs.Lists.{Lists}
-use Rattle.course.specs.Course.{Heading, heading, trajectory_of, stops, segments, toward, gap, rate_at, candidates, next_stop, hold_at, stops_from, segments_of}
+use Rattle.course.specs.declared.Heading.{Heading}
+use Rattle.course.specs.Course.{heading, trajectory_of, stops, segments, toward, gap, rate_at, candidates, next_stop, hold_at, stops_from, segments_of}
 use Rattle.course.specs.declared.Piece.{Piece}
 use Rattle.course.specs.Headings.{Past, Short}
 use Rattle.course.proofs.Near.{short_past, past_on, those_length, ahead, gap_some, gap_to, gap_left, toward_add, toward_zero}
 use Rattle.course.proofs.Ahead.{rate_same, next_same, next_past, next_fewer}
 use Rattle.course.proofs.Rule.{segments_more, segments_stuck, segments_none}
 use Rattle.course_walk.specs.declared.Place.{Place}
-use Rattle.course_rates.specs.Ways.{headed, lists_in}
+use Rattle.course_rates.specs.declared.Route.{Route}
+use Rattle.course_rates.specs.Ways.{lists_in, route_of, target_of}
 use Rattle.course_stops.specs.Ahead.{segment_to, segment_from}
 use Rattle.course_walk.specs.Walk.{beginning, piece_between, after_hold, after_rest, after_run, after_short, onward, segments_from, pieces_left}
 use Rattle.course_walk.proofs.Courses.{heading_is}
@@ -310,15 +311,16 @@ module _ (h : Heading) (l : Lists) (t n : ℕ) where
         (λ none past some le. run_first none past some le)
 
 -- those from a course's beginning are the pieces of the course
-pub all_left : (u : UnitData) (c : Course) (up : Bool) → up ≡ ltb c.start.grains (grains c.target) → (a n : ℕ) →
-    pieces_left (headed up) (lists_in u c) (grains c.target) n (beginning c a) ≡ pieces_in (trajectory_of u c) a n
+pub all_left : (u : UnitData) (r : Route) → r ≡ route_of u r.course → (a n : ℕ) →
+    pieces_left r.heading (lists_in u r.course) (target_of r) n (beginning r.course a) ≡ pieces_in (trajectory_of u r.course) a n
 unfolding pieces_in segments stops trajectory_of beginning segments_from
-all_left u c up rises a n =
-    let h : Heading = headed up in
+all_left u r own a n =
+    let c : Course = r.course in
+    let h : Heading = r.heading in
     let l : Lists = lists_in u c in
-    let t : ℕ = grains c.target in
+    let t : ℕ = target_of r in
     let v : ℕ = c.start.grains in
-    let e : heading (trajectory_of u c) ≡ h = heading_is u c up rises in
+    let e : heading (trajectory_of u c) ≡ h = heading_is u r own in
     elim (dec_le a n) [
       | yes le ↦ no_hold h l t n (beginning c a) le (omega arith) ∙ ap (λ (k : Heading). pieces_of k n a v (segments_from k l t v)) (sym e)
       | no le ↦ left_none h l t n (beginning c a) (omega arith)

@@ -1,33 +1,31 @@
 -- One straight piece after another: each is what the rule of one second does.
 use Prim.Native.Nat.{ℕ, ◌+◌, ◌*◌, ◌-◌, ◌/◌, ◌^◌, min, ◌≤◌, ◌<◌}
-use mathlib.Core.Path.{◌≡◌, sym, subst}
-use mathlib.Core.Bool.{Bool, true, false, true≢false}
+use mathlib.Core.Path.{◌≡◌, subst}
 use native.Mathlib.Decide.{dec_le, ℕ_discrete}
 use native.Mathlib.Omega.{arith}
 use native.Mathlib.Nat.{mul-le-mul_right, div-add-mod', div-lt_iff_lt-mul}
 use borrow.Author.Tests.{lt-ltb, le-ltb, eq-eqb, ne_eqb}
 use Rattle.course.specs.declared.Segment.{Segment}
 use Rattle.course.specs.Lists.{Lists}
-use Rattle.course.specs.Course.{Heading, rising, falling, toward, gap, rate_at, next_stop}
+use Rattle.course.specs.declared.Heading.{Heading}
+use Rattle.course.specs.declared.Heading.TheVariants.{Rising, Falling}
+use Rattle.course.specs.Course.{toward, gap, rate_at, next_stop}
 use Rattle.course.specs.Headings.{Past, Short}
 use Rattle.course.proofs.Near.{gap_to, short_past}
 use Rattle.course.proofs.Ahead.{next_past}
 use Rattle.course_walk.specs.declared.Place.{Place}
-use Rattle.course_rates.specs.Ways.{headed}
 use Rattle.course_stops.specs.Ahead.{segment_to, segment_from}
 use Rattle.course_walk.specs.Walk.{Reaches, after_hold, after_rest, after_run, after_short, along, onward}
 
-pub room_up : (up : Bool) (v m : ℕ) → up ≡ true → Reaches (headed up) v m → v + m < 2 ^ 64
-room_up true v m e r = r
-room_up false v m e r = absurd (true≢false (sym e))
+pub room_up : (h : Heading) (v m : ℕ) → h ≡ Rising → Reaches h v m → v + m < 2 ^ 64
+room_up h v m e r = subst (λ (k : Heading). Reaches k v m) e r
 
-pub room_down : (up : Bool) (v m : ℕ) → up ≡ false → Reaches (headed up) v m → m ≤ v
-room_down false v m e r = r
-room_down true v m e r = absurd (true≢false e)
+pub room_down : (h : Heading) (v m : ℕ) → h ≡ Falling → Reaches h v m → m ≤ v
+room_down h v m e r = subst (λ (k : Heading). Reaches k v m) e r
 
 pub reaches_less : (h : Heading) (v m n : ℕ) → m ≤ n → Reaches h v n → Reaches h v m
-reaches_less rising v m n p r = omega arith
-reaches_less falling v m n p r = omega arith
+reaches_less Rising v m n p r = omega arith
+reaches_less Falling v m n p r = omega arith
 
 -- whole seconds at full rate
 pub full_way : (way rate f : ℕ) → f ≤ way / rate → f * rate ≤ way
@@ -103,8 +101,8 @@ module _ (h : Heading) (l : Lists) (t n : ℕ) (p : Place) (sh : Short h t p.lev
 -- there is room to the next stop
 pub reaches_stop : (h : Heading) (l : Lists) (t v : ℕ) → Past h v t → t < 2 ^ 64 → Reaches h v (segment_from h l t v).way
 unfolding segment_from segment_to gap
-reaches_stop rising l t v p m = let n = next_past rising l t v p in omega arith
-reaches_stop falling l t v p m = let n = next_past falling l t v p in omega arith
+reaches_stop Rising l t v p m = let n = next_past Rising l t v p in omega arith
+reaches_stop Falling l t v p m = let n = next_past Falling l t v p in omega arith
 
 pub to_stop : (h : Heading) (l : Lists) (t v : ℕ) → Past h v t → toward h v (segment_from h l t v).way ≡ next_stop h l t v
 unfolding segment_from segment_to

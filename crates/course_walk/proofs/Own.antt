@@ -1,8 +1,7 @@
 -- A course's own lists do for it what the unit's do: a heading never looks at the other's ramp.
 use Prim.Native.Nat.{ℕ, zero, suc, ◌+◌, ◌-◌, min}
-use mathlib.Core.Path.{◌≡◌, refl, ap}
+use mathlib.Core.Path.{◌≡◌, refl, ap, sym, subst}
 use mathlib.Core.List.{List, [], ◌∷◌, ◌++◌}
-use mathlib.Core.Bool.{Bool, true, false}
 use lib.Dec.{ltb, eqb}
 use lib.ListN.{length}
 use Rattle.level.specs.Choice.{pick}
@@ -10,11 +9,13 @@ use Rattle.course.specs.declared.Segment.{Segment}
 use Rattle.records.specs.declared.UnitData.{UnitData}
 use Rattle.course.specs.declared.Course.{Course}
 use Rattle.course.specs.Lists.{Lists, rates_of, lists_of}
-use Rattle.course.specs.Course.{Heading, Moment, toward, gap, in_use, rate_at, breaks_in_use, triggers, candidates, next_stop, hold_at, arrived, second, after, stops_from, segments_of}
+use Rattle.course.specs.declared.Heading.{Heading}
+use Rattle.course.specs.declared.Heading.TheVariants.{Rising, Falling}
+use Rattle.course.specs.Course.{Moment, toward, gap, in_use, rate_at, breaks_in_use, triggers, candidates, next_stop, hold_at, arrived, second, after, stops_from, segments_of}
 use Rattle.course.specs.Pieces.{piece, pieces_of}
-use Rattle.course_rates.specs.declared.OwnLists.{OwnLists}
+use Rattle.course_rates.specs.declared.Route.{Route}
 use Rattle.course_walk.specs.declared.Place.{Place}
-use Rattle.course_rates.specs.Ways.{headed, lists_in, own_lists, lists_by}
+use Rattle.course_rates.specs.Ways.{lists_in, heading_of, route_with, route_of, lists_by}
 use Rattle.course_stops.specs.Ahead.{segment_to, segment_from}
 use Rattle.course_walk.specs.Walk.{moment_of, after_hold, after_rest, along, onward, segments_from, pieces_left, twice_to}
 use Rattle.course_walk.proofs.Areas.{area_same}
@@ -69,32 +70,34 @@ module _ (h : Heading) (l m : Lists) (a : Alike h l m) (t : ℕ) where
   unfolding segments_from
   alike_segments v = λ i. alike_ways v (alike_stops (length (a.all t i)) v i) i
 
-own_alike : (u : UnitData) (c : Course) (up : Bool) → Alike (headed up) (lists_by (own_lists u c up) c) (lists_in u c)
-unfolding rate_at in_use candidates breaks_in_use triggers next_stop hold_at lists_by own_lists lists_of rates_of
-own_alike u c true = record { rate = λ v. refl; all = λ t. refl; next = λ t v. refl; hold = λ t v. refl }
-own_alike u c false = record { rate = λ v. refl; all = λ t. refl; next = λ t v. refl; hold = λ t v. refl }
+own_alike : (u : UnitData) (c : Course) (h : Heading) → Alike h (lists_by (route_with u c h)) (lists_in u c)
+unfolding rate_at in_use candidates breaks_in_use triggers next_stop hold_at lists_by lists_of rates_of
+own_alike u c Rising = record { rate = λ v. refl; all = λ t. refl; next = λ t v. refl; hold = λ t v. refl }
+own_alike u c Falling = record { rate = λ v. refl; all = λ t. refl; next = λ t v. refl; hold = λ t v. refl }
 
--- what holds of every unit whose own lists l are: for the invariant of a loop that has l and no unit
-abbrev pub OfUnit : OwnLists → Course → Bool → (UnitData → Type 0) → Type 0
-OfUnit l c up P = (u : UnitData) → l ≡ own_lists u c up → P u
+module _ (u : UnitData) (r : Route) (own : r ≡ route_of u r.course) where
+  abbrev l : Lists
+  l = lists_by r
 
-module _ (u : UnitData) (c : Course) (up : Bool) (l : OwnLists) (e : l ≡ own_lists u c up) where
-  pub alike : Alike (headed up) (lists_by l c) (lists_in u c)
-  alike = rw e (own_alike u c up)
+  abbrev m : Lists
+  m = lists_in u r.course
 
-  pub own_segments : (t v : ℕ) → segments_from (headed up) (lists_by l c) t v ≡ segments_from (headed up) (lists_in u c) t v
-  own_segments t v = alike_segments (headed up) (lists_by l c) (lists_in u c) alike t v
+  pub alike : Alike r.heading l m
+  unfolding route_of
+  alike = subst (λ (x : Route). Alike x.heading (lists_by x) m) (sym own) (own_alike u r.course (heading_of r.course))
+
+  pub own_segments : (t v : ℕ) → segments_from r.heading l t v ≡ segments_from r.heading m t v
+  own_segments t v = alike_segments r.heading l m alike t v
 
   module _ (t n : ℕ) (p : Place) where
-    pub own_onward : onward (headed up) (lists_by l c) t n p ≡ onward (headed up) (lists_in u c) t n p
-    own_onward = alike_onward (headed up) (lists_by l c) (lists_in u c) alike t n p
+    pub own_onward : onward r.heading l t n p ≡ onward r.heading m t n p
+    own_onward = alike_onward r.heading l m alike t n p
 
-    pub own_twice : twice_to (headed up) (lists_by l c) t n p ≡ twice_to (headed up) (lists_in u c) t n p
-    own_twice = alike_twice (headed up) (lists_by l c) (lists_in u c) alike t n p
+    pub own_twice : twice_to r.heading l t n p ≡ twice_to r.heading m t n p
+    own_twice = alike_twice r.heading l m alike t n p
 
-    pub own_left : pieces_left (headed up) (lists_by l c) t n p ≡ pieces_left (headed up) (lists_in u c) t n p
+    pub own_left : pieces_left r.heading l t n p ≡ pieces_left r.heading m t n p
     unfolding pieces_left
     own_left =
         let held : ℕ = min (p.second + p.left) n in
-        ap (λ (ls : List Segment). piece p.second held p.level p.level ++ pieces_of (headed up) n held p.level ls)
-        (own_segments t p.level)
+        ap (λ (ls : List Segment). piece p.second held p.level p.level ++ pieces_of r.heading n held p.level ls) (own_segments t p.level)

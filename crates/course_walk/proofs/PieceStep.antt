@@ -6,7 +6,9 @@ use native.Mathlib.Decide.{ℕ_discrete}
 use native.Mathlib.Omega.{arith}
 use borrow.Author.Tests.{lt-ltb}
 use Rattle.course.specs.Lists.{Lists}
-use Rattle.course.specs.Course.{Heading, rising, falling, Moment, toward, gap, rate_at, next_stop, hold_at, after}
+use Rattle.course.specs.declared.Heading.{Heading}
+use Rattle.course.specs.declared.Heading.TheVariants.{Rising, Falling}
+use Rattle.course.specs.Course.{Moment, toward, gap, rate_at, next_stop, hold_at, after}
 use Rattle.course.specs.Pieces.{piece}
 use Rattle.course.specs.Headings.{Past, Short}
 use Rattle.course.proofs.Near.{past_short, past_on, gap_to, gap_left, toward_zero}
@@ -37,18 +39,18 @@ step_line {p = p} {q = q} g = (rw (lt-ltb p.second q.second g.later) at g.straig
 
 toward_low : (h : Heading) (t v m w : ℕ) → Short h t w → w ≡ toward h v m → w ≤ max v t
 unfolding toward
-toward_low rising t v m w sh e = omega arith
-toward_low falling t v m w sh e = omega arith
+toward_low Rising t v m w sh e = omega arith
+toward_low Falling t v m w sh e = omega arith
 
 -- where one level lies past another there is room
 room_gap : (h : Heading) (v w : ℕ) → Past h v w → Room h v (gap v w)
 unfolding gap
-room_gap rising v w p = tt
-room_gap falling v w p = omega arith
+room_gap Rising v w p = tt
+room_gap Falling v w p = omega arith
 
 room_none : (h : Heading) (v : ℕ) → Room h v 0
-room_none rising v = tt
-room_none falling v = omega arith
+room_none Rising v = tt
+room_none Falling v = omega arith
 
 after_zero : (h : Heading) (l : Lists) (t : ℕ) (m : Moment) → after h l t 0 m ≡ m
 unfolding after

@@ -1,29 +1,33 @@
 -- Working. Going along a course from one straight piece to the next.
-use Rattle.std.specs.Prelude.{ℕ, ◌+◌, ◌*◌, ◌-◌, ◌/◌, ◌^◌, min, ◌≤◌, ◌<◌, ◌≡◌, ◌||◌, List, ◌++◌, ltb, eqb, length}
+use Rattle.std.specs.Prelude.{ℕ, Option, Some, None, IfSome, ◌+◌, ◌*◌, ◌-◌, ◌/◌, ◌^◌, min, ◌≤◌, ◌<◌, ◌≡◌, ◌||◌, List, ◌++◌, ltb, eqb, length}
 use Rattle.level.specs.Choice.{pick}
 use Rattle.course.specs.declared.Segment.{Segment}
 use Rattle.course.specs.Recorded.{area}
 use Rattle.course.specs.declared.Course.{Course}
 use Rattle.course.specs.Lists.{Lists}
-use Rattle.course.specs.Course.{Heading, rising, falling, Moment, toward, candidates, after, stops_from, segments_of}
+use Rattle.course.specs.declared.Heading.{Heading}
+use Rattle.course.specs.declared.Heading.TheVariants.{Rising, Falling}
+use Rattle.course.specs.Course.{Moment, toward, candidates, after, stops_from, segments_of}
 use Rattle.course.specs.declared.Piece.{Piece}
 use Rattle.course.specs.Headings.{Past, Short}
 use Rattle.course.specs.Pieces.{piece, pieces_of}
+use Rattle.course_rates.specs.declared.Route.{Route}
+use Rattle.course_rates.specs.Ways.{target_of, lists_by}
 use Rattle.course_walk.specs.declared.Place.{Place}
 use Rattle.course_walk.specs.declared.Reached.{Reached}
 use Rattle.course_stops.specs.Ahead.{segment_from}
 
 -- room to move v by m: up within 64 bits, down to 0
 abbrev pub Reaches : Heading → ℕ → ℕ → Type 0
-Reaches rising v m = v + m < 2 ^ 64
-Reaches falling v m = m ≤ v
+Reaches Rising v m = v + m < 2 ^ 64
+Reaches Falling v m = m ≤ v
 
 abbrev pub moment_of : Place → Moment
 moment_of p = record { level = p.level; left = p.left }
 
 -- a place where no segment is known
 abbrev pub unknown : Place → Reached
-unknown p = record { place = p; rest = record { way = 0; rate = 0; hold = 0 } }
+unknown p = record { place = p; rest = None }
 
 -- where a course begins, at the second a
 unfoldable pub beginning : Course → ℕ → Place
@@ -42,8 +46,8 @@ unfoldable pub after_rest : ℕ → Place → Place
 after_rest n p = record { second = n; level = p.level; left = 0 }
 
 -- what f seconds at its full rate leave of a segment
-unfoldable pub rest_run : ℕ → Segment → Segment
-rest_run f s = record { way = s.way - f * s.rate; rate = s.rate; hold = s.hold }
+unfoldable pub rest_run : ℕ → Segment → Option Segment
+rest_run f s = pick (eqb (f * s.rate) s.way) None (Some (record { way = s.way - f * s.rate; rate = s.rate; hold = s.hold }))
 
 module _ (h : Heading) where
   -- f seconds along a segment at its full rate; if that is the whole way, its hold begins
@@ -61,25 +65,23 @@ module _ (h : Heading) where
       (pick (ltb s.way s.rate) (after_short p s) (after_run (min (s.way / s.rate) (n - p.second)) p s))
 
 -- what is left of it then
-unfoldable pub rest_along : ℕ → Place → Segment → Segment
-rest_along n p s =
-    pick (eqb s.rate 0) (unknown p).rest
-    (pick (ltb s.way s.rate) (unknown p).rest (rest_run (min (s.way / s.rate) (n - p.second)) s))
+unfoldable pub rest_along : ℕ → Place → Segment → Option Segment
+rest_along n p s = pick (eqb s.rate 0) None (pick (ltb s.way s.rate) None (rest_run (min (s.way / s.rate) (n - p.second)) s))
 
 module _ (h : Heading) (l : Lists) (t : ℕ) where
-  -- where a course is reached, what is left of the segment under way is the segment that lies ahead
-  pub record SegmentAhead (r : Reached) : Type 0 where
-    pub no_hold : r.place.left ≡ 0
-    pub past : Past h r.place.level t
-    pub rest : r.rest ≡ segment_from h l t r.place.level
+  -- a segment is the one that lies ahead of a place
+  pub record SegmentAhead (p : Place) (s : Segment) : Type 0 where
+    pub no_hold : p.left ≡ 0
+    pub past : Past h p.level t
+    pub is : s ≡ segment_from h l t p.level
 
   -- where a segment is known, it is the one that lies ahead
   abbrev pub Known : Reached → Type 0
-  Known r = 0 < r.rest.way → SegmentAhead r
+  Known r = IfSome r.rest (SegmentAhead r.place)
 
   -- a place with the segment that lies ahead, unless the course holds there or is at its target
   unfoldable pub reached_at : Place → Reached
-  reached_at p = record { place = p; rest = pick (ltb 0 p.left || eqb p.level t) (unknown p).rest (segment_from h l t p.level) }
+  reached_at p = record { place = p; rest = pick (ltb 0 p.left || eqb p.level t) None (Some (segment_from h l t p.level)) }
 
   -- the end of the straight piece that begins at p, cut at the second n
   unfoldable pub onward : ℕ → Place → Place
@@ -106,10 +108,10 @@ module _ (h : Heading) (l : Lists) (t : ℕ) where
   twice_to n p = area (λ k. (after h l t k (moment_of p)).level) 0 (n - p.second)
 
 -- what going on asks for: a second n ahead, a level short of the target, and that a known segment is the one ahead
-pub record WalkAhead (h : Heading) (l : Lists) (t : ℕ) (from : Reached) (n : ℕ) : Type 0 where
+pub record WalkAhead (r : Route) (from : Reached) (n : ℕ) : Type 0 where
   pub before : from.place.second < n
-  pub short : Short h t from.place.level
-  pub known : Known h l t from
+  pub short : Short r.heading (target_of r) from.place.level
+  pub known : Known r.heading (lists_by r) (target_of r) from
 
 -- f seconds along a segment: they end within 32 bits and within the way, which the level has room for
 pub record RunAhead (h : Heading) (p : Place) (s : Segment) (f : ℕ) : Type 0 where

@@ -26,7 +26,7 @@ pub const COURSES: usize = INSTRUCTIONS + 1;
 // ---- levels
 
 // A level. A grain is 1/60 kW, so that a rate of r kW a minute is r grains a second. (The grain is document 01's own unit.)
-#[derive(Clone, Copy)]
+#[derive(Clone, Copy, Default)]
 pub struct Level {
     pub grains: u64,
 }

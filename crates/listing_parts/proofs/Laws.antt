@@ -20,7 +20,8 @@ use Rattle.records.specs.declared.UnitData.{UnitData}
 use Rattle.course.specs.declared.Course.{Course}
 use Rattle.course.specs.declared.Piece.{Piece}
 use Rattle.course.specs.Lists.{Lists, place_of}
-use Rattle.course.specs.Course.{Heading, trajectory_of, no_course}
+use Rattle.course.specs.declared.Heading.{Heading}
+use Rattle.course.specs.Course.{trajectory_of, no_course}
 use Rattle.course.specs.Pieces.{pieces_in}
 use Rattle.course.specs.Headings.{Short}
 use Rattle.profile.specs.Profile.{begin_of, spans_of, day_pieces, rounded}

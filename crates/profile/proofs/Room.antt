@@ -21,7 +21,9 @@ use Rattle.records.specs.Records.{unit_of, column_of}
 use Rattle.course.specs.declared.Course.{Course}
 use Rattle.course.specs.declared.Piece.{Piece}
 use Rattle.course.specs.Lists.{rates_of, in_grains, place_of, no_column, column_for, lists_of}
-use Rattle.course.specs.Course.{Heading, rising, falling, heading, Trajectory, trajectory_of, level_at}
+use Rattle.course.specs.declared.Heading.{Heading}
+use Rattle.course.specs.declared.Heading.TheVariants.{Rising, Falling}
+use Rattle.course.specs.Course.{heading, Trajectory, trajectory_of, level_at}
 use Rattle.course.specs.Pieces.{pieces_in}
 use Rattle.course.proofs.Whole.{Shaped}
 use Rattle.course.proofs.Between.{level_below}
@@ -106,8 +108,8 @@ pub record PieceBelow (end m : ℕ) (p : Piece) : Type 0 where
   pub leave : p.leave ≤ m
 
 enters : (h : Heading) (f : ℕ → ℕ) (p : Piece) → Line h f p → p.enter ≡ f p.from
-enters rising f p l = omega (arith, l.along 0 (omega arith), ap f {x = p.from + 0} {y = p.from} (omega arith))
-enters falling f p l = omega (arith, l.along 0 (omega arith), ap f {x = p.from + 0} {y = p.from} (omega arith))
+enters Rising f p l = omega (arith, l.along 0 (omega arith), ap f {x = p.from + 0} {y = p.from} (omega arith))
+enters Falling f p l = omega (arith, l.along 0 (omega arith), ap f {x = p.from + 0} {y = p.from} (omega arith))
 
 traces_up : (h : Heading) (f : ℕ → ℕ) (a n : ℕ) (ps : List Piece) → Traces h f a n ps → a ≤ n
 traces_up h f a n [] t = omega arith

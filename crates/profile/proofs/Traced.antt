@@ -7,7 +7,9 @@ use native.Mathlib.Omega.{arith}
 use Rattle.level.specs.Lists.{All}
 use Rattle.level.proofs.Lists.{all_append}
 use Rattle.course.specs.declared.Piece.{Piece}
-use Rattle.course.specs.Course.{Heading, rising, falling, heading, level_at}
+use Rattle.course.specs.declared.Heading.{Heading}
+use Rattle.course.specs.declared.Heading.TheVariants.{Rising, Falling}
+use Rattle.course.specs.Course.{heading, level_at}
 use Rattle.course.specs.Pieces.{pieces_in}
 use Rattle.course.proofs.Pieces.{Line, Traces, traces_area, pieces_trace}
 use Rattle.profile.specs.Profile.{Span, Chain, level_starting, level_ending, day_pieces, Joined, OnLine}
@@ -45,13 +47,13 @@ falling_on e l v r i j n s p q =
     rw (w, sym q, s) (omega arith)
 
 line_on : (h : Heading) (f : ℕ → ℕ) (p : Piece) → Line h f p → (t : ℕ) → p.from ≤ t → t ≤ p.to → OnLine p t (f t)
-line_on rising f p w t lo hi =
+line_on Rising f p w t lo hi =
     let i : ℕ = t - p.from in
     let n : ℕ = p.to - p.from in
     rising_on p.enter p.leave (f t) w.rate i (p.to - t) n (omega arith)
     (ap f {x = t} {y = p.from + i} (omega arith) ∙ w.along i (omega arith))
     (w.ends ∙ ap f {x = p.to} {y = p.from + n} (omega arith) ∙ w.along n (le_refl n))
-line_on falling f p w t lo hi =
+line_on Falling f p w t lo hi =
     let i : ℕ = t - p.from in
     let n : ℕ = p.to - p.from in
     falling_on p.enter p.leave (f t) w.rate i (p.to - t) n (omega arith)

@@ -7,7 +7,8 @@ use native.Mathlib.Omega.{arith}
 use Rattle.course.specs.Recorded.{area}
 use Rattle.course.proofs.Sums.{area_split}
 use Rattle.course.specs.Lists.{Lists}
-use Rattle.course.specs.Course.{Heading, Moment, toward, after}
+use Rattle.course.specs.declared.Heading.{Heading}
+use Rattle.course.specs.Course.{Moment, toward, after}
 use Rattle.course.proofs.Pieces.{piece_cut}
 use Rattle.course.proofs.Seconds.{after_add}
 use Rattle.course_walk.specs.declared.Place.{Place}

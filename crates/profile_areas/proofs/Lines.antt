@@ -7,7 +7,9 @@ use native.Mathlib.Omega.{arith}
 use lib.ListN.{set}
 use Rattle.level.specs.Numbers.{half_hour}
 use Rattle.level.specs.Bounds.{level_bound}
-use Rattle.course.specs.Course.{Heading, rising, falling, toward, gap}
+use Rattle.course.specs.declared.Heading.{Heading}
+use Rattle.course.specs.declared.Heading.TheVariants.{Rising, Falling}
+use Rattle.course.specs.Course.{toward, gap}
 use Rattle.course.specs.Headings.{Along}
 use Rattle.course_walk.specs.declared.Place.{Place}
 use Rattle.course_walk.specs.Walk.{Reaches}
@@ -21,8 +23,8 @@ line_none h v r k e = rw e (zero-mul (v + toward h v (0 * r)))
 
 pub line_start : (h : Heading) (v r k : ℕ) → k ≡ 0 → v ≡ toward h v (k * r)
 unfolding toward
-line_start rising v r k e = rw e (omega arith)
-line_start falling v r k e = rw e (omega arith)
+line_start Rising v r k e = rw e (omega arith)
+line_start Falling v r k e = rw e (omega arith)
 
 rise_more : (v r k m : ℕ) → k * (v + (v + k * r)) + m * ((v + k * r) + (v + (k + m) * r)) ≡ (k + m) * (v + (v + (k + m) * r))
 rise_more v r k m = omega arith
@@ -37,28 +39,28 @@ module _ (v r k m d : ℕ) (le : k + m ≤ d) where
 
   pub line_low : (h : Heading) → StaysLow h v (d * r) → toward h v (k * r) < level_bound
   unfolding toward
-  line_low rising s = omega (arith, less)
-  line_low falling s = omega (arith, less)
+  line_low Rising s = omega (arith, less)
+  line_low Falling s = omega (arith, less)
 
   pub line_reaches : (h : Heading) → StaysLow h v (d * r) → Reaches h (toward h v (k * r)) (m * r)
   unfolding toward
-  line_reaches rising s = omega (arith, less)
-  line_reaches falling s = omega (arith, less)
+  line_reaches Rising s = omega (arith, less)
+  line_reaches Falling s = omega (arith, less)
 
   pub line_way : (h : Heading) → StaysLow h v (d * r) → m * r ≤ level_bound
-  line_way rising s = omega (arith, less)
-  line_way falling s = omega (arith, less)
+  line_way Rising s = omega (arith, less)
+  line_way Falling s = omega (arith, less)
 
   pub line_on : (h : Heading) → StaysLow h v (d * r) → toward h (toward h v (k * r)) (m * r) ≡ toward h v ((k + m) * r)
   unfolding toward
-  line_on rising s = omega arith
-  line_on falling s = omega (arith, less)
+  line_on Rising s = omega arith
+  line_on Falling s = omega (arith, less)
 
   pub line_more : (h : Heading) → StaysLow h v (d * r) →
       line_twice h v r k + m * (toward h v (k * r) + toward h v ((k + m) * r)) ≡ line_twice h v r (k + m)
   unfolding line_twice toward
-  line_more rising s = rise_more v r k m
-  line_more falling s = fall_more v (v - (k + m) * r) (v - k * r) (v - (k + m) * r) r k m (omega (arith, less, s.0)) (omega (arith, less, s.0)) refl
+  line_more Rising s = rise_more v r k m
+  line_more Falling s = fall_more v (v - (k + m) * r) (v - k * r) (v - (k + m) * r) r k m (omega (arith, less, s.0)) (omega (arith, less, s.0)) refl
 
 -- ---- along a line, half-hour by half-hour
 
@@ -155,17 +157,17 @@ module _ {h : Heading} {level rate from to : ℕ} where
 
 pub along_toward : (h : Heading) (v m w : ℕ) → Along h v m w → w ≡ toward h v m
 unfolding toward
-along_toward rising v m w a = a
-along_toward falling v m w a = omega arith
+along_toward Rising v m w a = a
+along_toward Falling v m w a = omega arith
 
 way_is : (h : Heading) (v m w : ℕ) → Along h v m w → gap v w ≡ m
 unfolding gap
-way_is rising v m w a = omega arith
-way_is falling v m w a = omega arith
+way_is Rising v m w a = omega arith
+way_is Falling v m w a = omega arith
 
 stays : (h : Heading) (v m w : ℕ) → Along h v m w → v < level_bound → w < level_bound → StaysLow h v m
-stays rising v m w a lv lw = omega arith
-stays falling v m w a lv lw = omega arith
+stays Rising v m w a lv lw = omega arith
+stays Falling v m w a lv lw = omega arith
 
 pub straight_rate : {h : Heading} {p q : Place} → p.second < q.second → (s : Straight h p q) → piece_rate p q ≡ s.rate
 straight_rate {h} {p} {q} lt s = div-eq_of_eq-mul_right (omega arith) (way_is h p.level ((q.second - p.second) * s.rate) q.level s.along)

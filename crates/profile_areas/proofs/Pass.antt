@@ -11,7 +11,7 @@ use Rattle.records.specs.declared.UnitData.{UnitData}
 use Rattle.course.specs.declared.Course.{Course}
 use Rattle.course.specs.declared.Segment.{Segment}
 use Rattle.course.specs.Lists.{Lists}
-use Rattle.course.specs.Course.{Heading}
+use Rattle.course.specs.declared.Heading.{Heading}
 use Rattle.course_rates.specs.declared.OwnLists.{OwnLists}
 use Rattle.course_walk.specs.declared.Place.{Place}
 use Rattle.course_walk.specs.declared.Reached.{Reached}

@@ -10,7 +10,8 @@ use Rattle.level.specs.Level.{grains}
 use Rattle.records.specs.declared.UnitData.{UnitData}
 use Rattle.course.specs.declared.Course.{Course}
 use Rattle.course.specs.Lists.{Lists}
-use Rattle.course.specs.Course.{Heading, heading, after, moment_at, trajectory_of}
+use Rattle.course.specs.declared.Heading.{Heading}
+use Rattle.course.specs.Course.{heading, after, moment_at, trajectory_of}
 use Rattle.course.specs.Pieces.{piece}
 use Rattle.course.proofs.Pieces.{Line}
 use Rattle.profile.specs.declared.UnderWay.{UnderWay}

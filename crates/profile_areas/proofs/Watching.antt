@@ -9,7 +9,9 @@ use native.Mathlib.Omega.{arith}
 use lib.Dec.{eqb}
 use borrow.Author.Tests.{eq-eqb, ne_eqb}
 use Rattle.level.specs.Choice.{pick}
-use Rattle.course.specs.Course.{Trajectory, Heading, rising, falling, Moment, heading, after, moment_at, level_at}
+use Rattle.course.specs.declared.Heading.{Heading}
+use Rattle.course.specs.declared.Heading.TheVariants.{Rising, Falling}
+use Rattle.course.specs.Course.{Trajectory, Moment, heading, after, moment_at, level_at}
 use Rattle.course.specs.Headings.{Along}
 use Rattle.course.proofs.Pieces.{Line}
 use Rattle.course.proofs.Seconds.{after_add}
@@ -22,13 +24,13 @@ use Rattle.profile_areas.specs.Watching.{off_between}
 
 -- both ends of a line at 0: all of it is
 flat : (h : Heading) (d r i v x w : ℕ) → i ≤ d → v ≡ 0 → w ≡ 0 → Along h v (i * r) x → Along h v (d * r) w → x ≡ 0
-flat rising d r i v x w le e f p q = omega (arith, mul-le-mul_right {m = i} {n = d} r le)
-flat falling d r i v x w le e f p q = omega arith
+flat Rising d r i v x w le e f p q = omega (arith, mul-le-mul_right {m = i} {n = d} r le)
+flat Falling d r i v x w le e f p q = omega arith
 
 -- the end alone at 0: a second earlier the line is above it
 sinks : (h : Heading) (b r v x w : ℕ) → v ≢ 0 → w ≡ 0 → Along h v (b * r) x → Along h v (suc b * r) w → x ≢ 0
-sinks rising b r v x w ne e p q z = ne (omega arith)
-sinks falling b r v x w ne e p q z = ne (omega (arith, none r b (omega arith)))
+sinks Rising b r v x w ne e p q z = ne (omega arith)
+sinks Falling b r v x w ne e p q z = ne (omega (arith, none r b (omega arith)))
   where
     none : (r b : ℕ) → r ≡ 0 → b * r ≡ 0
     none r b e = rw e (omega arith)

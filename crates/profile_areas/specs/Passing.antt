@@ -7,7 +7,9 @@ use Rattle.level.specs.Bounds.{most_seconds, level_bound}
 use Rattle.records.specs.declared.UnitData.{UnitData}
 use Rattle.course.specs.declared.Course.{Course}
 use Rattle.course.specs.Lists.{Lists}
-use Rattle.course.specs.Course.{Heading, rising, falling, toward, gap, moment_at, trajectory_of}
+use Rattle.course.specs.declared.Heading.{Heading}
+use Rattle.course.specs.declared.Heading.TheVariants.{Rising, Falling}
+use Rattle.course.specs.Course.{toward, gap, moment_at, trajectory_of}
 use Rattle.course.specs.Headings.{Short, Along}
 use Rattle.profile.specs.State.{watch}
 use Rattle.course_rates.specs.declared.OwnLists.{OwnLists}
@@ -62,8 +64,8 @@ line_from h v r from i = line_twice h v r (i - from)
 
 -- all the way while it moves by m the level v is one of 32 bits of kW
 abbrev pub StaysLow : Heading → ℕ → ℕ → Type 0
-StaysLow rising v m = v + m < level_bound
-StaysLow falling v m = (m ≤ v) × (v < level_bound)
+StaysLow Rising v m = v + m < level_bound
+StaysLow Falling v m = (m ≤ v) × (v < level_bound)
 
 -- from p to q the level goes straight, by so much a second
 pub record Straight (h : Heading) (p q : Place) : Type 0 where

@@ -17,7 +17,7 @@ use Rattle.level.proofs.Lists.{left_cons, left_none}
 use Rattle.records.specs.declared.UnitData.{UnitData}
 use Rattle.course.specs.declared.Course.{Course}
 use Rattle.course.specs.Lists.{Lists}
-use Rattle.course.specs.Course.{Heading}
+use Rattle.course.specs.declared.Heading.{Heading}
 use Rattle.course.specs.Headings.{Short}
 use Rattle.validation.specs.declared.Numbered.{Numbered}
 use Rattle.validation.specs.Kept.{acting}

@@ -1,88 +1,80 @@
-use Rattle.std.proofs.Common.{◌≡◌, ℕ, ◌*◌, ◌<◌, ◌≤◌, ◌^◌, ap, sym, ◌∙◌, subst, arith}
-use Rattle.level.specs.Level.{grains}
+use Rattle.std.proofs.Common.{◌≡◌, ℕ, ◌<◌, ◌≤◌, ◌^◌, ap, sym, ◌∙◌, subst, arith}
+use Rattle.std.specs.Prelude.{Option, Some, IfSome}
 use Rattle.course.specs.declared.Segment.{Segment}
 use Rattle.course.specs.Lists.{Lists}
-use Rattle.course.specs.Course.{Heading}
-use Rattle.course.specs.Headings.{Past}
+use Rattle.course.specs.declared.Heading.{Heading}
+use Rattle.course.specs.Headings.{Short}
 use Rattle.course.proofs.Near.{short_past}
 use Rattle.course.proofs.Rule.{past_not}
-use Rattle.course_rates.specs.Ways.{headed, lists_by}
 use Rattle.course_stops.specs.Ahead.{segment_from}
 use Rattle.course_walk.specs.declared.Place.{Place}
 use Rattle.course_walk.specs.declared.Reached.{Reached}
-use Rattle.course_walk.specs.Walk.{Reaches, Known, unknown, along, rest_along, onward}
+use Rattle.course_walk.specs.Walk.{Reaches, SegmentAhead, Known, along, rest_along, onward}
 use Rattle.course_walk.proofs.Onward.{onward_hold, onward_rest, onward_along, reaches_stop}
 use Rattle.course_walk.proofs.Rest.{along_known}
 use Rattle.course_walk.proofs.walk_on.Goals as goal
 
--- what is to be returned from the place p, and the two ways to it
-module _ (h : Heading) (l : Lists) (t n : ℕ) (p : Place) where
-  abbrev Onward : Reached → Type 0
-  Onward r = (r.place ≡ onward h l t n p) × Known h l t r
+-- from the place p by the segment x that lies ahead
+module _ (h : Heading) (l : Lists) (t n : ℕ) (p : Place) (x : Segment) (a : SegmentAhead h l t p x) where
+  reaches : t < 2 ^ 64 → Reaches h p.level x.way
+  reaches low = subst (λ (x : Segment). Reaches h p.level x.way) (sym a.is) (reaches_stop h l t p.level a.past low)
 
-  by_place : (q : Place) (r : Reached) → r ≡ unknown q → q ≡ onward h l t n p → Onward r
-  by_place q r e to = (ap (λ (r : Reached). r.place) e ∙ to, subst (Known h l t) (sym e) (λ lt. absurd (omega arith)))
+  module _ (r : Reached) (e : r ≡ record { place = along h n p x; rest = rest_along n p x }) where
+    to : r ≡ record { place = along h n p (segment_from h l t p.level); rest = rest_along n p (segment_from h l t p.level) }
+    to = e ∙ ap (λ (x : Segment). record { place = along h n p x; rest = rest_along n p x }) a.is
 
-  by_segment : (x : Segment) (r : Reached) → p.left ≤ 0 → Past h p.level t → x ≡ segment_from h l t p.level →
-      r ≡ record { place = along h n p x; rest = rest_along n p x } → Onward r
-  by_segment x r none past is e =
-      let to = e ∙ ap (λ (x : Segment). record { place = along h n p x; rest = rest_along n p x }) is in (
-        ap (λ (r : Reached). r.place) to ∙ onward_along h l t n p none (past_not h p.level t past),
-        subst (Known h l t) (sym to) (along_known h l t n p past),
-      )
+    place_on : r.place ≡ onward h l t n p
+    place_on = ap (λ (r : Reached). r.place) to ∙ onward_along h l t n p (omega (arith, a.no_hold)) (past_not h p.level t a.past)
 
-  reaches : (x : Segment) → t < 2 ^ 64 → Past h p.level t → x ≡ segment_from h l t p.level → Reaches h p.level x.way
-  reaches x low past is = subst (λ (x : Segment). Reaches h p.level x.way) (sym is) (reaches_stop h l t p.level past low)
+    known_on : Known h l t r
+    known_on = subst (Known h l t) (sym to) (along_known h l t n p a.past)
+
+-- the segment that is known
+pub known_some : {h : Heading} {l : Lists} {t : ℕ} {p : Place} {o : Option Segment} {x : Segment} → IfSome o (SegmentAhead h l t p) → o ≡ Some x →
+    SegmentAhead h l t p x
+known_some {h} {l} {t} {p} known e = subst (λ (o : Option Segment). IfSome o (SegmentAhead h l t p)) e known
 
 -- ---- a segment is known
 pub along_segment-requires-clause-reaches : goal.along_segment-requires-clause-reaches
-unfolding grains
 along_segment-requires-clause-reaches c =
-    let a = c.args in
-    let k = c.requires.known c.if-s-gt0.true in
-    let low : 60 * a.c.target < 2 ^ 64 = omega arith in
-    reaches (headed a.up) (lists_by a.l a.c) (grains a.c.target) a.n a.from.place a.from.rest low k.past k.rest
+    let low = c.grains_of-t.ensures in
+    reaches _ _ _ c.args.n c.args.from.place c.in-Some.s (known_some c.requires.known c.in-Some.is) (omega (arith, low.is, low.low))
 
-pub returns-then-s-gt0 : goal.returns-then-s-gt0
-returns-then-s-gt0 c =
-    let a = c.args in
-    let k = c.requires.known c.if-s-gt0.true in
-    by_segment (headed a.up) (lists_by a.l a.c) (grains a.c.target) a.n a.from.place a.from.rest _
-    (omega (arith, k.no_hold)) k.past k.rest c.along_segment.ensures
+pub returns-in-Some-clause-onward : goal.returns-in-Some-clause-onward
+returns-in-Some-clause-onward c =
+    place_on _ _ _ c.args.n c.args.from.place c.in-Some.s (known_some c.requires.known c.in-Some.is) _ c.along_segment.ensures
+
+pub returns-in-Some-clause-known : goal.returns-in-Some-clause-known
+returns-in-Some-clause-known c =
+    known_on _ _ _ c.args.n c.args.from.place c.in-Some.s (known_some c.requires.known c.in-Some.is) _ c.along_segment.ensures
 
 -- ---- none is known
-pub returns-then-p-gt0 : goal.returns-then-p-gt0
-returns-then-p-gt0 c =
-    let a = c.args in
-    let h = headed a.up in
-    let l = lists_by a.l a.c in
-    let t = grains a.c.target in
-    by_place h l t a.n a.from.place _ _ c.arrived.ensures (c.after_hold-q.ensures ∙ onward_hold h l t a.n a.from.place c.if-p-gt0.true)
+pub returns-then-p-gt0-clause-onward : goal.returns-then-p-gt0-clause-onward
+returns-then-p-gt0-clause-onward c = ap (λ (r : Reached). r.place) c.arrived.ensures ∙ c.after_hold.ensures
+    ∙ onward_hold _ _ _ c.args.n c.args.from.place c.if-p-gt0.true
 
-pub returns-then-p-t : goal.returns-then-p-t
-returns-then-p-t c =
-    let a = c.args in
-    let h = headed a.up in
-    let l = lists_by a.l a.c in
-    let t = grains a.c.target in
-    by_place h l t a.n a.from.place _ _ c.arrived-then-p-t.ensures
-    (c.after_rest-q.ensures ∙ onward_rest h l t a.n a.from.place c.if-p-gt0.false (c.if-p-t.true ∙ c.grains_of-t.ensures.is))
+pub returns-then-p-t-clause-onward : goal.returns-then-p-t-clause-onward
+returns-then-p-t-clause-onward c = ap (λ (r : Reached). r.place) c.arrived-then-p-t.ensures ∙ c.after_rest.ensures
+    ∙ onward_rest _ _ _ c.args.n c.args.from.place c.if-p-gt0.false (c.if-p-t.true ∙ c.grains_of-t.ensures.is)
 
 -- the target lies ahead
+lies_ahead : {h : Heading} {l : Lists} {t m : ℕ} {p : Place} {x : Segment} → p.left ≤ 0 → Short h t p.level → m ≡ t → (p.level ≡ m → ⊥) →
+    x ≡ segment_from h l t p.level → SegmentAhead h l t p x
+lies_ahead {h} {l} {t} {m} {p} none short e off is =
+    record { no_hold = omega arith; past = short_past h t p.level short (λ z. off (z ∙ sym e)); is = is }
+
 pub along_segment-requires-2-clause-reaches : goal.along_segment-requires-2-clause-reaches
 along_segment-requires-2-clause-reaches c =
-    let a = c.args in
-    let h = headed a.up in
-    let t = grains a.c.target in
-    let p = a.from.place in
-    reaches h (lists_by a.l a.c) t a.n p _ (omega (arith, c.grains_of-t.ensures.is, c.grains_of-t.type_inv))
-    (short_past h t p.level c.requires.short (λ e. omega (arith, c.grains_of-t.ensures.is))) c.segment_from-ahead.ensures
+    let low = c.grains_of-t.ensures in
+    reaches _ _ _ c.args.n c.args.from.place _
+    (lies_ahead c.if-p-gt0.false c.requires.short low.is c.if-p-t.false c.segment_from-ahead.ensures) (omega (arith, low.is, low.low))
 
-pub returns : goal.returns
-returns c =
-    let a = c.args in
-    let h = headed a.up in
-    let t = grains a.c.target in
-    let p = a.from.place in
-    by_segment h (lists_by a.l a.c) t a.n p _ _ c.if-p-gt0.false
-    (short_past h t p.level c.requires.short (λ e. omega (arith, c.grains_of-t.ensures.is))) c.segment_from-ahead.ensures c.along_segment-2.ensures
+pub returns-clause-onward : goal.returns-clause-onward
+returns-clause-onward c = place_on _ _ _ c.args.n c.args.from.place _
+    (lies_ahead c.if-p-gt0.false c.requires.short c.grains_of-t.ensures.is c.if-p-t.false c.segment_from-ahead.ensures) _
+    c.along_segment-2.ensures
+
+pub returns-clause-known : goal.returns-clause-known
+returns-clause-known c = known_on _ _ _ c.args.n c.args.from.place _
+    (lies_ahead c.if-p-gt0.false c.requires.short c.grains_of-t.ensures.is c.if-p-t.false c.segment_from-ahead.ensures) _
+    c.along_segment-2.ensures
