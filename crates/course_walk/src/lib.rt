@@ -3,6 +3,7 @@
 #![tactic(auto)]
 
 ghost use Rattle.std.specs.Prelude.{◌≡◌, ◌+◌, ◌*◌, ◌-◌, ◌/◌, min, ◌<◌, ◌≤◌, ◌^◌};
+ghost use Rattle.level.specs.Bounds.{level_bound};
 ghost use Rattle.course.specs.Course.{toward};
 ghost use Rattle.course_rates.specs.Ways.{target_of, lists_by};
 ghost use Rattle.course_walk.specs.Walk.{Reaches, WalkAhead, RunAhead, Known, after_hold, after_rest, after_run, after_short, along, rest_along, rest_run, unknown, reached_at, onward};
@@ -149,6 +150,7 @@ pub fn walk_on(r: &course_rates::Route, from: Reached, n: u32) -> Reached
     requires { WalkAhead r.now from n }
     ensures onward { result.place ≡ onward r.now.heading (lists_by r.now) (target_of r.now) n from.place }
     ensures known { Known r.now.heading (lists_by r.now) (target_of r.now) result }
+    ensures low { from.place.level < level_bound → result.place.level < level_bound }
 {
     let p = from.place;
     let t = course_rates::grains_of(r.course.target);

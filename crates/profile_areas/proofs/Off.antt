@@ -8,14 +8,6 @@ use Rattle.course_walk.specs.declared.Place.{Place}
 use Rattle.profile.specs.State.{held}
 use Rattle.profile_areas.specs.Watching.{off_starting, off_between}
 
-pub held_low : (n : ℕ) → n ≤ 10000000 → n ≡ held n
-unfolding held
-held_low n h = omega arith
-
-pub held_high : (n : ℕ) → 10000000 < n → 10000000 ≡ held n
-unfolding held
-held_high n h = omega arith
-
 module _ (c : Course) (off : ℕ) where
   pub starting_off : c.start.grains ≡ 0 → held (off + 0) ≡ off_starting c off
   unfolding off_starting

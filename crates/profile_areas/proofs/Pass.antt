@@ -4,6 +4,7 @@ use mathlib.Core.Path.{◌≡◌, refl, sym, ◌∙◌}
 use mathlib.Core.Bool.{Bool}
 use mathlib.Core.List.{List}
 use native.Mathlib.Omega.{arith}
+use Rattle.std.specs.Prelude.{Option}
 use Rattle.level.specs.Level.{grains}
 use Rattle.level.specs.Numbers.{half_hour}
 use Rattle.level.specs.Bounds.{level_bound}
@@ -12,10 +13,10 @@ use Rattle.course.specs.declared.Course.{Course}
 use Rattle.course.specs.declared.Segment.{Segment}
 use Rattle.course.specs.Lists.{Lists}
 use Rattle.course.specs.declared.Heading.{Heading}
-use Rattle.course_rates.specs.declared.OwnLists.{OwnLists}
+use Rattle.course_rates.specs.declared.Route.{Route}
 use Rattle.course_walk.specs.declared.Place.{Place}
 use Rattle.course_walk.specs.declared.Reached.{Reached}
-use Rattle.course_rates.specs.Ways.{headed, own_lists, lists_by}
+use Rattle.course_rates.specs.Ways.{target_of, lists_by}
 use Rattle.course_walk.specs.Walk.{Known, onward, twice_to}
 use Rattle.course_walk.proofs.PieceStep.{PieceStep, onward_step, standing_on, standing_here}
 use Rattle.course_walk.proofs.Own.{own_onward}
@@ -30,21 +31,21 @@ step_there : {h : Heading} {l : Lists} {t n : ℕ} {p q : Place} → PieceStep h
 step_there g = record { later = g.later; within = omega arith; short = g.short; low = g.low; moment = g.moment; straight = g.straight }
 
 -- the next piece of the course, from p to q
-pub record NextPiece (l : OwnLists) (c : Course) (up : Bool) (n : ℕ) (p q : Place) : Type 0 where
+pub record NextPiece (r : Route) (n : ℕ) (p q : Place) : Type 0 where
   pub to_go : p.second < n
-  pub is : q ≡ onward (headed up) (lists_by l c) (grains c.target) n p
-  pub step : PieceStep (headed up) (lists_by l c) (grains c.target) n p q
+  pub is : q ≡ onward r.heading (lists_by r) (target_of r) n p
+  pub step : PieceStep r.heading (lists_by r) (target_of r) n p q
   pub low : q.level < level_bound
 
-module _ {l : OwnLists} {c : Course} {up : Bool} {before n : ℕ} where
+module _ {r : Route} {before n : ℕ} where
   -- nothing yet
-  pub progress_start : {start : Reached} {xs : List ℕ} {total : ℕ} → CourseAhead l c up start n (summed start.place.second xs total) →
-      PassProgress l c up start.place before n (summed start.place.second xs total) xs start before total
+  pub progress_start : {start : Reached} {xs : List ℕ} {total : ℕ} → CourseAhead r start n (summed start.place.second xs total) →
+      PassProgress r start.place before n (summed start.place.second xs total) xs start before total
   progress_start {start} {xs} {total} a =
       let p : Place = start.place in
-      let h : Heading = headed up in
-      let ls : Lists = lists_by l c in
-      let t : ℕ = grains c.target in
+      let h : Heading = r.heading in
+      let ls : Lists = lists_by r in
+      let t : ℕ = target_of r in
       record {
         adds = (noted_none (λ (i : ℕ). twice_to h ls t i p) (λ i k. twice_none h ls t p i k) a.fits).adds;
         fits = a.fits;
@@ -55,24 +56,24 @@ module _ {l : OwnLists} {c : Course} {up : Bool} {before n : ℕ} where
         short = a.short;
         low = a.low;
         stands = sym (standing_here h ls t p.second p refl);
-        watched = λ u b e w. w;
+        watched = λ u b w. w;
       }
 
-  module _ {from : Place} {a : Summed} {ys : List ℕ} {at : Reached} {off total : ℕ} (s : PassProgress l c up from before n a ys at off total) where
+  module _ {from : Place} {a : Summed} {ys : List ℕ} {at : Reached} {off total : ℕ} (s : PassProgress r from before n a ys at off total) where
     abbrev h : Heading
-    h = headed up
+    h = r.heading
 
     abbrev ls : Lists
-    ls = lists_by l c
+    ls = lists_by r
 
     abbrev t : ℕ
-    t = grains c.target
+    t = target_of r
 
     abbrev p : Place
     p = at.place
 
     -- n is reached
-    pub progress_end : n ≤ p.second → Passing l c up from before n a ys (record { reached = at; ahead = p; off = off; later = off; total = total })
+    pub progress_end : n ≤ p.second → Passing r from before n a ys (record { reached = at; ahead = p; off = off; later = off; total = total })
     progress_end le = record {
       progress = s;
       runs = λ lt. absurd (omega arith);
@@ -81,25 +82,24 @@ module _ {l : OwnLists} {c : Course} {up : Bool} {before n : ℕ} where
       watched = s.watched;
     }
 
-    pub next_piece : {q : Place} → c.target < 2 ^ 32 → p.second < n → q ≡ onward h ls t n p → NextPiece l c up n p q
-    unfolding grains
-    next_piece target to_go e =
-        let step = onward_step h ls t n p to_go s.short in
-        rw e (record { to_go = to_go; is = refl; step = step; low = omega (arith, step.low, s.low) })
+    pub next_piece : {q : Place} → p.second < n → q ≡ onward h ls t n p → (p.level < level_bound → q.level < level_bound) → NextPiece r n p q
+    next_piece to_go e low = record { to_go = to_go; is = e; step = rw e (onward_step h ls t n p to_go s.short); low = low s.low }
 
-    module _ {q : Place} (x : NextPiece l c up n p q) {more : ℕ} (f : more ≡ off_between p q off) where
-      on_watch : (u : UnitData) (b : ℕ) → l ≡ own_lists u c up → Watching u c b up from before → Watching u c b up q more
-      on_watch u b k w = watching_on u c b up p off n (s.watched u b k w) x.to_go q more (x.is ∙ own_onward u c up l k t n p) f
+    module _ {q : Place} (x : NextPiece r n p q) {more : ℕ} (f : more ≡ off_between p q off) where
+      on_watch : (u : UnitData) (b : ℕ) → Watching u r b from before → Watching u r b q more
+      on_watch u b w =
+          let here = s.watched u b w in
+          watching_on u r b p off n here x.to_go q more (x.is ∙ own_onward u r here.own t n p) f
 
       -- n cuts it
       pub progress_cut : n ≤ q.second →
-          Passing l c up from before n a ys (record { reached = at; ahead = q; off = off; later = more; total = total })
+          Passing r from before n a ys (record { reached = at; ahead = q; off = off; later = more; total = total })
       progress_cut le = record { progress = s; runs = λ lt. x.is; there = omega (arith, x.step.within); ahead_low = x.low; watched = on_watch }
 
       -- it ends before n, and is added
-      pub progress_more : {rest : Segment} → q.second < n → Known h ls t (record { place = q; rest = rest }) → {zs : List ℕ} {sum : ℕ} →
+      pub progress_more : {rest : Option Segment} → q.second < n → Known h ls t (record { place = q; rest = rest }) → {zs : List ℕ} {sum : ℕ} →
           Noted (piece_from h p q) (summed p.second ys total) (summed q.second zs sum) →
-          PassProgress l c up from before n a zs (record { place = q; rest = rest }) more sum
+          PassProgress r from before n a zs (record { place = q; rest = rest }) more sum
       progress_more ends known noted = record {
         adds = λ j k. omega (
           arith,

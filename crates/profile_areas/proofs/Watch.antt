@@ -18,7 +18,8 @@ use Rattle.profile.specs.declared.UnderWay.{UnderWay}
 use Rattle.profile.specs.State.{held, watch, by_rule}
 use Rattle.profile.specs.Effects.{state_at}
 use Rattle.course_walk.specs.declared.Place.{Place}
-use Rattle.course_rates.specs.Ways.{headed, lists_in}
+use Rattle.course_rates.specs.declared.Route.{Route}
+use Rattle.course_rates.specs.Ways.{lists_in, route_of, target_of}
 use Rattle.course_walk.specs.Walk.{moment_of, beginning, onward}
 use Rattle.course_walk.proofs.PieceStep.{PieceStep, step_line, onward_step}
 use Rattle.course_walk.proofs.Courses.{heading_is, begins_short}
@@ -62,55 +63,56 @@ between_back a p q off h k =
     ap (λ (d : ℕ). pick (eqb p.level 0 && eqb q.level 0) (held (off + d)) 0) {x = q.second - p.second} {y = q.second - a - (p.second - a)}
     (omega arith)
 
-module _ (u : UnitData) (c : Course) (before : ℕ) (up : Bool) where
-  pub watching_start : up ≡ ltb c.start.grains (grains c.target) → Watching u c before up (beginning c c.begin) (off_starting c before)
+module _ (u : UnitData) (r : Route) (before : ℕ) where
+  pub watching_start : r ≡ route_of u r.course → Watching u r before (beginning r.course r.course.begin) (off_starting r.course before)
   unfolding beginning off_starting moment_at after trajectory_of watch
-  watching_start r = record {
-    rises = r;
+  watching_start own = record {
+    own = own;
     begun = omega arith;
-    short = begins_short u c up r c.begin;
-    moment = first ∙ ap (moment_at (trajectory_of u c)) {x = 0} {y = c.begin - c.begin} (omega arith);
-    off_is = none ∙ ap (λ (k : ℕ). (watch (trajectory_of u c) before k).off) {x = 0} {y = c.begin - c.begin} (omega arith);
+    short = begins_short u r own r.course.begin;
+    moment = first ∙ ap (moment_at (trajectory_of u r.course)) {x = 0} {y = r.course.begin - r.course.begin} (omega arith);
+    off_is = none ∙ ap (λ (k : ℕ). (watch (trajectory_of u r.course) before k).off) {x = 0} {y = r.course.begin - r.course.begin} (omega arith);
   }
     where
-      first : (record { level = c.start.grains; left = 0 }) ≡ moment_at (trajectory_of u c) 0
+      first : (record { level = r.course.start.grains; left = 0 }) ≡ moment_at (trajectory_of u r.course) 0
       first = refl
 
-      none : off_starting c before ≡ (watch (trajectory_of u c) before 0).off
+      none : off_starting r.course before ≡ (watch (trajectory_of u r.course) before 0).off
       none = refl
 
-  module _ (p : Place) (off n : ℕ) (w : Watching u c before up p off) (to_go : p.second < n) where
-    pub watching_step : PieceStep (headed up) (lists_in u c) (grains c.target) n p (onward (headed up) (lists_in u c) (grains c.target) n p)
-    watching_step = onward_step (headed up) (lists_in u c) (grains c.target) n p to_go w.short
+  module _ (p : Place) (off n : ℕ) (w : Watching u r before p off) (to_go : p.second < n) where
+    pub watching_step : PieceStep r.heading (lists_in u r.course) (target_of r) n p (onward r.heading (lists_in u r.course) (target_of r) n p)
+    watching_step = onward_step r.heading (lists_in u r.course) (target_of r) n p to_go w.short
 
-    turned : (q : Place) → q ≡ onward (headed up) (lists_in u c) (grains c.target) n p →
-        PieceStep (heading (trajectory_of u c)) (trajectory_of u c).lists (trajectory_of u c).target (n - c.begin) (back c.begin p)
-        (back c.begin q)
+    turned : (q : Place) → q ≡ onward r.heading (lists_in u r.course) (target_of r) n p →
+        PieceStep (heading (trajectory_of u r.course)) (trajectory_of u r.course).lists (trajectory_of u r.course).target (n - r.course.begin) (back r.course.begin p)
+        (back r.course.begin q)
     unfolding trajectory_of
-    turned q e = rw (heading_is u c up w.rises) (step_back c.begin w.begun (rw e watching_step))
+    turned q e = rw (heading_is u r w.own) (step_back r.course.begin w.begun (rw e watching_step))
 
-    pub watching_on : (q : Place) (o : ℕ) → q ≡ onward (headed up) (lists_in u c) (grains c.target) n p → o ≡ off_between p q off →
-        Watching u c before up q o
+    pub watching_on : (q : Place) (o : ℕ) → q ≡ onward r.heading (lists_in u r.course) (target_of r) n p → o ≡ off_between p q off →
+        Watching u r before q o
     watching_on q o e f =
-        let g : PieceStep (headed up) (lists_in u c) (grains c.target) n p q = rw e watching_step in
-        let a : ℕ = c.begin in
+        let g : PieceStep r.heading (lists_in u r.course) (target_of r) n p q = rw e watching_step in
+        let a : ℕ = r.course.begin in
         record {
-          rises = w.rises;
+          own = w.own;
           begun = omega (arith, w.begun, g.later);
           short = g.short;
-          moment = moment_on (trajectory_of u c) before (n - a) (back a p) (back a q) w.moment (turned q e);
+          moment = moment_on (trajectory_of u r.course) before (n - a) (back a p) (back a q) w.moment (turned q e);
           off_is = f ∙ between_back a p q off w.begun g.later ∙ ap (off_between (back a p) (back a q)) w.off_is
-              ∙ sym (off_on (trajectory_of u c) before (n - a) (back a p) (back a q) w.moment (turned q e));
+              ∙ sym (off_on (trajectory_of u r.course) before (n - a) (back a p) (back a q) w.moment (turned q e));
         }
 
-  pub watching_state : (p : Place) (off : ℕ) → Watching u c before up p off →
-      (record { level = p.level; off = off }) ≡ by_rule (trajectory_of u c) before (p.second - c.begin)
+  pub watching_state : (p : Place) (off : ℕ) → Watching u r before p off →
+      (record { level = p.level; off = off }) ≡ by_rule (trajectory_of u r.course) before (p.second - r.course.begin)
   watching_state p off w = (λ i. record { level = p.level; off = w.off_is i })
-      ∙ state_there (trajectory_of u c) before (back c.begin p) (p.second - c.begin) refl w.moment
+      ∙ state_there (trajectory_of u r.course) before (back r.course.begin p) (p.second - r.course.begin) refl w.moment
 
 -- the state at the second t, of the course under way
-pub watching_at : (u : UnitData) (now : UnderWay) (up : Bool) (p : Place) (off t : ℕ) → Watching u now.course now.off up p off → p.second ≡ t →
-    (record { level = p.level; off = off }) ≡ state_at by_rule u now t
+pub watching_at : (u : UnitData) (now : UnderWay) (r : Route) (p : Place) (off t : ℕ) → r.course ≡ now.course → Watching u r now.off p off →
+    p.second ≡ t → (record { level = p.level; off = off }) ≡ state_at by_rule u now t
 unfolding state_at
-watching_at u now up p off t w e =
-    watching_state u now.course now.off up p off w ∙ ap (λ (k : ℕ). by_rule (trajectory_of u now.course) now.off (k - now.course.begin)) e
+watching_at u now r p off t is w e = watching_state u r now.off p off w
+    ∙ ap (λ (k : ℕ). by_rule (trajectory_of u r.course) now.off (k - r.course.begin)) e
+    ∙ ap (λ (c : Course). by_rule (trajectory_of u c) now.off (t - c.begin)) is

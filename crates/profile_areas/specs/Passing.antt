@@ -12,10 +12,10 @@ use Rattle.course.specs.declared.Heading.TheVariants.{Rising, Falling}
 use Rattle.course.specs.Course.{toward, gap, moment_at, trajectory_of}
 use Rattle.course.specs.Headings.{Short, Along}
 use Rattle.profile.specs.State.{watch}
-use Rattle.course_rates.specs.declared.OwnLists.{OwnLists}
+use Rattle.course_rates.specs.declared.Route.{Route}
 use Rattle.course_walk.specs.declared.Place.{Place}
 use Rattle.course_walk.specs.declared.Reached.{Reached}
-use Rattle.course_rates.specs.Ways.{headed, own_lists, lists_by}
+use Rattle.course_rates.specs.Ways.{target_of, route_of, lists_by}
 use Rattle.course_walk.specs.Walk.{moment_of, Known, onward, standing, twice_to}
 use Rattle.profile_areas.specs.declared.Passed.{Passed}
 
@@ -98,12 +98,12 @@ pub record PieceAhead (h : Heading) (p q : Place) (a : Summed) : Type 0 where
   pub fits : SumsFit a
 
 -- along a course, from where it was reached towards the second n
-pub record CourseAhead (l : OwnLists) (c : Course) (up : Bool) (from : Reached) (n : ℕ) (a : Summed) : Type 0 where
+pub record CourseAhead (r : Route) (from : Reached) (n : ℕ) (a : Summed) : Type 0 where
   pub later : from.place.second ≤ n
   pub within : n ≤ most_seconds
   pub low : from.place.level < level_bound
-  pub short : Short (headed up) (grains c.target) from.place.level
-  pub known : Known (headed up) (lists_by l c) (grains c.target) from
+  pub short : Short r.heading (target_of r) from.place.level
+  pub known : Known r.heading (lists_by r) (target_of r) from
   pub fits : SumsFit a
 
 -- ---- courses
@@ -112,33 +112,33 @@ pub record CourseAhead (l : OwnLists) (c : Course) (up : Bool) (from : Reached) 
 abbrev pub AddsOn : Heading → Lists → ℕ → Place → Summed → Summed → Type 0
 AddsOn h l t p a b = Adds (λ i. twice_to h l t i p) a b
 
--- where a course of the unit u stands, which began with so many seconds off: the place p, and the seconds off there
-pub record Watching (u : UnitData) (c : Course) (before : ℕ) (up : Bool) (p : Place) (off : ℕ) : Type 0 where
-  pub rises : up ≡ ltb c.start.grains (grains c.target)
-  pub begun : c.begin ≤ p.second
-  pub short : Short (headed up) (grains c.target) p.level
-  pub moment : moment_of p ≡ moment_at (trajectory_of u c) (p.second - c.begin)
-  pub off_is : off ≡ (watch (trajectory_of u c) before (p.second - c.begin)).off
+-- where a course of the unit u stands on its route, which began with so many seconds off: the place p, and the seconds off there
+pub record Watching (u : UnitData) (r : Route) (before : ℕ) (p : Place) (off : ℕ) : Type 0 where
+  pub own : r ≡ route_of u r.course
+  pub begun : r.course.begin ≤ p.second
+  pub short : Short r.heading (target_of r) p.level
+  pub moment : moment_of p ≡ moment_at (trajectory_of u r.course) (p.second - r.course.begin)
+  pub off_is : off ≡ (watch (trajectory_of u r.course) before (p.second - r.course.begin)).off
 
 -- what has been passed on the way from a place towards the second n, up to where the course is reached, which lies before n unless the way
 -- began there: the sums a have become ys and the total
-pub record PassProgress (l : OwnLists) (c : Course) (up : Bool) (from : Place) (before n : ℕ) (a : Summed) (ys : List ℕ) (at : Reached)
+pub record PassProgress (r : Route) (from : Place) (before n : ℕ) (a : Summed) (ys : List ℕ) (at : Reached)
     (off total : ℕ) : Type 0 where
-  pub adds : AddsOn (headed up) (lists_by l c) (grains c.target) from a (summed at.place.second ys total)
+  pub adds : AddsOn r.heading (lists_by r) (target_of r) from a (summed at.place.second ys total)
   pub fits : SumsFit (summed at.place.second ys total)
-  pub known : Known (headed up) (lists_by l c) (grains c.target) at
+  pub known : Known r.heading (lists_by r) (target_of r) at
   pub later : from.second ≤ at.place.second
   pub within : at.place.second ≤ n
   pub ends_before : from.second < n → at.place.second < n
-  pub short : Short (headed up) (grains c.target) at.place.level
+  pub short : Short r.heading (target_of r) at.place.level
   pub low : at.place.level < level_bound
-  pub stands : at.place ≡ standing (headed up) (lists_by l c) (grains c.target) at.place.second from
-  pub watched : (u : UnitData) (b : ℕ) → l ≡ own_lists u c up → Watching u c b up from before → Watching u c b up at.place off
+  pub stands : at.place ≡ standing r.heading (lists_by r) (target_of r) at.place.second from
+  pub watched : (u : UnitData) (b : ℕ) → Watching u r b from before → Watching u r b at.place off
 
 -- what has come of going on past every piece that ends before the second n, with the place at n
-pub record Passing (l : OwnLists) (c : Course) (up : Bool) (from : Place) (before n : ℕ) (a : Summed) (ys : List ℕ) (r : Passed) : Type 0 where
-  pub progress : PassProgress l c up from before n a ys r.reached r.off r.total
-  pub runs : r.reached.place.second < n → r.ahead ≡ onward (headed up) (lists_by l c) (grains c.target) n r.reached.place
-  pub there : r.ahead.second ≡ n
-  pub ahead_low : r.ahead.level < level_bound
-  pub watched : (u : UnitData) (b : ℕ) → l ≡ own_lists u c up → Watching u c b up from before → Watching u c b up r.ahead r.later
+pub record Passing (r : Route) (from : Place) (before n : ℕ) (a : Summed) (ys : List ℕ) (s : Passed) : Type 0 where
+  pub progress : PassProgress r from before n a ys s.reached s.off s.total
+  pub runs : s.reached.place.second < n → s.ahead ≡ onward r.heading (lists_by r) (target_of r) n s.reached.place
+  pub there : s.ahead.second ≡ n
+  pub ahead_low : s.ahead.level < level_bound
+  pub watched : (u : UnitData) (b : ℕ) → Watching u r b from before → Watching u r b s.ahead s.later

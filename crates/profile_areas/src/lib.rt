@@ -3,7 +3,6 @@
 #![tactic(auto)]
 
 ghost use Rattle.std.specs.Prelude.{◌≡◌, ◌+◌, ◌≤◌};
-ghost use Rattle.course_rates.specs.Ways.{headed};
 ghost use Rattle.profile_areas.specs.Passing.{summed, Noted, line_from, piece_from, LineAhead, PieceAhead, CourseAhead, Passing};
 ghost use Rattle.profile.specs.State.{held};
 ghost use Rattle.profile_areas.specs.Watching.{off_starting, off_between};
@@ -14,15 +13,11 @@ ghost use Rattle.profile_areas.specs.Watching.{off_starting, off_between};
 const MOST_OFF: u64 = 10000000;
 
 // So many seconds off and so many more, held.
-#[tactic(auto, using(crate::proofs::Off::held_low, crate::proofs::Off::held_high))]
+#[tactic(auto, unfolding(profile::specs::State::held))]
 fn held_off(off: u32, more: u32) -> u32
     ensures { result ≡ held (off + more) }
 {
-    let sum = off as u64 + more as u64;
-    if sum <= MOST_OFF {
-        return sum as u32;
-    }
-    MOST_OFF as u32
+    (off as u64 + more as u64).min(MOST_OFF) as u32
 }
 
 // The seconds off where a course begins.
@@ -59,14 +54,14 @@ pub fn off_between(p: course_walk::Place, q: course_walk::Place, off: u32) -> u3
 fn note_line(
     sums: &mut [u64; level::BOUNDARIES],
     total: u64,
-    up: bool,
+    heading: course::Heading,
     level: u64,
     rate: u64,
     from: u32,
     to: u32,
 ) -> u64
-    requires { LineAhead (headed up) level rate from to (summed from sums.old total) }
-    ensures { Noted (line_from (headed up) level rate from) (summed from sums.old total) (summed to sums.new result) }
+    requires { LineAhead heading level rate from to (summed from sums.old total) }
+    ensures { Noted (line_from heading level rate from) (summed from sums.old total) (summed to sums.new result) }
 {
     let half = from / level::HALF_HOUR;
     let mut b = half as usize;
@@ -77,9 +72,9 @@ fn note_line(
     while at < to {
         b += 1;
         x += level::HALF_HOUR;
-        let n = level::smaller(x, to);
+        let n = x.min(to);
         let time = (n - at) as u64;
-        let w = course_walk::moved(up, v, time * rate);
+        let w = course_walk::moved(heading, v, time * rate);
         sum = sum + time * (v + w);
         sums[b] = sum;
         at = n;
@@ -89,15 +84,16 @@ fn note_line(
 }
 
 // The straight piece of a course from p to q, added to the total. A piece within one half-hour is one product.
+#[tactic(auto, unfolding(course::specs::Course::gap))]
 pub fn note_piece(
     sums: &mut [u64; level::BOUNDARIES],
     total: u64,
-    up: bool,
+    heading: course::Heading,
     p: course_walk::Place,
     q: course_walk::Place,
 ) -> u64
-    requires { PieceAhead (headed up) p q (summed p.second sums.old total) }
-    ensures { Noted (piece_from (headed up) p q) (summed p.second sums.old total) (summed q.second sums.new result) }
+    requires { PieceAhead heading p q (summed p.second sums.old total) }
+    ensures { Noted (piece_from heading p q) (summed p.second sums.old total) (summed q.second sums.new result) }
 {
     if q.second <= p.second {
         return total;
@@ -105,8 +101,8 @@ pub fn note_piece(
     let half = p.second / level::HALF_HOUR + 1;
     let time = (q.second - p.second) as u64;
     if half * level::HALF_HOUR < q.second {
-        let way = course_stops::gap_between(p.level, q.level);
-        return note_line(sums, total, up, p.level, way / time, p.second, q.second);
+        let way = p.level.abs_diff(q.level);
+        return note_line(sums, total, heading, p.level, way / time, p.second, q.second);
     }
     let b = half as usize;
     let sum = total + time * (p.level + q.level);
@@ -132,22 +128,20 @@ pub struct Passed {
 pub fn pass_to(
     sums: &mut [u64; level::BOUNDARIES],
     before: u64,
-    l: course_rates::OwnLists,
-    c: course::Course,
-    up: bool,
+    r: &course_rates::Route,
     from: course_walk::Reached,
     begun: u32,
     n: u32,
 ) -> Passed
-    requires { CourseAhead l c up from n (summed from.place.second sums.old before) }
-    ensures { Passing l c up from.place begun n (summed from.place.second sums.old before) sums.new result }
+    requires { CourseAhead r.now from n (summed from.place.second sums.old before) }
+    ensures { Passing r.now from.place begun n (summed from.place.second sums.old before) sums.new result }
 {
     let mut at = from;
     let mut off = begun;
     let mut total = before;
     while at.place.second < n {
         let p = at.place;
-        let next = course_walk::walk_on(l, c, up, at, n);
+        let next = course_walk::walk_on(r, at, n);
         let q = next.place;
         let later = off_between(p, q, off);
         if n <= q.second {
@@ -159,7 +153,7 @@ pub fn pass_to(
                 total,
             };
         }
-        total = note_piece(sums, total, up, p, q);
+        total = note_piece(sums, total, r.heading, p, q);
         off = later;
         at = next;
     }

@@ -11,7 +11,7 @@ use Rattle.level.specs.Numbers.{half_hour}
 use Rattle.course.specs.Recorded.{area, twice_area}
 use Rattle.records.specs.declared.UnitData.{UnitData}
 use Rattle.course.specs.declared.Course.{Course}
-use Rattle.course.specs.Course.{trajectory_of, level_at}
+use Rattle.course.specs.Course.{Trajectory, trajectory_of, level_at}
 use Rattle.course.specs.Pieces.{pieces_in}
 use Rattle.course.proofs.Pieces.{pieces_area}
 use Rattle.validation.specs.declared.Numbered.{Numbered}
@@ -24,15 +24,15 @@ use Rattle.profile.specs.Effects.{Followed, begun, under_way, course_from, goes_
 use Rattle.profile.specs.Profile.{begin_of, spans_of, course_of}
 use Rattle.profile.specs.Twin.{pieces_to}
 use Rattle.profile.proofs.Following.{comes_to, new_course, follow_on, follow_new, follow_ind}
-use Rattle.course_rates.specs.declared.OwnLists.{OwnLists}
-use Rattle.course_rates.specs.Ways.{headed, lists_in, own_lists, lists_by}
+use Rattle.course_rates.specs.declared.Route.{Route}
+use Rattle.course_rates.specs.Ways.{lists_in, target_of, route_of, lists_by}
 use Rattle.course_walk.specs.Walk.{reached_at, beginning, twice_to}
 use Rattle.course_walk.proofs.PieceStep.{standing_here}
 use Rattle.course_walk.proofs.Areas.{twice_is}
 use Rattle.course_walk.proofs.Own.{own_twice}
 use Rattle.course_walk.proofs.Rest.{known_at}
 use Rattle.profile_areas.proofs.Watch.{watching_start}
-use Rattle.profile_follow.specs.Following.{set_out, second_of, Ordered, LowStart, OnIt, courses_from, courses_after, end_of, sum_after}
+use Rattle.profile_follow.specs.Following.{set_out, second_of, Ordered, LowStart, OnIt, courses_from, courses_after, end_of, twice_on, sum_after}
 
 -- ---- the courses after
 
@@ -107,49 +107,50 @@ module _ (end : ℕ) where
 
 -- ---- their areas
 
-module _ (u : UnitData) (c : Course) where
-  abbrev up : Bool
-  up = ltb c.start.grains (grains c.target)
-
+module _ (u : UnitData) (r : Route) (own : r ≡ route_of u r.course) where
   -- of a course from its beginning to the second n
   course_area : (n : ℕ) →
-      twice_area (pieces_in (trajectory_of u c) 0 (n - c.begin)) ≡ twice_to (headed up) (lists_by (own_lists u c up) c) (grains c.target) n
-      (beginning c c.begin)
+      twice_area (pieces_in (trajectory_of u r.course) 0 (n - r.course.begin)) ≡ twice_on r n (beginning r.course r.course.begin)
   unfolding beginning
   course_area n =
-      let a : ℕ = c.begin in
-      pieces_area (trajectory_of u c) (n - a)
-      ∙ ap (λ (k : ℕ). area (level_at (trajectory_of u c)) k (n - a)) {x = 0} {y = a - a} (omega arith) ∙ sym (twice_is u c up refl a a n)
-      ∙ ap (twice_to (headed up) (lists_in u c) (grains c.target) n)
-      (standing_here (headed up) (lists_in u c) (grains c.target) a (beginning c a) (begins a))
-      ∙ sym (own_twice u c up (own_lists u c up) refl (grains c.target) n (beginning c a))
+      let a : ℕ = r.course.begin in
+      let c : Trajectory = trajectory_of u r.course in
+      pieces_area c (n - a) ∙ ap (λ (k : ℕ). area (level_at c) k (n - a)) {x = 0} {y = a - a} (omega arith) ∙ sym (twice_is u r own a a n)
+      ∙ ap (twice_to r.heading (lists_in u r.course) (target_of r) n)
+      (standing_here r.heading (lists_in u r.course) (target_of r) a (beginning r.course a) (begins a))
+      ∙ sym (own_twice u r own (target_of r) n (beginning r.course a))
     where
-      begins : (a : ℕ) → a ≡ (beginning c a).second
+      begins : (a : ℕ) → a ≡ (beginning r.course a).second
       begins a = refl
 
-module _ (u : UnitData) (now : UnderWay) (l : OwnLists) (up : Bool) (total : ℕ)
-    (rises : up ≡ ltb now.course.start.grains (grains now.course.target)) (own : l ≡ own_lists u now.course up) where
+module _ (u : UnitData) (now : UnderWay) (total : ℕ) where
+  abbrev route : Route
+  route = route_of u now.course
+
+  own : route ≡ route_of u route.course
+  unfolding route_of
+  own = refl
+
+  course_is : route.course ≡ now.course
+  unfolding route_of
+  course_is = refl
+
   pub set_out_sum : (end : ℕ) (os : List Numbered) (j : ℕ) →
-      pieces_to (spans_of u end (courses_from u now os)) (half_hour * j) ≡ sum_after u end now l (set_out now l up total) os j
-  unfolding sum_after set_out reached_at spans_of pieces_to
+      pieces_to (spans_of u end (courses_from u now os)) (half_hour * j) ≡ sum_after u end now (set_out u now total) os j
+  unfolding sum_after set_out reached_at spans_of pieces_to route_of
   set_out_sum end os j =
       let n : ℕ = min (end_of u end now os) (half_hour * j) in
       ap (λ (cs : List Course). pieces_to (spans_of u end cs) (half_hour * j)) (from_head u now os)
-      ∙ ap (λ (k : ℕ). k + pieces_to (spans_of u end (courses_after u now os)) (half_hour * j)) (course_area u now.course n
-      ∙ ap (λ (b : Bool). twice_to (headed b) (lists_by (own_lists u now.course b) now.course) (grains now.course.target) n
-      (beginning now.course now.course.begin)) (sym rises)
-      ∙ ap (λ (x : OwnLists). twice_to (headed up) (lists_by x now.course) (grains now.course.target) n
-      (beginning now.course now.course.begin)) (sym own))
+      ∙ ap (λ (k : ℕ). k + pieces_to (spans_of u end (courses_after u now os)) (half_hour * j)) (course_area u route own n)
 
   -- a course set out on is where its rule says
-  pub out_on : LowStart now.course → OnIt u now l (set_out now l up total)
-  unfolding set_out reached_at beginning
+  pub out_on : LowStart now.course → OnIt u now (set_out u now total)
+  unfolding set_out reached_at beginning route_of
   out_on low =
-      let w = watching_start u now.course now.off up rises in
+      let w = watching_start u route now.off own in
       record {
-        lists = own;
+        course = course_is;
         watching = w;
-        known = known_at (headed up) (lists_by l now.course) (grains now.course.target)
-            (beginning now.course now.course.begin) w.short;
+        known = known_at route.heading (lists_by route) (target_of route) (beginning now.course now.course.begin) w.short;
         low = low;
       }

@@ -33,9 +33,8 @@ use Rattle.profile.specs.Twin.{pieces_to, twin_to}
 use Rattle.profile.proofs.Following.{comes_to, new_course}
 use Rattle.level.proofs.Arrays.{places_same}
 use Rattle.profile.proofs.Found.{list_length, list_at}
-use Rattle.course_rates.specs.declared.OwnLists.{OwnLists}
 use Rattle.course_walk.specs.declared.Place.{Place}
-use Rattle.course_rates.specs.Ways.{headed, own_lists, lists_by}
+use Rattle.course_rates.specs.Ways.{target_of, lists_by}
 use Rattle.course_walk.specs.Walk.{reached_at, beginning, onward, twice_to}
 use Rattle.course_walk.proofs.PieceStep.{PieceStep, onward_step}
 use Rattle.profile_areas.specs.declared.Passed.{Passed}
@@ -46,38 +45,37 @@ use Rattle.profile_follow.specs.declared.Walk.{Walk}
 use Rattle.profile_follow.specs.declared.OnCourse.{OnCourse}
 use Rattle.profile_follow.specs.declared.FollowedDay.{FollowedDay}
 use Rattle.profile_follow.specs.Walk.{walk_of, walk_all, went_on, replaced_by}
-use Rattle.profile_follow.specs.Following.{set_out, went_to, place_in, second_of, Ordered, LowStart, courses_from, courses_after, end_of, OnIt, sums_at, sum_after, last_in, ended, FollowedBy}
+use Rattle.profile_follow.specs.Following.{set_out, went_to, place_in, second_of, Ordered, LowStart, courses_from, courses_after, end_of, OnIt, sums_at, twice_on, sum_after, last_in, ended, FollowedBy}
 use Rattle.profile_follow.proofs.Walking.{WalkProgress, walked_start, walked_on, walked_new, walked_end}
 use Rattle.profile_follow.proofs.After.{begins_there, from_head, after_none, after_on, after_new, end_none, end_new, end_after, ordered_less, NextActs, ordered_next, set_out_sum, out_on}
 
 -- the place q, where the course under way is cut at the second n
-pub record CutAt (now : UnderWay) (l : OwnLists) (g : OnCourse) (q : Place) (n : ℕ) : Type 0 where
+pub record CutAt (g : OnCourse) (q : Place) (n : ℕ) : Type 0 where
   pub there : q.second ≡ n
-  pub runs : g.reached.place.second < n →
-      q ≡ onward (headed g.up) (lists_by l now.course) (grains now.course.target) n g.reached.place
+  pub runs : g.reached.place.second < n → q ≡ onward g.route.heading (lists_by g.route) (target_of g.route) n g.reached.place
 
 -- the last piece of the course, up to there
-pub last_step : {now : UnderWay} {l : OwnLists} {g : OnCourse} {q : Place} {n : ℕ} → CutAt now l g q n →
-    Short (headed g.up) (grains now.course.target) g.reached.place.level → g.reached.place.second < q.second →
-    PieceStep (headed g.up) (lists_by l now.course) (grains now.course.target) q.second g.reached.place q
-last_step {now} {l} {g} {q} {n} cut sh lt =
-    let h : Heading = headed g.up in
-    let ls : Lists = lists_by l now.course in
-    let t : ℕ = grains now.course.target in
+pub last_step : {g : OnCourse} {q : Place} {n : ℕ} → CutAt g q n → Short g.route.heading (target_of g.route) g.reached.place.level →
+    g.reached.place.second < q.second →
+    PieceStep g.route.heading (lists_by g.route) (target_of g.route) q.second g.reached.place q
+last_step {g} {q} {n} cut sh lt =
+    let h : Heading = g.route.heading in
+    let ls : Lists = lists_by g.route in
+    let t : ℕ = target_of g.route in
     let p : Place = g.reached.place in
     subst (λ (k : ℕ). PieceStep h ls t k p q) (sym cut.there)
     (subst (PieceStep h ls t n p) (sym (cut.runs (omega (arith, cut.there)))) (onward_step h ls t n p (omega (arith, cut.there)) sh))
 
 -- those that act all told, and those that are left; the walk so far, the course under way with its lists, and the sums
-pub record FollowProgress (u : UnitData) (end : ℕ) (first : UnderWay) (all left : List Numbered) (w : Walk) (g : OnCourse) (l : OwnLists)
+pub record FollowProgress (u : UnitData) (end : ℕ) (first : UnderWay) (all left : List Numbered) (w : Walk) (g : OnCourse)
     (ys : List ℕ) : Type 0 where
   pub walked : WalkProgress u w left (follow by_rule u first all)
   pub few : w.started ≤ w.acted + 1
-  pub on : OnIt u w.now l g
+  pub on : OnIt u w.now g
   pub ordered : Ordered end g.reached.place.second left
   pub starts : All LowStart (courses_from u w.now left)
   pub sums : (j : ℕ) → j ≤ most_half_hours →
-      noted_to (sums_at g ys) j + sum_after u end w.now l g left j ≡ pieces_to (spans_of u end (courses_from u first all)) (half_hour * j)
+      noted_to (sums_at g ys) j + sum_after u end w.now g left j ≡ pieces_to (spans_of u end (courses_from u first all)) (half_hour * j)
   pub fits : SumsFit (sums_at g ys)
 
 -- where the next of those that act does so, else the day's end
@@ -103,47 +101,46 @@ nothing s j = elim (dec_le (half_hour * j) s) [
   | no h ↦ noted_total (summed s (replicate boundary_places 0) 0) j (omega arith)
 ]
 
-pub progress_start : {u : UnitData} {end : ℕ} {first : UnderWay} {all : List Numbered} {w : Walk} {g : OnCourse} {l : OwnLists} {up : Bool} →
-    w ≡ walk_of first (record { marks = []; courses = first ∷ [] }) → g ≡ set_out first l up 0 →
-    up ≡ ltb first.course.start.grains (grains first.course.target) → l ≡ own_lists u first.course up →
+pub progress_start : {u : UnitData} {end : ℕ} {first : UnderWay} {all : List Numbered} {w : Walk} {g : OnCourse} →
+    w ≡ walk_of first (record { marks = []; courses = first ∷ [] }) → g ≡ set_out u first 0 →
     Ordered end first.course.begin all → All LowStart (courses_from u first all) →
-    FollowProgress u end first all all w g l (replicate boundary_places 0)
+    FollowProgress u end first all all w g (replicate boundary_places 0)
 unfolding walk_of set_out reached_at beginning
-progress_start {u} {end} {first} {all} {w} {g} {l} {up} a e r k ord low = rw (a, e) (record {
+progress_start {u} {end} {first} {all} {w} {g} a e ord low = rw (a, e) (record {
   walked = walked_start u first all;
   few = omega arith;
-  on = out_on u first l up 0 r k (rw (from_head u first all) at low).0;
+  on = out_on u first 0 (rw (from_head u first all) at low).0;
   ordered = ord;
   starts = low;
-  sums = λ j h. omega (arith, nothing first.course.begin j, set_out_sum u first l up 0 r k end all j);
+  sums = λ j h. omega (arith, nothing first.course.begin j, set_out_sum u first 0 end all j);
   fits = record { places = refl; total = omega arith };
 })
 
 -- ---- up to the next acting second, or the day's end
-module _ {u : UnitData} {end : ℕ} {first : UnderWay} {all left : List Numbered} {w : Walk} {g : OnCourse} {l : OwnLists} {ys : List ℕ}
-    (f : FollowProgress u end first all left w g l ys) where
+module _ {u : UnitData} {end : ℕ} {first : UnderWay} {all left : List Numbered} {w : Walk} {g : OnCourse} {ys : List ℕ}
+    (f : FollowProgress u end first all left w g ys) where
   abbrev next : ℕ
   next = second_of end left
 
   pub order : NextActs end g.reached.place.second left
   order = ordered_next end g.reached.place.second left f.ordered
 
-  pub progress_pass : {s : Passed} {zs : List ℕ} → Passing l w.now.course g.up g.reached.place g.off next (sums_at g ys) zs s →
-      FollowProgress u end first all left w (went_to g.up s) l zs
+  pub progress_pass : {s : Passed} {zs : List ℕ} → Passing g.route g.reached.place g.off next (sums_at g ys) zs s →
+      FollowProgress u end first all left w (went_to g s) zs
   unfolding sum_after
   progress_pass {s} {zs} passing =
       let p = passing.progress in
       record {
         walked = f.walked;
         few = f.few;
-        on = record { lists = f.on.lists; watching = p.watched u w.now.off f.on.lists f.on.watching; known = p.known; low = p.low };
+        on = record { course = f.on.course; watching = p.watched u w.now.off f.on.watching; known = p.known; low = p.low };
         ordered = ordered_less end s.reached.place.second next left p.within order.ordered;
         starts = f.starts;
         sums = λ j h. omega (
           arith,
           f.sums j h,
           p.adds j h,
-          twice_through (headed g.up) (lists_by l w.now.course) (grains w.now.course.target) g.reached.place s.reached.place
+          twice_through g.route.heading (lists_by g.route) (target_of g.route) g.reached.place s.reached.place
               p.stands p.later (end_of u end w.now left) (half_hour * j)
               (omega (arith, p.within, end_after u end w.now left next order.ordered)),
         );
@@ -152,24 +149,24 @@ module _ {u : UnitData} {end : ℕ} {first : UnderWay} {all left : List Numbered
 
 -- ---- an instruction acts
 module _ {u : UnitData} {end : ℕ} {first : UnderWay} {all : List Numbered} {act : Numbered} {left : List Numbered} {w : Walk} {g : OnCourse}
-    {l : OwnLists} {ys : List ℕ} (f : FollowProgress u end first all (act ∷ left) w g l ys) (room : w.acted < instruction_places) where
+    {ys : List ℕ} (f : FollowProgress u end first all (act ∷ left) w g ys) (room : w.acted < instruction_places) where
   abbrev whole : Followed
   whole = follow by_rule u first all
 
   abbrev h : Heading
-  h = headed g.up
+  h = g.route.heading
 
   abbrev ls : Lists
-  ls = lists_by l w.now.course
+  ls = lists_by g.route
 
   abbrev t : ℕ
-  t = grains w.now.course.target
+  t = target_of g.route
 
   abbrev p : Place
   p = g.reached.place
 
   -- without effect: the course goes on
-  pub progress_on : comes_to by_rule u w.now act ≡ Ignored → FollowProgress u end first all left (went_on w) g l ys
+  pub progress_on : comes_to by_rule u w.now act ≡ Ignored → FollowProgress u end first all left (went_on w) g ys
   unfolding sum_after went_on
   progress_on e =
       let same : courses_after u w.now (act ∷ left) ≡ courses_after u w.now left = after_on u w.now act left e in
@@ -181,20 +178,20 @@ module _ {u : UnitData} {end : ℕ} {first : UnderWay} {all : List Numbered} {ac
         starts = subst (All LowStart) (from_head u w.now (act ∷ left) ∙ ap (λ (cs : List Course). w.now.course ∷ cs) same
             ∙ sym (from_head u w.now left)) f.starts;
         sums = subst (λ (cs : List Course). (j : ℕ) → j ≤ most_half_hours → noted_to (sums_at g ys) j
-            + (twice_to h ls t (min (begin_of end cs) (half_hour * j)) p + pieces_to (spans_of u end cs) (half_hour * j))
+            + (twice_on g.route (min (begin_of end cs) (half_hour * j)) p + pieces_to (spans_of u end cs) (half_hour * j))
             ≡ pieces_to (spans_of u end (courses_from u first all)) (half_hour * j)) same f.sums;
         fits = f.fits;
       }
 
   -- with effect: it ends at the place q, and the next one begins
-  module _ {set : Setting} (new : comes_to by_rule u w.now act ≡ Sets set) {q : Place} (cut : CutAt w.now l g q (acting act)) where
+  module _ {set : Setting} (new : comes_to by_rule u w.now act ≡ Sets set) {q : Place} (cut : CutAt g q (acting act)) where
     abbrev then : UnderWay
     then = new_course by_rule u w.now act set
 
-    by_end : (j : ℕ) → sum_after u end w.now l g (act ∷ left) j
-        ≡ twice_to h ls t (min q.second (half_hour * j)) p + pieces_to (spans_of u end (courses_from u then left)) (half_hour * j)
+    by_end : (j : ℕ) → sum_after u end w.now g (act ∷ left) j
+        ≡ twice_on g.route (min q.second (half_hour * j)) p + pieces_to (spans_of u end (courses_from u then left)) (half_hour * j)
     unfolding sum_after
-    by_end j = λ k. twice_to h ls t (min ((end_new u end w.now act left set new ∙ sym cut.there) k) (half_hour * j)) p
+    by_end j = λ k. twice_on g.route (min ((end_new u end w.now act left set new ∙ sym cut.there) k) (half_hour * j)) p
         + pieces_to (spans_of u end (after_new u w.now act left set new k)) (half_hour * j)
 
     later_starts : All LowStart (courses_from u then left)
@@ -204,35 +201,32 @@ module _ {u : UnitData} {end : ℕ} {first : UnderWay} {all : List Numbered} {ac
     begins_here : then.course.begin ≡ q.second
     begins_here = begins_there u w.now act set ∙ sym cut.there
 
-    pub progress_new : {zs : List ℕ} {total : ℕ} {d : UnderWay} {g' : OnCourse} {l' : OwnLists} {up : Bool} → d ≡ then → g' ≡ set_out d l' up total →
-        up ≡ ltb d.course.start.grains (grains d.course.target) → l' ≡ own_lists u d.course up →
-        Noted (piece_from h p q) (sums_at g ys) (summed q.second zs total) → FollowProgress u end first all left (replaced_by w d) g' l' zs
+    pub progress_new : {zs : List ℕ} {total : ℕ} {d : UnderWay} {g' : OnCourse} → d ≡ then → g' ≡ set_out u d total →
+        Noted (piece_from h p q) (sums_at g ys) (summed q.second zs total) → FollowProgress u end first all left (replaced_by w d) g' zs
     unfolding set_out reached_at beginning replaced_by
-    progress_new {zs} {total} {d} {g'} {l'} {up} is out-is up_is lists-are noted =
-        let rises : up ≡ ltb then.course.start.grains (grains then.course.target) = rw is at up_is in
-        let own : l' ≡ own_lists u then.course up = rw is at lists-are in
+    progress_new {zs} {total} {d} {g'} is out-is noted =
         rw (out-is, is) (record {
           walked = walked_new u w act left whole room f.walked set (omega (arith, f.few)) new;
           few = omega (arith, f.few);
-          on = out_on u then l' up total rises own (rw (from_head u then left) at later_starts).0;
+          on = out_on u then total (rw (from_head u then left) at later_starts).0;
           ordered = subst (λ (k : ℕ). Ordered end k left) (sym (begins_here ∙ cut.there)) f.ordered.1;
           starts = later_starts;
           sums = λ j k. omega (
             arith,
             f.sums j k,
             by_end j,
-            subst (λ (i : ℕ). noted_to (summed i zs total) j ≡ noted_to (sums_at g ys) j + twice_to h ls t (min q.second (half_hour * j)) p)
+            subst (λ (i : ℕ). noted_to (summed i zs total) j ≡ noted_to (sums_at g ys) j + twice_on g.route (min q.second (half_hour * j)) p)
                 (sym begins_here)
                 (piece_on h ls t q.second p q (last_step cut f.on.watching.short) (omega (arith, f.ordered.0, cut.there)) noted j k),
-            set_out_sum u then l' up total rises own end left j,
+            set_out_sum u then total end left j,
           );
           fits = subst (λ (k : ℕ). SumsFit (summed k zs total)) (sym begins_here) noted.fits;
         })
 
 -- ---- the day's end
-module _ {u : UnitData} {halves : ℕ} {first : UnderWay} {all left : List Numbered} {w : Walk} {g : OnCourse} {l : OwnLists} {ys : List ℕ}
-    {q : Place} (f : FollowProgress u (half_hour * halves) first all left w g l ys) (none : left ≡ []) (long : halves ≤ most_half_hours)
-    (cut : CutAt w.now l g q (half_hour * halves)) where
+module _ {u : UnitData} {halves : ℕ} {first : UnderWay} {all left : List Numbered} {w : Walk} {g : OnCourse} {ys : List ℕ}
+    {q : Place} (f : FollowProgress u (half_hour * halves) first all left w g ys) (none : left ≡ []) (long : halves ≤ most_half_hours)
+    (cut : CutAt g q (half_hour * halves)) where
   abbrev end : ℕ
   end = half_hour * halves
 
@@ -240,17 +234,17 @@ module _ {u : UnitData} {halves : ℕ} {first : UnderWay} {all left : List Numbe
   ss = spans_of u end (courses_from u first all)
 
   abbrev twice_there : ℕ → ℕ
-  twice_there n = twice_to (headed g.up) (lists_by l w.now.course) (grains w.now.course.target) n g.reached.place
+  twice_there n = twice_on g.route n g.reached.place
 
-  v : FollowProgress u end first all [] w g l ys
-  v = subst (λ (os : List Numbered). FollowProgress u end first all os w g l ys) none f
+  v : FollowProgress u end first all [] w g ys
+  v = subst (λ (os : List Numbered). FollowProgress u end first all os w g ys) none f
 
-  sum_last : (j : ℕ) → sum_after u end w.now l g [] j ≡ twice_there (min q.second (half_hour * j))
+  sum_last : (j : ℕ) → sum_after u end w.now g [] j ≡ twice_there (min q.second (half_hour * j))
   unfolding sum_after spans_of pieces_to
   sum_last j = (λ k. twice_there (min ((end_none u end w.now ∙ sym cut.there) k) (half_hour * j))
       + pieces_to (spans_of u end (after_none u w.now k)) (half_hour * j)) ∙ omega arith
 
-  module _ {zs : List ℕ} {total : ℕ} (noted : Noted (piece_from (headed g.up) g.reached.place q) (sums_at g ys) (summed q.second zs total))
+  module _ {zs : List ℕ} {total : ℕ} (noted : Noted (piece_from g.route.heading g.reached.place q) (sums_at g ys) (summed q.second zs total))
     where
       -- what is noted at a boundary of the day
       noted_at : (j : ℕ) → j ≤ halves → get_or zs j 0 ≡ twin_to ss j
@@ -260,7 +254,7 @@ module _ {u : UnitData} {halves : ℕ} {first : UnderWay} {all left : List Numbe
         v.sums j (omega arith),
         sum_last j,
         noted_there (summed q.second zs total) j (omega (arith, cut.there)),
-        piece_on (headed g.up) (lists_by l w.now.course) (grains w.now.course.target) q.second g.reached.place q
+        piece_on g.route.heading (lists_by g.route) (target_of g.route) q.second g.reached.place q
             (last_step cut v.on.watching.short) (omega (arith, v.ordered, cut.there)) noted j (omega arith),
       )
 

@@ -15,8 +15,6 @@ use Rattle.profile.specs.declared.Outcome.{Outcome}
 use Rattle.profile.specs.State.{by_rule}
 use Rattle.profile.specs.Effects.{outcome, begun, state_at}
 use Rattle.profile.proofs.Following.{comes_to, new_course}
-use Rattle.course_rates.specs.declared.OwnLists.{OwnLists}
-use Rattle.course_rates.specs.Ways.{headed}
 use Rattle.profile_areas.specs.declared.Passed.{Passed}
 use Rattle.profile_areas.specs.Passing.{CourseAhead, PieceAhead, Passing}
 use Rattle.profile_areas.proofs.Areas.{step_straight}
@@ -27,14 +25,14 @@ use Rattle.profile_follow.specs.Following.{Followable, went_to, place_in, second
 use Rattle.profile_follow.proofs.Steps.{CutAt, FollowProgress, second_is, last_step, order, progress_pass}
 
 -- as a turn of the loop begins
-pub record FollowTurn (n : ℕ) (u : UnitData) (end : ℕ) (first : UnderWay) (all : List Numbered) (w : Walk) (g : OnCourse) (l : OwnLists)
+pub record FollowTurn (n : ℕ) (u : UnitData) (end : ℕ) (first : UnderWay) (all : List Numbered) (w : Walk) (g : OnCourse)
     (ys : List ℕ) : Type 0 where
   pub within : w.acted ≤ n
-  pub progress : FollowProgress u end first all (drop w.acted all) w g l ys
+  pub progress : FollowProgress u end first all (drop w.acted all) w g ys
 
-module _ {u : UnitData} {first : UnderWay} {acts : List Numbered} {n halves : ℕ} {w : Walk} {g : OnCourse} {l : OwnLists} {ys : List ℕ}
+module _ {u : UnitData} {first : UnderWay} {acts : List Numbered} {n halves : ℕ} {w : Walk} {g : OnCourse} {ys : List ℕ}
     (can : Followable u first acts n halves) (forty : length acts ≡ instruction_places)
-    (v : FollowTurn n u (half_hour * halves) first (take n acts) w g l ys) {i : ℕ} (at : i ≡ place_in w.acted) where
+    (v : FollowTurn n u (half_hour * halves) first (take n acts) w g ys) {i : ℕ} (at : i ≡ place_in w.acted) where
   abbrev end : ℕ
   end = half_hour * halves
 
@@ -72,7 +70,7 @@ module _ {u : UnitData} {first : UnderWay} {acts : List Numbered} {n halves : �
     second_there : t ≡ goal
     second_there = e ∙ ap (λ (k : ℕ). pick (ltb w.acted n) (acting (get_or acts k no_numbered)) end) at ∙ second_is end acts n w.acted can.few forty
 
-    pub course_ahead : CourseAhead l w.now.course g.up g.reached t (sums_at g ys)
+    pub course_ahead : CourseAhead g.route g.reached t (sums_at g ys)
     course_ahead = let f = v.progress in record {
       later = omega (arith, second_there, (order f).later);
       within = omega (arith, second_there, within);
@@ -83,23 +81,23 @@ module _ {u : UnitData} {first : UnderWay} {acts : List Numbered} {n halves : �
     }
 
     -- followed to that second
-    module _ {zs : List ℕ} {s : Passed} (passing : Passing l w.now.course g.up g.reached.place g.off t (sums_at g ys) zs s) where
-      past : Passing l w.now.course g.up g.reached.place g.off goal (sums_at g ys) zs s
-      past = subst (λ (k : ℕ). Passing l w.now.course g.up g.reached.place g.off k (sums_at g ys) zs s) second_there passing
+    module _ {zs : List ℕ} {s : Passed} (passing : Passing g.route g.reached.place g.off t (sums_at g ys) zs s) where
+      past : Passing g.route g.reached.place g.off goal (sums_at g ys) zs s
+      past = subst (λ (k : ℕ). Passing g.route g.reached.place g.off k (sums_at g ys) zs s) second_there passing
 
       -- the course further on
       abbrev further : OnCourse
-      further = went_to g.up s
+      further = went_to g s
 
-      gone_on : FollowProgress u end first all left w further l zs
+      gone_on : FollowProgress u end first all left w further zs
       gone_on = progress_pass v.progress past
 
       -- where the second cuts it
-      cut_at : CutAt w.now l further s.ahead goal
+      cut_at : CutAt further s.ahead goal
       cut_at = record { there = past.there; runs = past.runs }
 
       -- the piece that it cuts, where that is added
-      pub piece_ahead : PieceAhead (headed g.up) s.reached.place s.ahead (sums_at further zs)
+      pub piece_ahead : PieceAhead g.route.heading s.reached.place s.ahead (sums_at further zs)
       piece_ahead = let p = past.progress in record {
         straight = λ lt. step_straight (last_step cut_at p.short lt);
         later = omega (arith, p.within, past.there);
@@ -112,13 +110,13 @@ module _ {u : UnitData} {first : UnderWay} {acts : List Numbered} {n halves : �
       -- the state there
       module _ {state : State} (is : state ≡ record { level = s.ahead.level; off = s.later }) where
         state_there : state ≡ state_at by_rule u w.now goal
-        state_there = is ∙ watching_at u w.now g.up s.ahead s.later goal (past.watched u w.now.off v.progress.on.lists v.progress.on.watching) past.there
+        state_there = is ∙ watching_at u w.now g.route s.ahead s.later goal v.progress.on.course (past.watched u w.now.off v.progress.on.watching) past.there
 
         -- none is left
         pub record AtEnd : Type 0 where
           pub none : left ≡ []
-          pub progress : FollowProgress u end first all left w further l zs
-          pub cut : CutAt w.now l further s.ahead end
+          pub progress : FollowProgress u end first all left w further zs
+          pub cut : CutAt further s.ahead end
           pub there : state ≡ state_at by_rule u w.now end
 
         pub at_end : n ≤ w.acted → AtEnd
@@ -128,14 +126,14 @@ module _ {u : UnitData} {first : UnderWay} {acts : List Numbered} {n halves : �
             record {
               none = none;
               progress = gone_on;
-              cut = subst (CutAt w.now l further s.ahead) last cut_at;
+              cut = subst (CutAt further s.ahead) last cut_at;
               there = state_there ∙ ap (state_at by_rule u w.now) last;
             }
 
         -- one acts: what it comes to, and the course that it begins
         pub record ActsNow : Type 0 where
-          pub progress : FollowProgress u end first all (act ∷ later) w further l zs
-          pub cut : CutAt w.now l further s.ahead (acting act)
+          pub progress : FollowProgress u end first all (act ∷ later) w further zs
+          pub cut : CutAt further s.ahead (acting act)
           pub comes : {x : Outcome} → x ≡ outcome u w.now act.instruction state → x ≡ comes_to by_rule u w.now act
           pub begins : {d : UnderWay} (set : Setting) → d ≡ begun u act set state → d ≡ new_course by_rule u w.now act set
 
@@ -145,8 +143,8 @@ module _ {u : UnitData} {first : UnderWay} {acts : List Numbered} {n halves : �
             let then : goal ≡ acting act = ap (second_of end) next in
             let before : state ≡ state_at by_rule u w.now (acting act) = state_there ∙ ap (state_at by_rule u w.now) then in
             record {
-              progress = subst (λ (os : List Numbered). FollowProgress u end first all os w further l zs) next gone_on;
-              cut = subst (CutAt w.now l further s.ahead) then cut_at;
+              progress = subst (λ (os : List Numbered). FollowProgress u end first all os w further zs) next gone_on;
+              cut = subst (CutAt further s.ahead) then cut_at;
               comes = λ e. e ∙ ap (outcome u w.now act.instruction) before;
               begins = λ set e. e ∙ ap (begun u act set) before;
             }

@@ -14,8 +14,9 @@ use Rattle.profile.specs.State.{by_rule}
 use Rattle.profile.specs.Effects.{follow, state_at}
 use Rattle.profile.specs.Profile.{begin_of, spans_of, course_of, last_of}
 use Rattle.profile.specs.Twin.{pieces_to, twin_to}
-use Rattle.course_rates.specs.declared.OwnLists.{OwnLists}
-use Rattle.course_rates.specs.Ways.{headed, own_lists, lists_by}
+use Rattle.course_rates.specs.declared.Route.{Route}
+use Rattle.course_rates.specs.Ways.{target_of, route_of, lists_by}
+use Rattle.course_walk.specs.declared.Place.{Place}
 use Rattle.course_walk.specs.Walk.{reached_at, Known, beginning, twice_to}
 use Rattle.profile_areas.specs.Watching.{off_starting}
 use Rattle.profile_areas.specs.declared.Passed.{Passed}
@@ -25,20 +26,20 @@ use Rattle.profile_follow.specs.declared.OnCourse.{OnCourse}
 use Rattle.profile_follow.specs.declared.FollowedDay.{FollowedDay}
 use Rattle.profile_follow.specs.Walk.{walk_all}
 
--- a course at its beginning, with its lists and the total up to there
-unfoldable pub set_out : UnderWay → OwnLists → Bool → ℕ → OnCourse
-set_out now l up total =
-    let c : Course = now.course in
+-- a course at its beginning, with the total up to there
+unfoldable pub set_out : UnitData → UnderWay → ℕ → OnCourse
+set_out u now total =
+    let r : Route = route_of u now.course in
     record {
-      up = up;
-      reached = reached_at (headed up) (lists_by l c) (grains c.target) (beginning c c.begin);
-      off = off_starting c now.off;
+      route = r;
+      reached = reached_at r.heading (lists_by r) (target_of r) (beginning now.course now.course.begin);
+      off = off_starting now.course now.off;
       total = total;
     }
 
 -- the same course further on
-abbrev pub went_to : Bool → Passed → OnCourse
-went_to up s = record { up = up; reached = s.reached; off = s.off; total = s.total }
+abbrev pub went_to : OnCourse → Passed → OnCourse
+went_to g s = record { route = g.route; reached = s.reached; off = s.off; total = s.total }
 
 -- the day summed up to where it is reached
 abbrev pub sums_at : OnCourse → List ℕ → Summed
@@ -72,18 +73,21 @@ courses_after u now os = drop 1 (courses_from u now os)
 abbrev pub end_of : UnitData → ℕ → UnderWay → List Numbered → ℕ
 end_of u end now os = begin_of end (courses_after u now os)
 
--- the course under way, with its own lists, is where its rule says
-pub record OnIt (u : UnitData) (now : UnderWay) (l : OwnLists) (g : OnCourse) : Type 0 where
-  pub lists : l ≡ own_lists u now.course g.up
-  pub watching : Watching u now.course now.off g.up g.reached.place g.off
-  pub known : Known (headed g.up) (lists_by l now.course) (grains now.course.target) g.reached
+-- the course under way is where its rule says
+pub record OnIt (u : UnitData) (now : UnderWay) (g : OnCourse) : Type 0 where
+  pub course : g.route.course ≡ now.course
+  pub watching : Watching u g.route now.off g.reached.place g.off
+  pub known : Known g.route.heading (lists_by g.route) (target_of g.route) g.reached
   pub low : g.reached.place.level < level_bound
 
+-- twice the area of a route from a place on, to the second n
+abbrev pub twice_on : Route → ℕ → Place → ℕ
+twice_on r n p = twice_to r.heading (lists_by r) (target_of r) n p
+
 -- twice the area to come, up to the boundary j
-unfoldable pub sum_after : UnitData → ℕ → UnderWay → OwnLists → OnCourse → List Numbered → ℕ → ℕ
-sum_after u end now l g os j =
-    twice_to (headed g.up) (lists_by l now.course) (grains now.course.target) (min (end_of u end now os) (half_hour * j)) g.reached.place
-    + pieces_to (spans_of u end (courses_after u now os)) (half_hour * j)
+unfoldable pub sum_after : UnitData → ℕ → UnderWay → OnCourse → List Numbered → ℕ → ℕ
+sum_after u end now g os j =
+    twice_on g.route (min (end_of u end now os) (half_hour * j)) g.reached.place + pieces_to (spans_of u end (courses_after u now os)) (half_hour * j)
 
 -- the last course
 abbrev pub last_in : UnitData → UnderWay → List Numbered → UnderWay

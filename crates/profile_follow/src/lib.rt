@@ -23,10 +23,11 @@ pub struct Walk {
 }
 
 // None has acted yet.
+#[tactic(auto, unfolding(crate::specs::Walk::walk_of, level::specs::Lists::filled))]
 fn begin_walk(now: profile::UnderWay) -> Walk
     ensures { result ≡ walk_of now (record { marks = []; courses = now ∷ [] }) }
 {
-    let none = course_rates::no_course();
+    let none = course::Course::default();
     let first = now.course;
     let mut courses = [none; level::COURSES];
     courses[0] = first;
@@ -40,26 +41,26 @@ fn begin_walk(now: profile::UnderWay) -> Walk
     }
 }
 
-// How far the course under way is followed: its heading, where it was reached, the seconds off there, and twice the area of the
+// How far the course under way is followed: its route, where it was reached, the seconds off there, and twice the area of the
 // day up to there.
 #[derive(Clone, Copy)]
 pub struct OnCourse {
-    pub up: bool,
+    pub route: course_rates::Route,
     pub reached: course_walk::Reached,
     pub off: u32,
     pub total: u64,
 }
 
-// A course at its beginning, with its lists and the total up to there.
-#[tactic(auto, unfolding(crate::specs::Following::set_out, course_walk::specs::Walk::beginning))]
-fn set_out(now: profile::UnderWay, l: course_rates::OwnLists, up: bool, total: u64) -> OnCourse
-    ensures { result ≡ set_out now l up total }
+// A course at its beginning, with the total up to there.
+#[tactic(auto, unfolding(crate::specs::Following::set_out, course_rates::specs::Ways::route_of, course_walk::specs::Walk::beginning))]
+fn set_out(u: records::UnitData, now: profile::UnderWay, total: u64) -> OnCourse
+    ensures { result ≡ set_out u now total }
 {
-    let c = now.course;
-    let reached = course_walk::begin_at(l, c, up, 0);
-    let off = profile_areas::off_starting(c, now.off);
+    let route = course_rates::Route::new(u, now.course);
+    let reached = course_walk::begin_at(&route, 0);
+    let off = profile_areas::off_starting(now.course, now.off);
     OnCourse {
-        up,
+        route,
         reached,
         off,
         total,
@@ -67,15 +68,14 @@ fn set_out(now: profile::UnderWay, l: course_rates::OwnLists, up: bool, total: u
 }
 
 // The same course further on.
-fn went_to(up: bool, s: profile_areas::Passed) -> OnCourse
-    ensures { result ≡ went_to up s }
+fn went_to(g: OnCourse, s: profile_areas::Passed) -> OnCourse
+    ensures { result ≡ went_to g s }
 {
-    let reached = s.reached;
     OnCourse {
-        up,
-        reached,
+        reached: s.reached,
         off: s.off,
         total: s.total,
+        ..g
     }
 }
 
@@ -106,7 +106,7 @@ fn state_at(q: course_walk::Place, off: u32) -> profile::State
 fn place_in(at: usize) -> usize
     ensures { result ≡ place_in at }
 {
-    level::smaller_count(at, level::INSTRUCTIONS - 1)
+    at.min(level::INSTRUCTIONS - 1)
 }
 
 // What following comes to: the walk, twice the recorded area from 06:00 to each half-hour boundary, and the state at the day's end.
@@ -136,8 +136,7 @@ fn end_day(w: Walk, sums: [u64; level::BOUNDARIES], end: profile::State, halves:
 }
 
 // The first n of those that act, from the course `first` on, once along a day of so many half-hours; each read with the state just
-// before. Fate 7: the course under way goes on. Fate 0: it ends there, and a new one begins. Of its lists a new course picks only
-// its column and its ramp.
+// before. Fate 7: the course under way goes on. Fate 0: it ends there, and a new one begins.
 pub fn follow_day(
     u: records::UnitData,
     first: profile::UnderWay,
@@ -149,9 +148,7 @@ pub fn follow_day(
     ensures { FollowedBy u first (take n acts) halves result }
 {
     let mut w = begin_walk(first);
-    let rises = course_walk::is_rising(first.course);
-    let mut l = course_rates::own_lists(u, first.course, rises);
-    let mut g = set_out(first, l, rises, 0);
+    let mut g = set_out(u, first, 0);
     let mut sums = [0u64; level::BOUNDARIES];
     let end = level::HALF_HOUR * halves;
     loop {
@@ -160,13 +157,13 @@ pub fn follow_day(
         let now = w.now;
         let t = next_second(at < n, o, end);
         let s = profile_areas::pass_to(
-            &mut sums, g.total, l, now.course, g.up, g.reached, g.off, t,
+            &mut sums, g.total, &g.route, g.reached, g.off, t,
         );
         let p = s.reached.place;
         let q = s.ahead;
         let state = state_at(q, s.later);
         if n <= at {
-            let whole = profile_areas::note_piece(&mut sums, s.total, g.up, p, q);
+            let whole = profile_areas::note_piece(&mut sums, s.total, g.route.heading, p, q);
             return end_day(w, sums, state, halves);
         }
         w.acted = at + 1;
@@ -174,21 +171,17 @@ pub fn follow_day(
         match out {
             profile::Outcome::Ignored => {
                 w.fates[at] = 7;
-                g = went_to(g.up, s);
+                g = went_to(g, s);
             }
             profile::Outcome::Sets(set) => {
-                let total = profile_areas::note_piece(&mut sums, s.total, g.up, p, q);
+                let total = profile_areas::note_piece(&mut sums, s.total, g.route.heading, p, q);
                 let next = profile_effects::begin_course(u, o, set, state);
-                let d = next.course;
                 let top = w.started;
                 w.now = next;
-                w.courses[top] = d;
+                w.courses[top] = next.course;
                 w.started = top + 1;
                 w.fates[at] = 0;
-                let up = course_walk::is_rising(d);
-                l.column = u.columns[course_rates::place_of(d.heat)];
-                l.ramp = course_rates::ramp_of(up, u.up, u.down);
-                g = set_out(next, l, up, total);
+                g = set_out(u, next, total);
             }
         }
     }

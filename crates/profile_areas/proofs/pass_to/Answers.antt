@@ -8,20 +8,20 @@ loop-at-init c = progress_start c.requires
 
 pub off_between-later-requires : goal.off_between-later-requires
 off_between-later-requires c =
-    let low : c.args.c.target < 2 ^ 32 = omega arith in
-    let x = next_piece c.loop-at.invariant low c.loop-at-test.true c.walk_on-next.ensures.0 in
+    let to = c.walk_on-next.ensures in
+    let x = next_piece c.loop-at.invariant c.loop-at-test.true to.onward to.low in
     omega (arith, x.step.later)
 
 pub returns-then-n-q : goal.returns-then-n-q
 returns-then-n-q c =
-    let low : c.args.c.target < 2 ^ 32 = omega arith in
-    let x = next_piece c.loop-at.invariant low c.loop-at-test.true c.walk_on-next.ensures.0 in
+    let to = c.walk_on-next.ensures in
+    let x = next_piece c.loop-at.invariant c.loop-at-test.true to.onward to.low in
     progress_cut c.loop-at.invariant x c.off_between-later.ensures (omega arith)
 
 pub note_piece-total-requires : goal.note_piece-total-requires
 note_piece-total-requires c =
-    let low : c.args.c.target < 2 ^ 32 = omega arith in
-    let x = next_piece c.loop-at.invariant low c.loop-at-test.true c.walk_on-next.ensures.0 in
+    let to = c.walk_on-next.ensures in
+    let x = next_piece c.loop-at.invariant c.loop-at-test.true to.onward to.low in
     record {
       straight = λ lt. step_straight x.step;
       later = omega (arith, x.step.later);
@@ -33,12 +33,12 @@ note_piece-total-requires c =
 
 pub loop-at-smaller : goal.loop-at-smaller
 loop-at-smaller c =
-    let low : c.args.c.target < 2 ^ 32 = omega arith in
-    let x = next_piece c.loop-at.invariant low c.loop-at-test.true c.walk_on-next.ensures.0 in
+    let to = c.walk_on-next.ensures in
+    let x = next_piece c.loop-at.invariant c.loop-at-test.true to.onward to.low in
     omega (arith, x.step.later, x.step.within)
 
 pub loop-at-preserved : goal.loop-at-preserved
 loop-at-preserved c =
-    let low : c.args.c.target < 2 ^ 32 = omega arith in
-    let x = next_piece c.loop-at.invariant low c.loop-at-test.true c.walk_on-next.ensures.0 in
-    progress_more c.loop-at.invariant x c.off_between-later.ensures (omega arith) c.walk_on-next.ensures.1 c.note_piece-total.ensures
+    let to = c.walk_on-next.ensures in
+    let x = next_piece c.loop-at.invariant c.loop-at-test.true to.onward to.low in
+    progress_more c.loop-at.invariant x c.off_between-later.ensures (omega arith) to.known c.note_piece-total.ensures

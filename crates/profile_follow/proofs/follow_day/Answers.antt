@@ -1,7 +1,6 @@
 use Rattle.std.proofs.Common.{◌≡◌, ℕ, ◌*◌, take, drop, ap, sym, ◌∙◌, subst, arith}
 use Rattle.std.proofs.lemmas.Bool.{ltb-true}
 use Rattle.level.specs.Numbers.{half_hour}
-use Rattle.course_rates.proofs.Anew.{shared_own, own_anew}
 use Rattle.profile_follow.specs.declared.Walk.{Walk}
 use Rattle.profile_follow.specs.Walk.{walk_of, went_on, replaced_by}
 use Rattle.profile_follow.proofs.Steps.{FollowProgress, progress_start, progress_on, progress_new, progress_end}
@@ -12,12 +11,11 @@ pub loop-u-init : goal.loop-u-init
 unfolding walk_of
 loop-u-init c =
     let none : c.begin_walk-w.result.acted ≡ 0 = ap (λ (x : Walk). x.acted) c.begin_walk-w.ensures in
-    let begins = progress_start {u = c.args.u} c.begin_walk-w.ensures c.set_out-g.ensures c.is_rising-rises.ensures c.own_lists-l.ensures
-    c.requires.ordered c.requires.starts in
+    let begins = progress_start {u = c.args.u} c.begin_walk-w.ensures c.set_out-g.ensures c.requires.ordered c.requires.starts in
     record {
       within = omega (arith, none);
       progress = subst (λ (i : ℕ). FollowProgress c.args.u (half_hour * c.args.halves) c.args.first (take c.args.n c.args.acts)
-          (drop i (take c.args.n c.args.acts)) c.begin_walk-w.result c.set_out-g.result c.own_lists-l.result _) (sym none) begins;
+          (drop i (take c.args.n c.args.acts)) c.begin_walk-w.result c.set_out-g.result _) (sym none) begins;
     }
 
 pub next_second-t-requires : goal.next_second-t-requires
@@ -61,10 +59,8 @@ loop-u-preserved c =
     let x = acts_now c.requires c.well_formed.1.1.0.1.0.1 turn c.place_in.ensures c.next_second-t.ensures c.pass_to-s.ensures
     c.state_at-state.ensures c.if-n-at.false in
     let room = fate_room c.requires c.well_formed.1.1.0.1.0.1 turn c.place_in.ensures c.if-n-at.false in
-    let own = own_anew c.args.u c.loop-u.l c.begin_course-next.result.course c.is_rising-up.result c.place_of.result c.ramp_of-l.result
-    (shared_own c.args.u c.loop-u.l c.loop-u.w.now.course c.loop-u.g.up turn.progress.on.lists) c.place_of.ensures.0 c.ramp_of-l.ensures in
     record {
       within = omega (arith, c.if-n-at.false);
       progress = progress_new x.progress room (sym (x.comes c.outcome_of-out.ensures) ∙ c.in-Sets.is) x.cut
-          (x.begins c.in-Sets.set c.begin_course-next.ensures) c.set_out-g-in-Sets.ensures c.is_rising-up.ensures own c.note_piece-total.ensures;
+          (x.begins c.in-Sets.set c.begin_course-next.ensures) c.set_out-g-in-Sets.ensures c.note_piece-total.ensures;
     }
