@@ -10,6 +10,9 @@ use lib.ListN.{length, get_or, take, drop, length-take, drop_of_length-le}
 use lib.Seq.{drop-cons, get_or-take}
 use lib.Dec.{ltb, eqb}
 use borrow.Author.Tests.{lt-ltb, le-ltb, eq-eqb, ne_eqb}
+use Rattle.std.proofs.Common.{Option, Some, None, is_some, slice_get, unwrap_or, take_all, true≢false, length-drop}
+use Rattle.std.proofs.lemmas.Option.{slice_get_within}
+use Rattle.std.proofs.Math.Seq.{take-length}
 use Rattle.level.specs.Choice.{pick}
 use Rattle.level.specs.Level.{grains}
 use Rattle.level.specs.Lists.{list_from}
@@ -26,15 +29,14 @@ use Rattle.course.specs.Pieces.{pieces_in}
 use Rattle.course.specs.Headings.{Short}
 use Rattle.profile.specs.Profile.{begin_of, spans_of, day_pieces, rounded}
 use Rattle.profile.specs.Finding.{quantity_at}
-use Rattle.course_rates.specs.declared.OwnLists.{OwnLists}
+use Rattle.course_rates.specs.declared.Route.{Route}
 use Rattle.course_walk.specs.declared.Place.{Place}
 use Rattle.course_walk.specs.declared.Reached.{Reached}
-use Rattle.course_rates.proofs.Anew.{Shared, set_anew, own_anew}
-use Rattle.course_rates.specs.Ways.{headed, own_lists, lists_by}
+use Rattle.course_rates.specs.Ways.{target_of, route_of, lists_by}
 use Rattle.course_walk.specs.Walk.{Known, reached_at, beginning, piece_between, onward}
 use Rattle.course_walk.proofs.Left.{left_none, onward_first, all_left}
 use Rattle.course_walk.proofs.Own.{own_left}
-use Rattle.course_walk.proofs.Courses.{begins_short}
+use Rattle.course_walk.proofs.Courses.{route_course, route_own, begins_short}
 use Rattle.course_walk.proofs.PieceStep.{PieceStep, onward_step}
 use Rattle.course_walk.proofs.Rest.{known_at}
 use Rattle.profile_quantity.proofs.Above.{quantity_is}
@@ -76,53 +78,53 @@ module _ (fs : List ℕ) (n i : ℕ) where
 -- ---- S lines of a course
 
 -- how far a course has been followed: not past its target, with the segment that is known there, if any
-pub record CourseAt (l : OwnLists) (c : Course) (up : Bool) (r : Reached) : Type 0 where
-  pub short : Short (headed up) (grains c.target) r.place.level
-  pub known : Known (headed up) (lists_by l c) (grains c.target) r
+pub record CourseAt (r : Route) (at : Reached) : Type 0 where
+  pub short : Short r.heading (target_of r) at.place.level
+  pub known : Known r.heading (lists_by r) (target_of r) at
 
 -- one piece on, up to the second n: of the lines left, its line comes next
-pub record PieceOn (l : OwnLists) (c : Course) (up : Bool) (n : ℕ) (from to : Reached) : Type 0 where
-  pub along : CourseAt l c up to
+pub record PieceOn (r : Route) (n : ℕ) (from to : Reached) : Type 0 where
+  pub along : CourseAt r to
   pub later : from.place.second < to.place.second
   pub within : to.place.second ≤ n
-  pub line : Next (lines_left l c up n from.place) (piece_line from.place to.place) (lines_left l c up n to.place)
+  pub line : Next (lines_left r n from.place) (piece_line from.place to.place) (lines_left r n to.place)
 
-module _ (l : OwnLists) (c : Course) (up : Bool) where
+module _ (r : Route) where
   abbrev way : Heading
-  way = headed up
+  way = r.heading
 
   abbrev lists : Lists
-  lists = lists_by l c
+  lists = lists_by r
 
   abbrev target : ℕ
-  target = grains c.target
+  target = target_of r
 
-  pub along_begins : Short way target c.start.grains → CourseAt l c up (reached_at way lists target (beginning c c.begin))
+  pub along_begins : Short way target r.course.start.grains → CourseAt r (reached_at way lists target (beginning r.course r.course.begin))
   unfolding beginning reached_at
-  along_begins sh = record { short = sh; known = known_at way lists target (beginning c c.begin) sh }
+  along_begins sh = record { short = sh; known = known_at way lists target (beginning r.course r.course.begin) sh }
 
   module _ (n : ℕ) where
-    pub piece_on : {from to : Reached} → from.place.second < n → CourseAt l c up from →
-        (to.place ≡ onward way lists target n from.place) × Known way lists target to → PieceOn l c up n from to
+    pub piece_on : {from to : Reached} → from.place.second < n → CourseAt r from →
+        to.place ≡ onward way lists target n from.place → Known way lists target to → PieceOn r n from to
     unfolding s_lines piece_line piece_between
-    piece_on {from} {to} h a e =
+    piece_on {from} {to} h a e known =
         let p : Place = from.place in
-        let g : PieceStep way lists target n p to.place = rw e.0 (onward_step way lists target n p h a.short) in
+        let g : PieceStep way lists target n p to.place = rw e (onward_step way lists target n p h a.short) in
         record {
-          along = record { short = g.short; known = e.1 };
+          along = record { short = g.short; known = known };
           later = g.later;
           within = g.within;
-          line = record { parts = rw e.0 (ap s_lines (onward_first way lists target n p h a.short)) };
+          line = record { parts = rw e (ap s_lines (onward_first way lists target n p h a.short)) };
         }
 
-    pub pieces_none : (p : Place) → n ≤ p.second → lines_left l c up n p ≡ []
+    pub pieces_none : (p : Place) → n ≤ p.second → lines_left r n p ≡ []
     unfolding s_lines
     pieces_none p h = ap s_lines (left_none way lists target n p h)
 
     -- from the beginning: those of the course
-    pieces_all : (u : UnitData) → l ≡ own_lists u c up → up ≡ ltb c.start.grains target →
-        lines_left l c up n (beginning c c.begin) ≡ course_lines u c n
-    pieces_all u o rises = ap s_lines (own_left u c up l o target n (beginning c c.begin) ∙ all_left u c up rises c.begin n)
+    pieces_all : (u : UnitData) → r ≡ route_of u r.course →
+        lines_left r n (beginning r.course r.course.begin) ≡ course_lines u r.course n
+    pieces_all u own = ap s_lines (own_left u r own target n (beginning r.course r.course.begin) ∙ all_left u r own r.course.begin n)
 
 -- ---- S lines of courses
 s_append : (ps qs : List Piece) → s_lines (ps ++ qs) ≡ s_lines ps ++ s_lines qs
@@ -132,68 +134,65 @@ s_append (p ∷ ps) qs =
     let x : List ℕ = s_line p.from p.to p.enter p.leave in
     ap (λ (l : List ℕ). x ++ l) (s_append ps qs) ∙ sym (append_assoc x (s_lines ps) (s_lines qs))
 
--- where the course at the place i ends, of the first `started`: where the next one begins, else at the day's end
-end_is : (cs : List Course) (started n i end : ℕ) → length cs ≡ course_places → n ≡ min started course_places → i < n →
-    pick (ltb (i + 1) n) (get_or cs (min (i + 1) instruction_places) no_course).begin end ≡ begin_of end (drop (i + 1) (take started cs))
+-- where a course ends, by the later ones
+pub first_begins : (end : ℕ) (cs : List Course) (c : Course) → slice_get cs 0 ≡ Some c → c.begin ≡ begin_of end cs
 unfolding begin_of
-end_is cs started n i end e f h = elim (dec_le (suc (i + 1)) n) [
-  | yes k ↦ simp (lt-ltb (i + 1) n k) (ap (λ (j : ℕ). (get_or cs j no_course).begin) {x = min (i + 1) instruction_places} {y = i + 1} (omega arith)
-      ∙ sym (ap (begin_of end) (left_first cs started (i + 1) no_course (omega arith))))
-  | no k ↦ simp (le-ltb (i + 1) n (omega arith)) (sym (ap (begin_of end) (left_over cs started (i + 1) (omega arith))))
-]
+first_begins end [] c e = absurd (omega (arith, slice_get_within {A = Course} [] 0 c e))
+first_begins end (d ∷ ds) c e = ap (λ (o : Option Course). (unwrap_or o c).begin) (sym e)
 
--- those of the courses from the place i on, of the first n, of a day that ends at the second `end`
-abbrev pub courses_left : UnitData → ℕ → List Course → ℕ → ℕ → List ℕ
-courses_left u end cs n i = courses_lines u end (drop i (take n cs))
+pub none_begins : (end : ℕ) (cs : List Course) → slice_get cs 0 ≡ None → end ≡ begin_of end cs
+unfolding begin_of
+none_begins end [] e = refl
+none_begins end (d ∷ ds) e = absurd (true≢false (ap is_some e))
 
-module _ (u : UnitData) (end : ℕ) (cs : List Course) (n i : ℕ) where
-  courses_more : (to : ℕ) → i < min n (length cs) → to ≡ begin_of end (drop (i + 1) (take n cs)) →
-      courses_left u end cs n i ≡ course_lines u (get_or cs i no_course) to ++ courses_left u end cs n (i + 1)
+-- those of the courses from the place i on, of a day that ends at the second `end`
+abbrev pub courses_left : UnitData → ℕ → List Course → ℕ → List ℕ
+courses_left u end cs i = courses_lines u end (drop i cs)
+
+-- of the lines left, those of a course come next, on its route up to the second `to`
+pub record CourseNext (left rest : List ℕ) (r : Route) (to : ℕ) : Type 0 where
+  pub short : Short r.heading (target_of r) r.course.start.grains
+  pub lines : Next left (lines_left r to (beginning r.course r.course.begin)) rest
+
+module _ (u : UnitData) (end : ℕ) (cs : List Course) where
+  courses_more : (d : Course) (i to : ℕ) → i < length cs → to ≡ begin_of end (drop (i + 1) cs) →
+      courses_left u end cs i ≡ course_lines u (get_or cs i d) to ++ courses_left u end cs (i + 1)
   unfolding courses_lines spans_of day_pieces
-  courses_more to h e =
-      let ds : List Course = drop (i + 1) (take n cs) in
-      let c : Course = get_or cs i no_course in
-      rw e (ap (courses_lines u end) (left_first cs n i no_course h)
+  courses_more d i to h e =
+      let ds : List Course = drop (i + 1) cs in
+      let c : Course = get_or cs i d in
+      rw e (ap (courses_lines u end) (drop-cons cs i d h ∙ ap (λ (k : ℕ). c ∷ drop k cs) (sym (add-one i)))
       ∙ s_append (pieces_in (trajectory_of u c) c.begin (begin_of end ds)) (day_pieces (spans_of u end ds)))
 
-  pub courses_none : min n (length cs) ≤ i → courses_left u end cs n i ≡ []
+  pub courses_none : (i : ℕ) → length cs ≤ i → courses_left u end cs i ≡ []
   unfolding courses_lines spans_of day_pieces s_lines
-  courses_none h = ap (courses_lines u end) (left_over cs n i h)
+  courses_none i h = ap (courses_lines u end) (drop_of_length-le cs {i = i} h)
 
--- a loop over n courses has come to the i-th, and l has what all courses share; of the lines, so far P
-pub record CoursesTo (u : UnitData) (l : OwnLists) (i n : ℕ) (P : Type 0) : Type 0 where
-  pub within : i ≤ n
-  pub shared : Shared u l
-  pub lines : P
-
--- of the lines left, those of the course c come next, which goes by the lists l up to the second `to`
-pub record CourseNext (left rest : List ℕ) (l : OwnLists) (c : Course) (up : Bool) (to : ℕ) : Type 0 where
-  pub short : Short (headed up) (grains c.target) c.start.grains
-  pub lines : Next left (lines_left l c up to (beginning c c.begin)) rest
-
--- the course at the place i
-module _ (u : UnitData) (end : ℕ) (cs : List Course) (started n i : ℕ) (all : length cs ≡ course_places) (few : n ≡ min started course_places)
-    (within : i < n) where
-  abbrev this : Course
-  this = get_or cs i no_course
-
-  pub course_next : {l : OwnLists} {up : Bool} {at j to : ℕ} {ramp : Ramp} → Shared u l → up ≡ ltb this.start.grains (grains this.target) →
-      at ≡ place_of this.heat → ramp ≡ pick up u.up u.down → j ≡ min (i + 1) instruction_places →
-      to ≡ pick (ltb (i + 1) n) (get_or cs j no_course).begin end →
-      CourseNext (courses_left u end cs started i) (courses_left u end cs started (i + 1)) (set_anew u l at ramp) this up to
+  -- the course at the place i
+  pub course_next : (d : Course) {i to : ℕ} {r : Route} → i < length cs → r ≡ route_of u (get_or cs i d) →
+      to ≡ begin_of end (take (length cs - (i + 1)) (drop (i + 1) cs)) →
+      CourseNext (courses_left u end cs i) (courses_left u end cs (i + 1)) r to
   unfolding beginning
-  course_next {l} {up} {at} {j} {to} {ramp} s rises e r k ends =
-      let anew : OwnLists = set_anew u l at ramp in
-      let until : to ≡ begin_of end (drop (i + 1) (take started cs)) = ends
-      ∙ ap (λ (m : ℕ). pick (ltb (i + 1) n) (get_or cs m no_course).begin end) k ∙ end_is cs started n i end all few within in
-      let lines = pieces_all anew this up to u (own_anew u l this up at ramp s e r) rises in
+  course_next d {i} {to} {r} h e until =
+      let c : Course = get_or cs i d in
+      let ds : List Course = drop (i + 1) cs in
+      let all : take (length cs - (i + 1)) ds ≡ ds = ap (λ (k : ℕ). take k ds) (sym (length-drop (i + 1) cs)) ∙ take-length ds in
+      let own : r ≡ route_of u r.course = route_own u c r e in
+      let here : course_lines u c to ≡ lines_left r to (beginning r.course r.course.begin) =
+      ap (λ (x : Course). course_lines u x to) (sym (route_course u c r e)) ∙ sym (pieces_all r to u own) in
       record {
-        short = begins_short u this up rises this.begin;
+        short = begins_short u r own r.course.begin;
         lines = record {
-          parts =
-              courses_more u end cs started i to (omega arith) until ∙ ap (λ (ls : List ℕ). ls ++ courses_left u end cs started (i + 1)) (sym lines);
+          parts = courses_more d i to h (until ∙ ap (begin_of end) all) ∙ ap (λ (ls : List ℕ). ls ++ courses_left u end cs (i + 1)) here;
         };
       }
+
+-- the first `started` of an array of courses, as many as there are
+pub take_few : (cs : List Course) (n started : ℕ) → length cs ≡ course_places → n ≡ min started course_places → take n cs ≡ take started cs
+take_few cs n started all e = elim (dec_le started course_places) [
+  | yes le ↦ ap (λ (k : ℕ). take k cs) (omega arith)
+  | no more ↦ ap (λ (k : ℕ). take k cs) {x = n} {y = length cs} (omega arith) ∙ take-length cs ∙ sym (take_all started cs (omega arith))
+]
 
 -- ---- Q lines
 

@@ -11,8 +11,8 @@ use Rattle.course.specs.Pieces.{pieces_in}
 use Rattle.profile.specs.declared.Closing.{Closing}
 use Rattle.profile.specs.Profile.{spans_of, day_pieces, rounded}
 use Rattle.profile.specs.Finding.{quantity_at}
-use Rattle.course_rates.specs.declared.OwnLists.{OwnLists}
-use Rattle.course_rates.specs.Ways.{headed, lists_by}
+use Rattle.course_rates.specs.declared.Route.{Route}
+use Rattle.course_rates.specs.Ways.{target_of, lists_by}
 use Rattle.course_walk.specs.declared.Place.{Place}
 use Rattle.course_walk.specs.Walk.{pieces_left}
 use Rattle.lines.specs.Lines.{s_line, e_line}
@@ -26,9 +26,9 @@ fate_lines n fates = f_lines 1 (take n fates)
 unfoldable pub piece_line : Place → Place → List ℕ
 piece_line p q = s_line p.second q.second p.level q.level
 
--- the S lines from the place p on, of a course that goes by its own lists and lasts to the second n
-abbrev pub lines_left : OwnLists → Course → Bool → ℕ → Place → List ℕ
-lines_left l c up n p = s_lines (pieces_left (headed up) (lists_by l c) (grains c.target) n p)
+-- the S lines from the place p on, of a course on its route that lasts to the second n
+abbrev pub lines_left : Route → ℕ → Place → List ℕ
+lines_left r n p = s_lines (pieces_left r.heading (lists_by r) (target_of r) n p)
 
 -- the S lines of a course that lasts to the second n
 abbrev pub course_lines : UnitData → Course → ℕ → List ℕ

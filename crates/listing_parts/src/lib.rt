@@ -1,14 +1,12 @@
 // The lines of a day, kind by kind: their widths, and their writers into the free tail of the output.
 #![tactic(auto)]
 
-ghost use Rattle.std.specs.Prelude.{◌≡◌, ◌+◌, ◌*◌, ◌-◌, ◌<◌, ◌≤◌, length, take, get_or};
-ghost use Rattle.level.specs.Choice.{pick};
-ghost use Rattle.level.specs.Level.{grains};
+ghost use Rattle.std.specs.Prelude.{◌≡◌, ◌+◌, ◌*◌, ◌-◌, ◌<◌, ◌≤◌, length, take, drop, get_or};
 ghost use Rattle.level.specs.Numbers.{most_half_hours, instruction_places, course_places};
 ghost use Rattle.course.specs.Headings.{Short};
-ghost use Rattle.profile.specs.Profile.{closing_by};
+ghost use Rattle.profile.specs.Profile.{begin_of, closing_by};
 ghost use Rattle.profile.specs.Finding.{quantity_at};
-ghost use Rattle.course_rates.specs.Ways.{headed};
+ghost use Rattle.course_rates.specs.Ways.{target_of};
 ghost use Rattle.course_walk.specs.Walk.{beginning};
 ghost use Rattle.lines.specs.Writing.{Written, Measured};
 ghost use Rattle.listing_parts.specs.Rest.{fate_lines, piece_line, lines_left, courses_lines, quantity_lines, RunAsked, RunEnds, closing_line};
@@ -71,60 +69,48 @@ fn put_piece(out: &mut [u8], p: course_walk::Place, q: course_walk::Place) -> us
     lines_kinds::put_s(out, from, to, p.level, q.level)
 }
 
-// The width of the lines of a course that goes by its own lists, from where it begins to the second n.
-fn course_width(l: course_rates::OwnLists, c: course::Course, up: bool, n: u32) -> usize
-    requires { Short (headed up) (grains c.target) c.start.grains }
-    ensures { Measured (lines_left l c up n (beginning c c.begin)) 369367187370 result }
+// The width of the lines of a course, from where it begins to the second n.
+fn course_width(r: &course_rates::Route, n: u32) -> usize
+    requires { Short r.now.heading (target_of r.now) r.now.course.start.grains }
+    ensures { Measured (lines_left r.now n (beginning r.now.course r.now.course.begin)) 369367187370 result }
 {
-    let mut from = course_walk::begin_at(l, c, up, 0);
+    let mut from = course_walk::begin_at(r, 0);
     let mut width: usize = 0;
     while from.place.second < n {
-        let to = course_walk::walk_on(l, c, up, from, n);
-        let p = from.place;
-        let q = to.place;
-        width += piece_width(p, q);
+        let to = course_walk::walk_on(r, from, n);
+        width += piece_width(from.place, to.place);
         from = to;
     }
     width
 }
 
-// The lines of a course that goes by its own lists, from where it begins to the second n.
-fn put_course(
-    out: &mut [u8],
-    l: course_rates::OwnLists,
-    c: course::Course,
-    up: bool,
-    n: u32,
-) -> usize
-    requires short { Short (headed up) (grains c.target) c.start.grains }
-    requires begin_in_bounds { length (lines_left l c up n (beginning c c.begin)) ≤ length out.old }
-    ensures { Written (lines_left l c up n (beginning c c.begin)) result out.old out.new }
+// The lines of a course, from where it begins to the second n.
+fn put_course(out: &mut [u8], r: &course_rates::Route, n: u32) -> usize
+    requires short { Short r.now.heading (target_of r.now) r.now.course.start.grains }
+    requires begin_in_bounds { length (lines_left r.now n (beginning r.now.course r.now.course.begin)) ≤ length out.old }
+    ensures { Written (lines_left r.now n (beginning r.now.course r.now.course.begin)) result out.old out.new }
 {
-    let mut from = course_walk::begin_at(l, c, up, 0);
+    let mut from = course_walk::begin_at(r, 0);
     let mut at: usize = 0;
     while from.place.second < n {
-        let to = course_walk::walk_on(l, c, up, from, n);
-        let p = from.place;
-        let q = to.place;
-        let w = put_piece(&mut out[at..], p, q);
-        at += w;
+        let to = course_walk::walk_on(r, from, n);
+        at += put_piece(&mut out[at..], from.place, to.place);
         from = to;
     }
     at
 }
 
-// Where a course ends: where the next one begins, if there is one, else at the day's end.
-fn end_of(more: bool, next: u32, end: u32) -> u32
-    ensures { result ≡ pick more next end }
+// Where a course ends: where the first of the later ones begins, if there is one, else at the day's end.
+fn end_of(later: &[course::Course], end: u32) -> u32
+    ensures { result ≡ begin_of end later.now }
 {
-    if more {
-        return next;
+    match later.first() {
+        Some(next) => next.begin,
+        None => end,
     }
-    end
 }
 
-// The width of the lines of the first `started` courses, of a day that ends at the second `end`. Of a course's own lists only
-// column and ramp are set anew.
+// The width of the lines of the first `started` courses, of a day that ends at the second `end`.
 pub fn courses_width(
     u: records::UnitData,
     cs: [course::Course; level::COURSES],
@@ -133,21 +119,11 @@ pub fn courses_width(
 ) -> usize
     ensures { Measured (courses_lines u end (take started cs)) (369367187370 * course_places) result }
 {
-    let n = level::smaller_count(started, level::COURSES);
-    let first = cs[0];
-    let mut l = course_rates::own_lists(u, first, true);
+    let began = &cs[..started.min(level::COURSES)];
     let mut width: usize = 0;
-    let mut i: usize = 0;
-    while i < n {
-        let c = cs[i];
-        i += 1;
-        let j = level::smaller_count(i, level::INSTRUCTIONS);
-        let to = end_of(i < n, cs[j].begin, end);
-        let up = course_walk::is_rising(c);
-        let heat = course_rates::place_of(c.heat);
-        l.column = u.columns[heat];
-        l.ramp = course_rates::ramp_of(up, u.up, u.down);
-        width += course_width(l, c, up, to);
+    for (i, c) in began.iter().enumerate() {
+        let route = course_rates::Route::new(u, *c);
+        width += course_width(&route, end_of(&began[i + 1..], end));
     }
     width
 }
@@ -163,22 +139,11 @@ pub fn put_courses(
     requires { length (courses_lines u end (take started cs)) ≤ length out.old }
     ensures { Written (courses_lines u end (take started cs)) result out.old out.new }
 {
-    let n = level::smaller_count(started, level::COURSES);
-    let first = cs[0];
-    let mut l = course_rates::own_lists(u, first, true);
+    let began = &cs[..started.min(level::COURSES)];
     let mut at: usize = 0;
-    let mut i: usize = 0;
-    while i < n {
-        let c = cs[i];
-        i += 1;
-        let j = level::smaller_count(i, level::INSTRUCTIONS);
-        let to = end_of(i < n, cs[j].begin, end);
-        let up = course_walk::is_rising(c);
-        let heat = course_rates::place_of(c.heat);
-        l.column = u.columns[heat];
-        l.ramp = course_rates::ramp_of(up, u.up, u.down);
-        let w = put_course(&mut out[at..], l, c, up, to);
-        at += w;
+    for (i, c) in began.iter().enumerate() {
+        let route = course_rates::Route::new(u, *c);
+        at += put_course(&mut out[at..], &route, end_of(&began[i + 1..], end));
     }
     at
 }

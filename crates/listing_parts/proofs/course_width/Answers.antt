@@ -8,17 +8,17 @@ pub loop-from-init : goal.loop-from-init
 unfolding beginning reached_at
 loop-from-init c =
     rw c.begin_at-from.ensures
-    (record { along = along_begins c.args.l c.args.c c.args.up c.requires; begun = omega arith; measured = measure_none })
+    (record { along = along_begins c.args.r.now c.requires; begun = omega arith; measured = measure_none })
 
 pub loop-from-smaller : goal.loop-from-smaller
 loop-from-smaller c =
-    let g = piece_on c.args.l c.args.c c.args.up c.args.n c.loop-from-test.true c.loop-from.invariant.along c.walk_on-to.ensures in
+    let g = piece_on c.args.r.now c.args.n c.loop-from-test.true c.loop-from.invariant.along c.walk_on-to.ensures.onward c.walk_on-to.ensures.known in
     omega arith
 
 pub loop-from-preserved : goal.loop-from-preserved
 loop-from-preserved c =
     let inv = c.loop-from.invariant in
-    let g = piece_on c.args.l c.args.c c.args.up c.args.n c.loop-from-test.true inv.along c.walk_on-to.ensures in
+    let g = piece_on c.args.r.now c.args.n c.loop-from-test.true inv.along c.walk_on-to.ensures.onward c.walk_on-to.ensures.known in
     record {
       along = g.along;
       begun = omega (arith, g.later, inv.begun);
@@ -27,4 +27,4 @@ loop-from-preserved c =
 
 pub returns : goal.returns
 returns c =
-    measure_all (pieces_none c.args.l c.args.c c.args.up c.args.n c.loop-from.from.place (omega arith)) c.loop-from.invariant.measured (omega arith)
+    measure_all (pieces_none c.args.r.now c.args.n c.loop-from.from.place (omega arith)) c.loop-from.invariant.measured (omega arith)

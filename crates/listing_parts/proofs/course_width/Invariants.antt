@@ -1,6 +1,6 @@
 use Rattle.std.proofs.Common.{ℕ, ◌*◌, ◌-◌, ◌≤◌, Bool}
 use Rattle.course.specs.declared.Course.{Course}
-use Rattle.course_rates.specs.declared.OwnLists.{OwnLists}
+use Rattle.course_rates.specs.declared.Route.{Route}
 use Rattle.course_walk.specs.declared.Reached.{Reached}
 use Rattle.course_walk.specs.Walk.{beginning}
 use Rattle.lines.proofs.Laying.{Measuring}
@@ -9,13 +9,13 @@ use Rattle.listing_parts.proofs.Laws.{CourseAt}
 use Rattle.listing_parts.proofs.course_width.Given as goal
 
 -- the course is followed up to `from`, and its lines are measured up to there
-pub record Progress (l : OwnLists) (c : Course) (up : Bool) (n : ℕ) (from : Reached) (width : ℕ) : Type 0 where
-  pub along : CourseAt l c up from
-  pub begun : c.begin ≤ from.place.second
-  pub measured : Measuring (lines_left l c up n (beginning c c.begin)) (lines_left l c up n from.place) ((from.place.second - c.begin) * 86) width
+pub record Progress (r : Route) (n : ℕ) (from : Reached) (width : ℕ) : Type 0 where
+  pub along : CourseAt r from
+  pub begun : r.course.begin ≤ from.place.second
+  pub measured : Measuring (lines_left r n (beginning r.course r.course.begin)) (lines_left r n from.place) ((from.place.second - r.course.begin) * 86) width
 
 abbrev pub invariant-loop-from : goal.invariant-loop-from
-invariant-loop-from l = Progress l.l l.c l.up l.n l.from l.width
+invariant-loop-from l = Progress l.r l.n l.from l.width
 
 abbrev pub decreases-loop-from : goal.decreases-loop-from
 decreases-loop-from l = l.n - l.from.place.second

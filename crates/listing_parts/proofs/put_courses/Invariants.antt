@@ -1,11 +1,6 @@
-use Rattle.std.proofs.Common.{◌-◌}
 use Rattle.lines.proofs.Laying.{Laying}
-use Rattle.listing_parts.proofs.Laws.{CoursesTo, courses_left}
+use Rattle.listing_parts.proofs.Laws.{courses_left}
 use Rattle.listing_parts.proofs.put_courses.Given as goal
 
 abbrev pub invariant-loop-i : goal.invariant-loop-i
-invariant-loop-i l =
-    CoursesTo l.u l.l l.i l.n (Laying (courses_left l.u l.end l.cs l.started 0) (courses_left l.u l.end l.cs l.started l.i) l.fn.out l.out l.at)
-
-abbrev pub decreases-loop-i : goal.decreases-loop-i
-decreases-loop-i l = l.n - l.i
+invariant-loop-i l = Laying (courses_left l.u l.end l.began 0) (courses_left l.u l.end l.began l.i) l.fn.out l.out l.at
