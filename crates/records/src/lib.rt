@@ -66,7 +66,7 @@ pub struct Opening {
 }
 
 // What an instruction does at its acting second (Table 7).
-#[derive(Clone, Copy)]
+#[derive(Clone, Copy, PartialEq, Eq)]
 pub enum Effect {
     Trip,
     Mwof,

@@ -1,61 +1,36 @@
--- The cases of ranks and carriers, each with its conditions as plain facts.
+-- The one that is used of a group, with its conditions as plain facts.
 use mathlib.Core.Path.{◌≡◌, refl, sym, ap, ◌∙◌}
 use mathlib.Core.List.{List, [], ◌∷◌}
-use mathlib.Core.Bool.{true, false, ◌&&◌}
-use Prim.Native.Nat.{◌≤◌, ◌<◌}
 use native.Mathlib.Omega.{arith}
-use lib.Dec.{ltb}
 use lib.ListN.{length, get_or}
-use borrow.Author.Tests.{lt-ltb, le-ltb}
-use Rattle.level.specs.Choice.{pick}
-use Rattle.records.specs.declared.Effect.TheVariants.{Mwof, Sync, Desy}
-use Rattle.records.specs.Codes.{same}
+use Rattle.std.specs.Prelude.{Option, Some, None, option_to_list}
+use Rattle.std.specs.Option.{option_or}
+use Rattle.records.specs.declared.Effect.TheVariants.{Sync, Desy}
 use Rattle.validation.specs.declared.Numbered.{Numbered}
-use Rattle.validation.specs.Kept.{effect_of, level_of, goes_before, highest, or_else, present, carrying, merged, used_of}
-use Rattle.validation_rank.specs.Picked.{picked_list, best_from}
-use Rattle.validation_rank.specs.declared.Picked.{Picked}
-use Rattle.validation_rank.specs.declared.Picked.TheVariants.{One, Nothing}
+use Rattle.validation.specs.Kept.{highest, or_else, present, merged, used_of}
+use Rattle.validation_rank.specs.Best.{best_from}
 
-module _ (x o : Numbered) where
-  pub goes_rank : x.instruction.meaning.rank < o.instruction.meaning.rank → true ≡ goes_before x o
-  unfolding goes_before
-  goes_rank h = simp (lt-ltb _ _ h)
+-- the first picked, else the other
+or_listed : (a b : Option Numbered) → option_to_list (option_or a b) ≡ or_else (option_to_list a) (option_to_list b)
+or_listed (Some x) b = refl
+or_listed None b = refl
 
-  module _ (h : o.instruction.meaning.rank ≤ x.instruction.meaning.rank) where
-    pub goes_other : same (effect_of x) Mwof ≡ false → false ≡ goes_before x o
-    unfolding goes_before
-    goes_other k = rw (le-ltb _ _ h, k)
-
-    pub goes_mwof : same (effect_of x) Mwof ≡ true → (same (effect_of o) Mwof && ltb (level_of o) (level_of x)) ≡ goes_before x o
-    unfolding goes_before
-    goes_mwof k = rw (le-ltb _ _ h, k)
-
--- ---- the carrier, and the one that is used
-module _ (g : List Numbered) (o : Numbered) (f : Picked) (h : same (effect_of o) Mwof ≡ true)
-    (p : picked_list f ≡ or_else (present Sync g) (present Desy g)) where
-  pub merged_into : (c : Numbered) → f ≡ One c → carrying o c ∷ [] ≡ merged g o
-  unfolding merged
-  merged_into c q = let e : or_else (present Sync g) (present Desy g) ≡ c ∷ [] = sym p ∙ ap picked_list q in rw (h, e)
-
-  pub merged_alone : f ≡ Nothing → o ∷ [] ≡ merged g o
-  unfolding merged
-  merged_alone q = let e : or_else (present Sync g) (present Desy g) ≡ [] = sym p ∙ ap picked_list q in rw (h, e)
-
-pub used_best : (g : List Numbered) (o : Numbered) → o ∷ [] ≡ best_from [] g → merged g o ≡ used_of g
+merged_best : (o : Numbered) (g : List Numbered) → o ∷ [] ≡ best_from [] g → merged g o ≡ used_of g
 unfolding used_of best_from
-used_best [] o e = absurd (omega (arith, ap length e))
-used_best (x ∷ xs) o e = ap (merged (x ∷ xs)) (ap (λ (l : List Numbered). get_or l 0 o) e)
+merged_best o [] e = absurd (omega (arith, ap length e))
+merged_best o (x ∷ xs) e = ap (merged (x ∷ xs)) (ap (λ (l : List Numbered). get_or l 0 o) e)
 
-pub used_none : (g : List Numbered) → [] ≡ best_from [] g → [] ≡ used_of g
+none_best : (g : List Numbered) → [] ≡ best_from [] g → [] ≡ used_of g
 unfolding used_of best_from
-used_none [] e = refl
-used_none (x ∷ xs) e = absurd (omega (arith, ap length e))
+none_best [] e = refl
+none_best (x ∷ xs) e = absurd (omega (arith, ap length e))
 
--- one more looked at
-pub better_one : (f : Picked) (b o h : Numbered) → f ≡ One b → h ≡ pick (goes_before o b) o b → h ∷ [] ≡ best_from (picked_list f) (o ∷ [])
-unfolding best_from highest
-better_one f b o h e k = rw (e, k)
+module _ (g : List Numbered) (best : Option Numbered) (p : option_to_list best ≡ best_from [] g) where
+  pub used_best : (o u : Numbered) (sync desy carrier : Option Numbered) → best ≡ Some o → carrier ≡ option_or sync desy →
+      option_to_list sync ≡ present Sync g → option_to_list desy ≡ present Desy g →
+      ((g : List Numbered) → option_to_list carrier ≡ or_else (present Sync g) (present Desy g) → u ∷ [] ≡ merged g o) → u ∷ [] ≡ used_of g
+  used_best o u sync desy carrier e f q r m =
+      m g (ap option_to_list f ∙ (or_listed sync desy ∙ (λ j. or_else (q j) (r j)))) ∙ merged_best o g (sym (ap option_to_list e) ∙ p)
 
-pub better_none : (f : Picked) (o : Numbered) → f ≡ Nothing → o ∷ [] ≡ best_from (picked_list f) (o ∷ [])
-unfolding best_from highest
-better_none f o e = rw e
+  pub used_none : (r : Option Numbered) → best ≡ None → r ≡ None → option_to_list r ≡ used_of g
+  used_none r e f = ap option_to_list f ∙ none_best g (sym (ap option_to_list e) ∙ p)

@@ -1,13 +1,9 @@
-use Rattle.std.proofs.Common.{sym, ap, ◌∙◌}
-use Rattle.validation.specs.Kept.{or_else}
-use Rattle.validation_rank.specs.Picked.{picked_list}
+use Rattle.std.proofs.Common.{rules}
 use Rattle.validation_rank.proofs.Ranks.{used_best, used_none}
 use Rattle.validation_rank.proofs.used_of.Goals as goal
 
-pub returns-in-One : goal.returns-in-One
-returns-in-One c =
-    λ g p q r. c.merge-u.ensures g (c.or_else-carrier.ensures ∙ (λ j. or_else (q j) (r j)))
-    ∙ used_best g _ (sym (ap picked_list c.in-One.is) ∙ p)
+pub returns-in_err-highest : goal.returns-in_err-highest
+returns-in_err-highest c = λ g p q r. used_none g c.args.best p c.from_residual.result (search rules) (search rules)
 
-pub returns-in-Nothing : goal.returns-in-Nothing
-returns-in-Nothing c = λ g p q r. used_none g (sym (ap picked_list c.in-Nothing.is) ∙ p)
+pub returns : goal.returns
+returns c = λ g p q r. used_best g c.args.best p c.in_ok-highest.highest c.merge.result _ _ c.or.result (search rules) c.or.ensures q r c.merge.ensures
