@@ -1,13 +1,13 @@
 -- The first few of some.
 use mathlib.Core.Path.{◌≡◌, refl, sym, ap, ◌∙◌}
 use mathlib.Core.List.{List, [], ◌∷◌, ◌++◌}
-use Prim.Native.Nat.{ℕ, ◌≤◌, min}
+use Prim.Native.Nat.{ℕ, ◌-◌, ◌≤◌, min}
 use native.Mathlib.Decide.{dec_le}
 use native.Mathlib.Omega.{arith}
-use lib.ListN.{length, take, drop, take-append-drop, length-take}
+use lib.ListN.{length, take, drop, replicate, take-append-drop, length-take, length-append}
 use lib.Seq.{take-take, take_all, drop-append-le}
-use Rattle.std.proofs.lemmas.List.{drop_all}
-use Rattle.level.specs.Few.{Few, first_few}
+use Rattle.std.proofs.lemmas.List.{drop_all, drop-replicate}
+use Rattle.level.specs.Few.{Few, few_of, with_one, first_few}
 
 module _ {T : Type 0} (items : List T) (count n : ℕ) (h : count ≤ length items) where
   pub first_few_is : (m : ℕ) → m ≡ min count n → (v : Few T) → record { these = take count items; spare = drop count items } ≡ v →
@@ -27,3 +27,9 @@ module _ {T : Type 0} (items : List T) (count n : ℕ) (h : count ≤ length ite
         let b : drop count items ≡ drop n (take count items) ++ drop count items = rw (drop_all n (take count items) all) in
         rw k ((λ i. record { these = a i; spare = b i }) ∙ ap (λ (u : Few T). first_few u n) q)
   ]
+
+-- one more, where the other places hold one value
+pub few_push : {T : Type 0} (n : ℕ) (z : T) (xs : List T) (x : T) → with_one (few_of n z xs) x ≡ few_of n z (xs ++ (x ∷ []))
+few_push n z xs x =
+    let e : n - length xs - 1 ≡ n - length (xs ++ (x ∷ [])) = simp length-append (omega arith) in
+    λ i. record { these = xs ++ (x ∷ []); spare = (drop-replicate 1 (n - length xs) z ∙ ap (λ k. replicate k z) e) i }

@@ -1,31 +1,29 @@
--- Those used, where the times stand in order: one time's group after another, from the place of its first.
+-- Those used, where they stand in time order: one time's group after another, from the place of its first.
 use mathlib.Core.Path.{◌≡◌, refl, sym, ap, ◌∙◌}
 use mathlib.Core.List.{List, [], ◌∷◌}
-use mathlib.Core.Bool.{Bool, true, false, ◌&&◌, not, true≢false}
-use Prim.Native.Nat.{ℕ, zero, suc, ◌+◌, ◌-◌, ◌≤◌, ◌<◌}
+use mathlib.Core.Bool.{Bool, true, false, ◌&&◌, not, and-false, true≢false}
+use Prim.Native.Nat.{ℕ, zero, suc, ◌+◌, ◌-◌, ◌≤◌, ◌<◌, max}
 use native.Mathlib.Decide.{ℕ_discrete, dec_le}
 use native.Mathlib.Omega.{arith}
 use lib.Dec.{leb, ltb, eqb}
-use lib.ListN.{length, take, get_or, length-take}
-use lib.Seq.{get_or-take}
-use borrow.Author.Tests.{ltb-true, leb-true, eqb-true, not-true, lt-ltb, le-ltb, le-leb, lt-leb, eq-eqb, ne_eqb}
-use Rattle.level.specs.Numbers.{instruction_places}
+use lib.ListN.{length, drop, get_or, length-drop}
+use borrow.Author.Tests.{ltb-true, leb-true, leb-false, eqb-true, not-true, lt-ltb, le-ltb, le-leb, lt-leb, eq-eqb, ne_eqb}
+use Rattle.std.specs.Prelude.{Option, Some, None, option_to_list, fold, take_while}
+use Rattle.std.specs.Ordering.{partial_le, nat_cmp}
+use Rattle.std.specs.List.{prefix_len, IsAllAdjacentAnswer}
+use Rattle.std.proofs.lemmas.List.{get_or-drop}
+use Rattle.std.proofs.lemmas.List.Folds.{length-prefix_len}
+use Rattle.level.specs.Few.{Few}
 use Rattle.level.specs.Lists.{some, those}
 use Rattle.level.proofs.Lists.{by_bool, and_true}
 use Rattle.records.specs.declared.Effect.TheVariants.{Mwof, Sync, Desy}
 use Rattle.records.specs.Codes.{code_number}
 use Rattle.validation.specs.declared.Numbered.{Numbered}
 use Rattle.validation.specs.Kept.{effective_of, effect_of, superseded, group, highest, present, merged, used_of, next_time, used_from, used}
-use Rattle.validation_rank.specs.Picked.{picked_list}
-use Rattle.validation_groups.specs.Working.{no_numbered, sequence_of, joined, issue_time_of, later_of, latest_at, rising_from, Rising, has_time_at, follows_time, alone_at, Run}
-use Rattle.validation_groups.specs.declared.Sequence.{Sequence}
-use Rattle.validation_rank.specs.declared.Picked.{Picked}
-use Rattle.validation_groups.proofs.Laws.{Begun, begun_none, begun_group, joined_count, used_stop}
+use Rattle.validation_groups.specs.Working.{no_numbered, sequence_of, issue_time_of, time_at, later_of, latest_at, rising_from, in_time_order, Rising, has_time_at, follows_time, alone_at, run_end}
+use Rattle.validation_groups.proofs.Laws.{Begun, begun_none, begun_group, joined, joined_count, used_stop}
 
 -- ---- the next time
-abbrev time_at : List Numbered → ℕ → ℕ
-time_at os j = effective_of (get_or os j no_numbered)
-
 next_least : (end t m : ℕ) (os : List Numbered) → m ≤ end → ((j : ℕ) → j < length os → t ≤ time_at os j → m ≤ time_at os j) → m ≤ next_time end os t
 unfolding next_time
 next_least end t m [] e h = e
@@ -97,26 +95,62 @@ module _ (os : List Numbered) (i : ℕ) (h : i < length os) (alone : (j : ℕ) �
   pub alone_used : get_or os i no_numbered ∷ [] ≡ used_of (group os (time_at os i))
   alone_used = used_alone (get_or os i no_numbered) ∙ ap used_of (sym group_alone)
 
--- ---- in order
--- these have these times, which stand in order
-pub record InOrder (os : List Numbered) (ts : List ℕ) (n : ℕ) : Type 0 where
-  pub long : length os ≡ n
-  pub at : (j : ℕ) → j < n → get_or ts j 0 ≡ time_at os j
-  pub rising : Rising ts n
+-- ---- the run of a time
+-- from a place on, the run of t ends before the place r
+pub record Run (os : List Numbered) (t from r : ℕ) : Type 0 where
+  pub starts : from ≤ r
+  pub ends : r ≤ length os
+  pub same : (j : ℕ) → from ≤ j → j < r → time_at os j ≡ t
+  pub other : r < length os → time_at os r ≡ t → ⊥
 
+-- so from the first place on
+record Front (t : ℕ) (os : List Numbered) (k : ℕ) : Type 0 where
+  ends : k ≤ length os
+  same : (j : ℕ) → j < k → time_at os j ≡ t
+  other : k < length os → time_at os k ≡ t → ⊥
+
+front_is : (t : ℕ) (os : List Numbered) → Front t os (prefix_len (λ (o : Numbered). eqb (effective_of o) t) os)
+front_is t [] = record { ends = omega arith; same = λ j l. absurd (omega arith); other = λ l. absurd (omega arith) }
+front_is t (o ∷ os) = elim (ℕ_discrete (effective_of o) t) [
+  | no n ↦ rw (ne_eqb (effective_of o) t n) (record { ends = omega arith; same = λ j l. absurd (omega arith); other = λ l. n })
+  | yes e ↦
+      let r = front_is t os in
+      let k = prefix_len (λ (o : Numbered). eqb (effective_of o) t) os in
+      rw (eq-eqb (effective_of o) t e) (record { ends = omega (arith, r.ends); same = go e k r.same; other = λ l q. let z : 1 + k ≡ suc k = omega arith in r.other (omega arith) (rw z at q) })
+]
+  where
+    go : effective_of o ≡ t → (k : ℕ) → ((j : ℕ) → j < k → time_at os j ≡ t) → (j : ℕ) → j < 1 + k → time_at (o ∷ os) j ≡ t
+    go e k h zero l = e
+    go e k h (suc j) l = h j (omega arith)
+
+pub run_is : (os : List Numbered) (t from : ℕ) → from ≤ length os → Run os t from (run_end os t from)
+run_is os t from h =
+    let f : Numbered → Bool = λ (o : Numbered). eqb (effective_of o) t in
+    let k = prefix_len f (drop from os) in
+    let e : run_end os t from ≡ from + k = ap (λ (n : ℕ). from + n) (length-prefix_len f (drop from os)) in
+    let r = front_is t (drop from os) in
+    let at : (j : ℕ) → time_at (drop from os) j ≡ time_at os (from + j) = λ j. ap effective_of (get_or-drop from os j no_numbered) in
+    rw e (record {
+      starts = omega arith;
+      ends = omega (arith, r.ends, length-drop from os);
+      same = λ j p l. let q : from + (j - from) ≡ j = omega arith in rw q at (sym (at (j - from)) ∙ r.same (j - from) (omega arith));
+      other = λ l q. r.other (omega (arith, length-drop from os)) (at k ∙ q);
+    })
+
+-- ---- in order
 -- the groups of the first i places are in; those of the others follow, from a time on
-pub record OrderProgress (end : ℕ) (os : List Numbered) (ts : List ℕ) (n i : ℕ) (out : Sequence) : Type 0 where
-  pub within : i ≤ n
-  pub few : out.count ≤ i
+pub record OrderProgress (end : ℕ) (os : List Numbered) (i : ℕ) (out : Few Numbered) : Type 0 where
+  pub within : i ≤ length os
+  pub few : length out.these ≤ i
   pub time : ℕ
   pub fuel : ℕ
-  pub enough : n ≤ fuel + i
-  pub before : (j : ℕ) → j < i → get_or ts j 0 < time
-  pub after : (j : ℕ) → i ≤ j → j < n → time ≤ get_or ts j 0
+  pub enough : length os ≤ fuel + i
+  pub before : (j : ℕ) → j < i → time_at os j < time
+  pub after : (j : ℕ) → i ≤ j → j < length os → time ≤ time_at os j
   pub begun : Begun out (used_from end os fuel time) (used end os)
 
-module _ {os : List Numbered} {ts : List ℕ} {n : ℕ} (g : InOrder os ts n) where
-  pub order_none : (end : ℕ) → OrderProgress end os ts n 0 (sequence_of [])
+module _ {os : List Numbered} (rising : Rising os) where
+  pub order_none : (end : ℕ) → OrderProgress end os 0 (sequence_of [])
   unfolding used
   order_none end =
       record {
@@ -130,165 +164,193 @@ module _ {os : List Numbered} {ts : List ℕ} {n : ℕ} (g : InOrder os ts n) wh
         begun = begun_none (used_from end os (length os) 0);
       }
 
-  module _ {end i : ℕ} {out : Sequence} (r : OrderProgress end os ts n i out) where
+  module _ {end i : ℕ} {out : Few Numbered} (r : OrderProgress end os i out) where
     -- none before the place i is from the time on
-    from_here : (j : ℕ) → j < n → r.time ≤ time_at os j → i ≤ j
-    from_here j l h = elim (dec_le i j) [
-      | yes p ↦ p
-      | no p ↦ absurd (omega (arith, r.before j (omega arith), g.at j l))
-    ]
+    from_here : (j : ℕ) → j < length os → r.time ≤ time_at os j → i ≤ j
+    from_here j l h = elim (dec_le i j) [ yes p ↦ p | no p ↦ absurd (omega (arith, r.before j (omega arith))) ]
 
     -- each from the time on is at least as late as that at the place i
-    least_here : i < n → (j : ℕ) → j < length os → r.time ≤ time_at os j → get_or ts i 0 ≤ time_at os j
-    least_here h j l p = omega (arith, g.at j (omega arith), g.rising i j (from_here j (omega arith) p) (omega arith))
+    least_here : i < length os → (j : ℕ) → j < length os → r.time ≤ time_at os j → time_at os i ≤ time_at os j
+    least_here h j l p = rising i j (from_here j l p) l
 
-    pub order_late : i < n → end ≤ get_or ts i 0 → Begun out [] (used end os)
+    pub order_late : i < length os → end ≤ time_at os i → Begun out [] (used end os)
     order_late h late =
         let e = next_least end r.time end os (omega arith) (λ j l p. omega (arith, least_here h j l p)) in
         rw (used_stop end os r.fuel r.time e) at r.begun
 
-    pub order_all : n ≤ i → Begun out [] (used end os)
+    pub order_all : length os ≤ i → Begun out [] (used end os)
     order_all h =
-        let e = next_least end r.time end os (omega arith) (λ j l p. absurd (omega (arith, from_here j (omega arith) p))) in
+        let e = next_least end r.time end os (omega arith) (λ j l p. absurd (omega (arith, from_here j l p))) in
         rw (used_stop end os r.fuel r.time e) at r.begun
 
-    next_here : i < n → get_or ts i 0 < end → get_or ts i 0 ≡ next_time end os r.time
+    next_here : i < length os → time_at os i < end → time_at os i ≡ next_time end os r.time
     next_here h early =
-        let a = next_least end r.time (get_or ts i 0) os (omega arith) (least_here h) in
-        let b = next_reached end r.time os i (omega arith) (omega (arith, g.at i h, r.after i (omega arith) h)) in
-        omega (arith, g.at i h)
+        let a = next_least end r.time (time_at os i) os (omega arith) (least_here h) in
+        let b = next_reached end r.time os i h (r.after i (omega arith) h) in
+        omega arith
 
     -- one group more: those from the place i up to the place k
-    pub order_more : (k : ℕ) (f : Picked) → out.count < instruction_places → i < n → get_or ts i 0 < end → Run ts n (get_or ts i 0) (i + 1) k →
-        picked_list f ≡ used_of (group os (get_or ts i 0)) → OrderProgress end os ts n k (joined out f)
-    order_more k f room h early run e =
+    pub order_more : (k : ℕ) (f : Option Numbered) → i < length os → time_at os i < end → Run os (time_at os i) (i + 1) k →
+        option_to_list f ≡ used_of (group os (time_at os i)) → OrderProgress end os k (joined out f)
+    order_more k f h early run e =
         record {
           within = run.ends;
           few = omega (arith, r.few, joined_count out f, run.starts);
-          time = get_or ts i 0 + 1;
+          time = time_at os i + 1;
           fuel = r.fuel - 1;
           enough = omega (arith, r.enough, run.starts);
           before = λ j l. passed j l (dec_le j i);
           after = λ j p l. omega (arith, above j p l);
-          begun =
-              begun_group end os r.fuel (r.fuel - 1) r.time (get_or ts i 0) f (omega (arith, r.enough)) (next_here h early) early room e
-              r.begun;
+          begun = begun_group end os r.fuel (r.fuel - 1) r.time (time_at os i) f (omega (arith, r.enough)) (next_here h early) early e r.begun;
         }
       where
-        passed : (j : ℕ) → j < k → Dec (j ≤ i) → get_or ts j 0 < get_or ts i 0 + 1
-        passed j l (yes p) = omega (arith, g.rising j i p h)
+        passed : (j : ℕ) → j < k → Dec (j ≤ i) → time_at os j < time_at os i + 1
+        passed j l (yes p) = omega (arith, rising j i p h)
         passed j l (no p) = omega (arith, run.same j (omega arith) l)
 
-        above : (j : ℕ) → k ≤ j → j < n → get_or ts i 0 < get_or ts j 0
-        above j p l = run_past (omega (arith, g.rising i k (omega (arith, run.starts)) (omega arith), run.other (omega arith))) (g.rising k j p l)
+        above : (j : ℕ) → k ≤ j → j < length os → time_at os i < time_at os j
+        above j p l = run_past (omega (arith, rising i k (omega (arith, run.starts)) (omega arith), run.other (omega arith))) (rising k j p l)
           where
-            run_past : get_or ts i 0 < get_or ts k 0 → get_or ts k 0 ≤ get_or ts j 0 → get_or ts i 0 < get_or ts j 0
+            run_past : time_at os i < time_at os k → time_at os k ≤ time_at os j → time_at os i < time_at os j
             run_past a b = omega arith
 
     -- a run of one is used as it is
-    pub order_alone : i < n → Run ts n (get_or ts i 0) (i + 1) (i + 1) → get_or os i no_numbered ∷ [] ≡ used_of (group os (get_or ts i 0))
-    order_alone h run = rw (g.at i h) (alone_used os i (omega arith) other)
+    pub order_alone : i < length os → Run os (time_at os i) (i + 1) (i + 1) → get_or os i no_numbered ∷ [] ≡ used_of (group os (time_at os i))
+    order_alone h run = alone_used os i h other
       where
         other : (j : ℕ) → j < length os → (j ≡ i → ⊥) → time_at os j ≡ time_at os i → ⊥
-        other j l ne q =
-            let a = g.at i h in
-            let b = g.at j (omega arith) in
-            elim (dec_le i j) [
-              | yes p ↦ run.other (omega arith)
-                  (omega (arith, g.rising i (i + 1) (omega arith) (omega arith), g.rising (i + 1) j (omega arith) (omega arith)))
-              | no p ↦ absurd (omega (arith, r.before j (omega arith), r.after i (omega arith) h))
-            ]
+        other j l ne q = elim (dec_le i j) [
+          | yes p ↦ run.other (omega arith) (omega (arith, rising i (i + 1) (omega arith) (omega arith), rising (i + 1) j (omega arith) l))
+          | no p ↦ absurd (omega (arith, r.before j (omega arith), r.after i (omega arith) h))
+        ]
 
 -- ---- the times in order
 -- any two of them
-rising_any : (before : ℕ) (ts : List ℕ) → rising_from before ts ≡ true → (i j : ℕ) → i ≤ j → j < length ts →
-    (before ≤ get_or ts i 0) × (get_or ts i 0 ≤ get_or ts j 0)
+rising_any : (before : ℕ) (os : List Numbered) → rising_from before os ≡ true → (i j : ℕ) → i ≤ j → j < length os →
+    (before ≤ time_at os i) × (time_at os i ≤ time_at os j)
 unfolding rising_from
 rising_any before [] e i j p l = absurd (omega arith)
-rising_any before (t ∷ ts) e i j p l =
-    let a = and_true (leb before t) (rising_from t ts) e in
-    go i j p l (leb-true before t a.0) (rising_any t ts a.1)
+rising_any before (o ∷ os) e i j p l =
+    let a = and_true (leb before (effective_of o)) (rising_from (effective_of o) os) e in
+    go i j p l (leb-true before (effective_of o) a.0) (rising_any (effective_of o) os a.1)
   where
-    go : (i j : ℕ) → i ≤ j → j < suc (length ts) → before ≤ t →
-        ((i j : ℕ) → i ≤ j → j < length ts → (t ≤ get_or ts i 0) × (get_or ts i 0 ≤ get_or ts j 0)) →
-        (before ≤ get_or (t ∷ ts) i 0) × (get_or (t ∷ ts) i 0 ≤ get_or (t ∷ ts) j 0)
+    go : (i j : ℕ) → i ≤ j → j < suc (length os) → before ≤ effective_of o →
+        ((i j : ℕ) → i ≤ j → j < length os → (effective_of o ≤ time_at os i) × (time_at os i ≤ time_at os j)) →
+        (before ≤ time_at (o ∷ os) i) × (time_at (o ∷ os) i ≤ time_at (o ∷ os) j)
     go zero zero p l b ih = omega arith
     go zero (suc j) p l b ih = omega (arith, ih j j (omega arith) (omega arith))
     go (suc i) zero p l b ih = absurd (omega arith)
     go (suc i) (suc j) p l b ih = omega (arith, ih i j (omega arith) (omega arith))
 
-pub from_rising : (ts : List ℕ) (n : ℕ) → n ≤ length ts → rising_from 0 (take n ts) ≡ true → Rising ts n
-from_rising ts n fits e i j p l =
-    rw (get_or-take n ts i 0 (omega arith), get_or-take n ts j 0 l) at (rising_any 0 (take n ts) e i j p (omega (arith, length-take n ts))).1
-
--- the run of t from a place on reaches the place i
-pub record RunProgress (ts : List ℕ) (n t from i : ℕ) : Type 0 where
-  pub starts : from ≤ i
-  pub ends : i ≤ n
-  pub same : (j : ℕ) → from ≤ j → j < i → get_or ts j 0 ≡ t
-
-pub same_more : (ts : List ℕ) (from i t : ℕ) → get_or ts i 0 ≡ t → ((j : ℕ) → from ≤ j → j < i → get_or ts j 0 ≡ t) → (j : ℕ) → from ≤ j → j < i + 1 →
-    get_or ts j 0 ≡ t
-same_more ts from i t e same j p l = elim (ℕ_discrete j i) [ yes q ↦ rw q e | no n ↦ same j p (omega arith) ]
+pub from_rising : (os : List Numbered) → in_time_order os ≡ true → Rising os
+from_rising os e i j p l = (rising_any 0 os e i j p l).1
 
 -- ---- neighbours
-pub follows_is : (ts : List ℕ) (at t : ℕ) → follows_time ts at t ≡ true → (0 < at) × (get_or ts (at - 1) 0 ≡ t)
+pub follows_is : (os : List Numbered) (at t : ℕ) → follows_time os at t ≡ true → (0 < at) × (time_at os (at - 1) ≡ t)
 unfolding follows_time
-follows_is ts at t e =
-    let a = and_true (ltb 0 at) (eqb (get_or ts (at - 1) 0) t) e in
-    (ltb-true 0 at a.0, eqb-true (get_or ts (at - 1) 0) t a.1)
+follows_is os at t e =
+    let a = and_true (ltb 0 at) (eqb (time_at os (at - 1)) t) e in
+    (ltb-true 0 at a.0, eqb-true (time_at os (at - 1)) t a.1)
 
-module _ (ts : List ℕ) (n at : ℕ) where
-  -- no other of the first n times is that at this place
-  alone_only : Rising ts n → at < n → alone_at ts n at ≡ true → (j : ℕ) → j < n → (j ≡ at → ⊥) → get_or ts j 0 ≡ get_or ts at 0 → ⊥
+module _ (os : List Numbered) (at : ℕ) where
+  -- no other time is that at this place
+  alone_only : Rising os → at < length os → alone_at os at ≡ true → (j : ℕ) → j < length os → (j ≡ at → ⊥) → time_at os j ≡ time_at os at → ⊥
   unfolding alone_at has_time_at follows_time
   alone_only rising h e j l ne q =
-      let t = get_or ts at 0 in
-      let next = ltb (at + 1) n && eqb (get_or ts (at + 1) 0) t in
-      let before = ltb 0 at && eqb (get_or ts (at - 1) 0) t in
+      let t = time_at os at in
+      let next = ltb (at + 1) (length os) && eqb (time_at os (at + 1)) t in
+      let before = ltb 0 at && eqb (time_at os (at - 1)) t in
       let a = and_true (not next) (not before) e in
       elim (dec_le at j) [
         | yes p ↦
-            let s : get_or ts (at + 1) 0 ≡ t = omega (arith, rising at (at + 1) (omega arith) (omega arith), rising (at + 1) j (omega arith) l) in
-            true≢false (rw (lt-ltb (at + 1) n (omega arith), eq-eqb _ t s) at (not-true next a.0))
+            let s : time_at os (at + 1) ≡ t = omega (arith, rising at (at + 1) (omega arith) (omega arith), rising (at + 1) j (omega arith) l) in
+            true≢false (rw (lt-ltb (at + 1) (length os) (omega arith), eq-eqb _ t s) at (not-true next a.0))
         | no p ↦
-            let s : get_or ts (at - 1) 0 ≡ t = omega (arith, rising j (at - 1) (omega arith) (omega arith), rising (at - 1) at (omega arith) h) in
+            let s : time_at os (at - 1) ≡ t = omega (arith, rising j (at - 1) (omega arith) (omega arith), rising (at - 1) at (omega arith) h) in
             true≢false (rw (lt-ltb 0 at (omega arith), eq-eqb _ t s) at (not-true before a.1))
       ]
 
-latest_low : (ts js : List ℕ) (t most : ℕ) → ((j : ℕ) → j < length ts → get_or ts j 0 ≡ t → get_or js j 0 ≤ most) → latest_at ts js t ≤ most
-unfolding latest_at later_of
-latest_low [] js t most h = omega arith
-latest_low (x ∷ xs) [] t most h = omega arith
-latest_low (x ∷ xs) (j ∷ js) t most h =
-    let ih = latest_low xs js t most (λ k l. h (suc k) (omega arith)) in
-    elim (ℕ_discrete x t) [ yes e ↦ rw (eq-eqb x t e) (omega (arith, h 0 (omega arith) e)) | no n ↦ rw (ne_eqb x t n) ih ]
+latest_low : (os : List Numbered) (t best most : ℕ) → best ≤ most → ((j : ℕ) → j < length os → time_at os j ≡ t → issue_time_of (get_or os j no_numbered) ≤ most) →
+    fold (later_of t) best os ≤ most
+unfolding later_of
+latest_low [] t best most b h = b
+latest_low (o ∷ os) t best most b h = elim (ℕ_discrete (effective_of o) t) [
+  | yes e ↦
+      let k : issue_time_of o ≤ most = h 0 (omega arith) e in
+      rw (eq-eqb (effective_of o) t e) (latest_low os t (max best (issue_time_of o)) most (omega arith) (λ j l. h (suc j) (omega arith)))
+  | no n ↦ rw (ne_eqb (effective_of o) t n) (latest_low os t best most b (λ j l. h (suc j) (omega arith)))
+]
 
-latest_high : (ts js : List ℕ) (t j : ℕ) → j < length ts → j < length js → get_or ts j 0 ≡ t → get_or js j 0 ≤ latest_at ts js t
-unfolding latest_at later_of
-latest_high [] js t j h k e = absurd (omega arith)
-latest_high (x ∷ xs) [] t j h k e = absurd (omega arith)
-latest_high (x ∷ xs) (y ∷ js) t zero h k e = rw (eq-eqb x t e) (omega arith)
-latest_high (x ∷ xs) (y ∷ js) t (suc j) h k e =
-    let ih = latest_high xs js t j (omega arith) (omega arith) e in
-    by_bool (eqb x t) (λ q. rw q (omega arith)) (λ q. rw q ih)
+latest_grows : (os : List Numbered) (t best : ℕ) → best ≤ fold (later_of t) best os
+unfolding later_of
+latest_grows [] t best = omega arith
+latest_grows (o ∷ os) t best = elim (ℕ_discrete (effective_of o) t) [
+  | yes e ↦ rw (eq-eqb (effective_of o) t e) (omega (arith, latest_grows os t (max best (issue_time_of o))))
+  | no n ↦ rw (ne_eqb (effective_of o) t n) (latest_grows os t best)
+]
+
+latest_high : (os : List Numbered) (t best i : ℕ) → i < length os → time_at os i ≡ t → issue_time_of (get_or os i no_numbered) ≤ fold (later_of t) best os
+unfolding later_of
+latest_high [] t best i h e = absurd (omega arith)
+latest_high (o ∷ os) t best zero h e = rw (eq-eqb (effective_of o) t e) (omega (arith, latest_grows os t (max best (issue_time_of o))))
+latest_high (o ∷ os) t best (suc i) h e = latest_high os t (later_of t best o) i (omega arith) e
 
 -- one alone has the latest issue time itself
-pub alone_latest : (ts js : List ℕ) (n at : ℕ) → at < n → n ≤ length ts → n ≤ length js → (rising_from 0 (take n ts) && alone_at ts n at) ≡ true →
-    get_or js at 0 ≡ latest_at (take n ts) (take n js) (get_or ts at 0)
-alone_latest ts js n at h fits room alone =
-    let low = latest_low (take n ts) (take n js) (get_or ts at 0) (get_or js at 0) (λ j l. each j (omega (arith, length-take n ts))) in
-    let long : (at < length (take n ts)) × (at < length (take n js)) = omega (arith, length-take n ts, length-take n js) in
-    let high = latest_high (take n ts) (take n js) (get_or ts at 0) at long.0 long.1 (get_or-take n ts at 0 h) in
-    omega (arith, get_or-take n js at 0 h)
+pub alone_latest : (os : List Numbered) (at : ℕ) → at < length os → (in_time_order os && alone_at os at) ≡ true →
+    issue_time_of (get_or os at no_numbered) ≡ latest_at os (time_at os at)
+alone_latest os at h alone =
+    let low = latest_low os (time_at os at) 0 (issue_time_of (get_or os at no_numbered)) (omega arith) each in
+    let high = latest_high os (time_at os at) 0 at h refl in
+    omega arith
   where
-    both : (rising_from 0 (take n ts) ≡ true) × (alone_at ts n at ≡ true)
-    both = and_true (rising_from 0 (take n ts)) (alone_at ts n at) alone
+    both : (in_time_order os ≡ true) × (alone_at os at ≡ true)
+    both = and_true (in_time_order os) (alone_at os at) alone
 
-    only : (j : ℕ) → j < n → (j ≡ at → ⊥) → get_or ts j 0 ≡ get_or ts at 0 → ⊥
-    only = alone_only ts n at (from_rising ts n fits both.0) h both.1
+    only : (j : ℕ) → j < length os → (j ≡ at → ⊥) → time_at os j ≡ time_at os at → ⊥
+    only = alone_only os at (from_rising os both.0) h both.1
 
-    each : (j : ℕ) → j < n → get_or (take n ts) j 0 ≡ get_or ts at 0 → get_or (take n js) j 0 ≤ get_or js at 0
-    each j l =
-        rw (get_or-take n ts j 0 l, get_or-take n js j 0 l)
-        (elim (ℕ_discrete j at) [ no ne ↦ λ q. absurd (only j l ne q) | yes e ↦ λ q. rw e (omega arith) ])
+    each : (j : ℕ) → j < length os → time_at os j ≡ time_at os at → issue_time_of (get_or os j no_numbered) ≤ issue_time_of (get_or os at no_numbered)
+    each j l q = elim (ℕ_discrete j at) [ no ne ↦ absurd (only j l ne q) | yes e ↦ rw e (omega arith) ]
+
+-- ---- what a look at neighbours says
+abbrev before_or_at : ℕ → ℕ → Bool
+before_or_at x y = partial_le (λ a b. Some (nat_cmp a b)) x y
+
+before_is : (x y : ℕ) → before_or_at x y ≡ leb x y
+before_is x y = elim (dec_le x y) [
+  | no p ↦ rw (lt-leb x y (omega arith), le-ltb x y (omega arith), ne_eqb x y (λ q. p (omega arith)))
+  | yes p ↦ rw (le-leb x y p) (elim (dec_le (suc x) y) [
+    | yes q ↦ rw (lt-ltb x y q)
+    | no q ↦ rw (le-ltb x y (omega arith), eq-eqb x y (omega arith))
+  ])
+]
+
+all_rise : (before : ℕ) (os : List Numbered) → (0 < length os → before ≤ time_at os 0) →
+    ((k : ℕ) → k + 1 < length os → time_at os k ≤ time_at os (k + 1)) → rising_from before os ≡ true
+unfolding rising_from
+all_rise before [] b h = refl
+all_rise before (o ∷ os) b h =
+    rw (le-leb before (effective_of o) (b (omega arith)))
+    (all_rise (effective_of o) os (λ l. h 0 (omega arith)) (λ k l. let z : suc k + 1 ≡ suc (k + 1) = omega arith in rw z at (h (suc k) (omega arith))))
+
+one_falls : (before : ℕ) (os : List Numbered) (k : ℕ) → k + 1 < length os → time_at os (k + 1) < time_at os k → rising_from before os ≡ false
+unfolding rising_from
+one_falls before [] k l h = absurd (omega arith)
+one_falls before (o ∷ []) k l h = absurd (omega arith)
+one_falls before (o ∷ (x ∷ os)) zero l h = rw (lt-leb (effective_of o) (effective_of x) h) (and-false (leb before (effective_of o)))
+one_falls before (o ∷ (x ∷ os)) (suc k) l h =
+    let z : suc k + 1 ≡ suc (k + 1) = omega arith in
+    rw (one_falls (effective_of o) (x ∷ os) k (omega arith) (rw z at h)) (and-false (leb before (effective_of o)))
+
+pub sorted_is : (os : List Numbered) (r : Bool) → IsAllAdjacentAnswer (λ x y b. b ≡ before_or_at (effective_of x) (effective_of y)) os r → r ≡ in_time_order os
+sorted_is os true h =
+    sym (all_rise 0 os (λ l. omega arith)
+    (λ k l. leb-true (time_at os k) (time_at os (k + 1)) (sym (before_is (time_at os k) (time_at os (k + 1))) ∙ sym (h k no_numbered l))))
+sorted_is os false h =
+    let k = h.0 in
+    let e = sym (before_is (time_at os k) (time_at os (k + 1))) ∙ sym (h.2 no_numbered) in
+    sym (one_falls 0 os k h.1 (leb-false (time_at os k) (time_at os (k + 1)) e))
+
+pub picked_none : (f : Option Numbered) → ((o : Numbered) → f ≡ Some o → ⊥) → f ≡ None
+picked_none None h = refl
+picked_none (Some o) h = absurd (h o refl)

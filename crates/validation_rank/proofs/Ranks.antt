@@ -11,7 +11,7 @@ use Rattle.validation.specs.Kept.{highest, or_else, present, merged, used_of}
 use Rattle.validation_rank.specs.Best.{best_from}
 
 -- the first picked, else the other
-or_listed : (a b : Option Numbered) → option_to_list (option_or a b) ≡ or_else (option_to_list a) (option_to_list b)
+pub or_listed : (a b : Option Numbered) → option_to_list (option_or a b) ≡ or_else (option_to_list a) (option_to_list b)
 or_listed (Some x) b = refl
 or_listed None b = refl
 

@@ -1,60 +1,41 @@
-use Rattle.std.proofs.Common.{ℕ, ◌≤◌, List, [], ◌∷◌, length, take, sym, ap, ◌∙◌, arith}
-use Rattle.records.specs.declared.Instruction.{Instruction}
-use Rattle.validation.specs.declared.Numbered.{Numbered}
-use Rattle.validation.specs.Kept.{numbered, effective_of}
-use Rattle.validation_rank.specs.declared.Picked.TheVariants.{One}
-use Rattle.validation_groups.specs.Working.{pushed, joined, Rising, Entered}
-use Rattle.validation_groups.proofs.Laws.{begun_all, time_at_lem, as_many, number_here, timed_all}
-use Rattle.validation_groups.proofs.Order.{InOrder, order_none, order_late, order_all, order_more, order_alone}
+use Rattle.std.proofs.Common.{◌≡◌, ◌<◌, ◌+◌, length, option_to_list, ap, ◌∙◌, arith}
+use Rattle.validation.specs.Kept.{group, used_of}
+use Rattle.validation_groups.specs.Working.{time_at}
+use Rattle.validation_groups.proofs.Laws.{begun_all}
+use Rattle.validation_groups.proofs.Order.{Run, run_is, order_none, order_late, order_all, order_more, order_alone, picked_none}
 use Rattle.validation_groups.proofs.used_ordered.Goals as goal
-
-given : {is : List Instruction} {times issues : List ℕ} {n : ℕ} → n ≤ length is → Entered is times issues n × Rising times n → InOrder (numbered 1 (take n is)) times n
-given {is} {times} {issues} {n} room e =
-    record {
-      long = as_many is n room;
-      at = λ j h. time_at_lem effective_of (numbered 1 (take n is)) times n j (timed_all is n room e.0.timed).effective h;
-      rising = e.1;
-    }
+use Rattle.validation_groups.proofs.used_ordered.Goals.{then-next-i, else-next-i}
 
 pub loop-i-init : goal.loop-i-init
-loop-i-init c = rw c.empty-out.ensures (order_none (given {is = c.args.instructions} (omega arith) c.requires) c.args.end)
+loop-i-init c = rw c.none-out.ensures (order_none c.requires.1 c.args.end)
 
 pub returns-then-end-t : goal.returns-then-end-t
-returns-then-end-t c =
-    record {
-      exactly = begun_all (order_late (given {is = c.args.instructions} (omega arith) c.requires) c.loop-i.invariant (omega arith) c.if-end-t.true);
-      few = omega arith;
-    }
+returns-then-end-t c = begun_all (order_late c.requires.1 c.loop-i.invariant (omega arith) c.if-end-t.true)
 
--- one alone
-pub loop-i-preserved-then-i-from : goal.loop-i-preserved-then-i-from
-unfolding pushed joined
-loop-i-preserved-then-i-from c =
-    let a = c.args in
+pub loop-i-preserved-in-Some : goal.loop-i-preserved-in-Some
+loop-i-preserved-in-Some c =
+    let os = c.args.os.now in
     let l = c.loop-i in
-    let room : a.n ≤ length a.instructions = omega arith in
-    let g = given room c.requires in
-    order_more g l.invariant c.run_end-i.result (One c.number_at-o.result) (omega arith) (omega arith) (omega arith)
-    c.run_end-i.ensures
-    (ap (λ (x : Numbered). x ∷ []) (c.number_at-o.ensures ∙ sym (number_here a.instructions a.n room l.i (omega arith)))
-    ∙ order_alone g l.invariant (omega arith) (rw c.if-i-from.true at c.run_end-i.ensures))
-
--- several at one time
-pub loop-i-preserved-in-One : goal.loop-i-preserved-in-One
-unfolding pushed joined
-loop-i-preserved-in-One c =
-    order_more (given {is = c.args.instructions} (omega arith) c.requires) c.loop-i.invariant c.run_end-i.result (One c.in-One.o) (omega arith) (omega arith) (omega arith)
-    c.run_end-i.ensures c.in-One.ensures
+    let here : l.i < length os = omega arith in
+    let run : Run os (time_at os l.i) (l.i + 1) c.run_end-next.result = rw c.run_end-next.ensures (run_is os (time_at os l.i) (l.i + 1) (omega arith)) in
+    let e : option_to_list c.if-next-i.used ≡ used_of (group os (time_at os l.i)) = elim c.if-next-i.branch [
+      | then-next-i w ↦ ap option_to_list w.used-is ∙ order_alone c.requires.1 l.invariant here (rw w.if-next-i.true at run)
+      | else-next-i w ↦ ap option_to_list w.used-is ∙ w.used_at-used.ensures
+    ] in
+    rw c.push.ensures (rw c.in-Some.is at (order_more c.requires.1 l.invariant c.run_end-next.result c.if-next-i.used here (omega arith) run e))
 
 pub loop-i-preserved : goal.loop-i-preserved
-unfolding joined
 loop-i-preserved c =
-    rw c.in-Nothing.is at (order_more (given {is = c.args.instructions} (omega arith) c.requires) c.loop-i.invariant c.run_end-i.result c.used_at-u.result (omega arith) (omega arith) (omega arith)
-    c.run_end-i.ensures c.used_at-u.ensures)
+    let os = c.args.os.now in
+    let l = c.loop-i in
+    let here : l.i < length os = omega arith in
+    let run : Run os (time_at os l.i) (l.i + 1) c.run_end-next.result = rw c.run_end-next.ensures (run_is os (time_at os l.i) (l.i + 1) (omega arith)) in
+    let e : option_to_list c.if-next-i.used ≡ used_of (group os (time_at os l.i)) = elim c.if-next-i.branch [
+      | then-next-i w ↦ ap option_to_list w.used-is ∙ order_alone c.requires.1 l.invariant here (rw w.if-next-i.true at run)
+      | else-next-i w ↦ ap option_to_list w.used-is ∙ w.used_at-used.ensures
+    ] in
+    rw (picked_none c.if-next-i.used c.in_default.not-Some) at
+    (order_more c.requires.1 l.invariant c.run_end-next.result c.if-next-i.used here (omega arith) run e)
 
 pub returns : goal.returns
-returns c =
-    record {
-      exactly = begun_all (order_all (given {is = c.args.instructions} (omega arith) c.requires) c.loop-i.invariant (omega arith));
-      few = omega arith;
-    }
+returns c = begun_all (order_all c.requires.1 c.loop-i.invariant (omega arith))
