@@ -1,141 +1,105 @@
--- The kept ones as an array and a height: the laws of step 3's lists, latest first.
+-- The kept ones, latest first: the laws of step 3's lists.
 use mathlib.Core.Path.{◌≡◌, refl, sym, ap, ◌∙◌}
-use mathlib.Core.List.{List, [], ◌∷◌, ◌++◌, append_assoc, append-nil}
-use mathlib.Core.Bool.{Bool, true, false}
+use mathlib.Core.List.{List, [], ◌∷◌, ◌++◌, append-nil}
+use mathlib.Core.Bool.{true, false}
 use Prim.Native.Nat.{ℕ, zero, suc, ◌+◌, ◌-◌, ◌≤◌, ◌<◌}
-use native.Mathlib.Numerals.{add-one}
-use native.Mathlib.Decide.{ℕ_discrete}
 use native.Mathlib.Omega.{arith}
-use lib.ListN.{length, take, get_or, set}
-use lib.Seq.{take-suc, get_or-set_same, get_or-set_other}
-use Rattle.level.specs.Choice.{pick}
+use lib.Dec.{leb}
+use lib.ListN.{length, take, drop, get_or, length-drop, take-append-drop}
+use Rattle.std.specs.Prelude.{Some, option_to_list, slice_get}
+use Rattle.std.proofs.lemmas.List.{take_all, take_more, drop_more, get_or-drop}
+use Rattle.std.proofs.lemmas.Option.{slice_get-get_or}
 use Rattle.records.specs.declared.Effect.TheVariants.{Sync}
 use Rattle.records.specs.Codes.{same}
 use Rattle.validation.specs.declared.Numbered.{Numbered}
-use Rattle.validation.specs.Kept.{effect_of, sync_within_hour, from_sync, before_sync, turned}
+use Rattle.validation.specs.Kept.{effective_of, effect_of, repeats, sync_within_hour, from_sync, before_sync, turned}
 use Rattle.validation_groups.specs.Working.{no_numbered}
-use Rattle.validation_sequence.specs.Working.{stack_of, stack_from, sync_place, Synced}
+use Rattle.validation_sequence.specs.Working.{NoSync, LatestSync}
 
--- a place above is another matter
-pub stack_set : (ks : List Numbered) (h j : ℕ) (o : Numbered) → h ≤ j → stack_of (set ks j o) h ≡ stack_of ks h
-unfolding stack_of
-stack_set ks zero j o p = refl
-stack_set ks (suc h) j o p =
-    let e : get_or (set ks j o) h no_numbered ≡ get_or ks h no_numbered = get_or-set_other ks j h o no_numbered (λ q. omega arith) in
-    let ih : stack_of (set ks j o) h ≡ stack_of ks h = stack_set ks h j o (omega arith) in
-    λ i. e i ∷ ih i
+-- ---- turned
+pub turned_append : (xs ys zs : List Numbered) → turned (xs ++ ys) zs ≡ turned ys (turned xs zs)
+unfolding turned
+turned_append [] ys zs = refl
+turned_append (x ∷ xs) ys zs = turned_append xs ys (x ∷ zs)
 
-pub stack_push : (ks : List Numbered) (h : ℕ) (o : Numbered) → h < length ks → stack_of (set ks h o) (h + 1) ≡ o ∷ stack_of ks h
-unfolding stack_of
-stack_push ks h o p =
-    let e : get_or (set ks h o) h no_numbered ≡ o = get_or-set_same ks h o no_numbered p in
-    let r : stack_of (set ks h o) h ≡ stack_of ks h = stack_set ks h h o (omega arith) in
-    rw add-one (λ i. e i ∷ r i)
+pub turned_last : (xs : List Numbered) (x : Numbered) → turned (xs ++ (x ∷ [])) [] ≡ x ∷ turned xs []
+unfolding turned
+turned_last xs x = turned_append xs (x ∷ []) []
 
-stack_before : (ks : List Numbered) (h : ℕ) (ys : List Numbered) → h ≤ length ks → turned (stack_of ks h) ys ≡ take h ks ++ ys
-unfolding stack_of turned
-stack_before ks zero ys p = refl
-stack_before ks (suc h) ys p =
-    stack_before ks h (get_or ks h no_numbered ∷ ys) (omega arith)
-    ∙ (sym (append_assoc (take h ks) (get_or ks h no_numbered ∷ []) ys) ∙ ap (λ (l : List Numbered). l ++ ys) (sym (take-suc ks h no_numbered p)))
+turned_before : (xs ys zs : List Numbered) → turned (turned xs ys) zs ≡ turned ys (xs ++ zs)
+unfolding turned
+turned_before [] ys zs = refl
+turned_before (x ∷ xs) ys zs = turned_before xs (x ∷ ys) zs
 
-pub stack_turned : (ks : List Numbered) (h : ℕ) → h ≤ length ks → turned (stack_of ks h) [] ≡ take h ks
-stack_turned ks h p = stack_before ks h [] p ∙ append-nil (take h ks)
+pub turned_back : (xs : List Numbered) → turned (turned xs []) [] ≡ xs
+unfolding turned
+turned_back xs = turned_before xs [] [] ∙ append-nil xs
 
--- ---- against the last kept one
-pub stack_top : (ks : List Numbered) (h : ℕ) (last : Numbered) → 0 < h → last ≡ get_or ks (h - 1) no_numbered → last ∷ stack_of ks (h - 1) ≡ stack_of ks h
-unfolding stack_of
-stack_top ks zero last p e = absurd (omega arith)
-stack_top ks (suc h) last p e =
-    let q : suc h - 1 ≡ h = omega arith in
-    rw (e, q)
+at_end : (o : Numbered) (ks : List Numbered) (n : ℕ) → n < length ks → length ks ≤ n + 1 →
+    repeats o (option_to_list (slice_get ks n)) ≡ repeats o (turned ks [])
+unfolding repeats
+at_end o ks n h l =
+    let k = get_or ks n no_numbered in
+    let whole : ks ≡ take n ks ++ (k ∷ []) = sym (take_all (n + 1) ks l) ∙ take_more ks n no_numbered h in
+    let e : slice_get ks n ≡ Some k = slice_get-get_or ks n no_numbered h in
+    let f : turned ks [] ≡ k ∷ turned (take n ks) [] = ap (λ (xs : List Numbered). turned xs []) whole ∙ turned_last (take n ks) k in
+    rw (e, f)
 
--- ---- the latest kept SYNC
--- a place above is another matter
-sync_set : (ks : List Numbered) (h j : ℕ) (o : Numbered) → h ≤ j → sync_place (set ks j o) h ≡ sync_place ks h
-unfolding sync_place
-sync_set ks zero j o p = refl
-sync_set ks (suc h) j o p =
-    let e : get_or (set ks j o) h no_numbered ≡ get_or ks h no_numbered = get_or-set_other ks j h o no_numbered (λ q. omega arith) in
-    let ih : sync_place (set ks j o) h ≡ sync_place ks h = sync_set ks h j o (omega arith) in
-    λ i. pick (same (effect_of (e i)) Sync) (suc h) (ih i)
+-- the last of them is the first when they are turned, and what one repeats
+pub repeats_last : (o : Numbered) (ks : List Numbered) → repeats o (option_to_list (slice_get ks (length ks - 1))) ≡ repeats o (turned ks [])
+unfolding repeats turned
+repeats_last o [] = refl
+repeats_last o (x ∷ xs) = at_end o (x ∷ xs) (length (x ∷ xs) - 1) (omega arith) (omega arith)
 
-sync_push : (ks : List Numbered) (h : ℕ) (o : Numbered) → h < length ks →
-    sync_place (set ks h o) (suc h) ≡ pick (same (effect_of o) Sync) (suc h) (sync_place ks h)
-unfolding sync_place
-sync_push ks h o p =
-    let e : get_or (set ks h o) h no_numbered ≡ o = get_or-set_same ks h o no_numbered p in
-    let r : sync_place (set ks h o) h ≡ sync_place ks h = sync_set ks h h o (omega arith) in
-    λ i. pick (same (effect_of (e i)) Sync) (suc h) (r i)
+-- ---- those after the latest SYNC are passed over
+later_ones : (x : Numbered) (xs : List Numbered) → NoSync (x ∷ xs) → NoSync xs
+later_ones x xs n j p l = n (suc j) (omega arith) (omega arith)
 
-pub synced_push : (places : List ℕ) (ks : List Numbered) (h v place : ℕ) (o : Numbered) → v ≡ pick (same (effect_of o) Sync) (h + 1) place →
-    place ≡ sync_place ks h → h < length places → h < length ks →
-    Synced places ks h → Synced (set places h v) (set ks h o) (h + 1)
-synced_push places ks h v place o e f p q r j l = elim (ℕ_discrete j h) [
-  | yes i ↦
-      let m : h + 1 ≡ suc h = omega arith in
-      rw i (get_or-set_same places h v 0 p ∙ (e ∙ ((λ k. pick (same (effect_of o) Sync) (m k) (f k)) ∙ sym (sync_push ks h o q))))
-  | no i ↦ get_or-set_other places h j v 0 i ∙ (r j (omega arith) ∙ sym (sync_set ks (suc j) h o (omega arith)))
-]
+pub skip_hour : (t : ℕ) (xs acc : List Numbered) → NoSync xs → sync_within_hour t (turned xs acc) ≡ sync_within_hour t acc
+unfolding turned sync_within_hour
+skip_hour t [] acc n = refl
+skip_hour t (x ∷ xs) acc n = skip_hour t xs (x ∷ acc) (later_ones x xs n) ∙ rw (n 0 (omega arith) (omega arith))
 
-pub sync_none : (ks : List Numbered) (h : ℕ) → h ≡ 0 → 0 ≡ sync_place ks h
-unfolding sync_place
-sync_none ks h e = rw e
+skip_from : (xs acc : List Numbered) → NoSync xs → from_sync (turned xs acc) ≡ turned xs (from_sync acc)
+unfolding turned from_sync
+skip_from [] acc n = refl
+skip_from (x ∷ xs) acc n =
+    let e : from_sync (x ∷ acc) ≡ x ∷ from_sync acc = rw (n 0 (omega arith) (omega arith)) in
+    skip_from xs (x ∷ acc) (later_ones x xs n) ∙ ap (turned xs) e
 
-pub sync_noted : (places : List ℕ) (ks : List Numbered) (h : ℕ) → 0 < h → Synced places ks h → get_or places (h - 1) 0 ≡ sync_place ks h
-sync_noted places ks h p r = let e : suc (h - 1) ≡ h = omega arith in rw e at (r (h - 1) (omega arith))
+skip_before : (xs acc : List Numbered) → NoSync xs → before_sync (turned xs acc) ≡ before_sync acc
+unfolding turned before_sync
+skip_before [] acc n = refl
+skip_before (x ∷ xs) acc n = skip_before xs (x ∷ acc) (later_ones x xs n) ∙ rw (n 0 (omega arith) (omega arith))
 
-module _ (ks : List Numbered) where
-  from_more : (a h : ℕ) → a ≤ h → stack_from ks a (suc h - a) ≡ get_or ks h no_numbered ∷ stack_from ks a (h - a)
-  unfolding stack_from
-  from_more a h p =
-      let e : suc h - a ≡ suc (h - a) = omega arith in
-      let f : a + (h - a) ≡ h = omega arith in
-      ap (stack_from ks a) e ∙ ap (λ (k : ℕ). get_or ks k no_numbered ∷ stack_from ks a (h - a)) f
+-- ---- the latest SYNC stands at this place: the hour is timed from it, and it and all after it leave
+module _ (ks : List Numbered) (at : ℕ) (s : LatestSync ks at) where
+  abbrev sync : Numbered
+  sync = get_or ks at no_numbered
 
-  from_none : (a : ℕ) → stack_from ks a (a - a) ≡ []
-  unfolding stack_from
-  from_none a = let e : a - a ≡ 0 = omega arith in rw e
+  none_after : NoSync (drop (at + 1) ks)
+  none_after j p l =
+      let e = get_or-drop (at + 1) ks j no_numbered in
+      rw e (s.after (at + 1 + j) (omega arith) (omega (arith, length-drop (at + 1) ks)))
 
-  -- of the first h, where p stand up to the latest SYNC: the hour is timed from that SYNC alone
-  pub record UpToSync (stack : List Numbered) (h p : ℕ) : Type 0 where
-    pub low : p ≤ h
-    pub none : (t : ℕ) → p ≡ 0 → sync_within_hour t stack ≡ false
-    pub is : 0 < p → same (effect_of (get_or ks (p - 1) no_numbered)) Sync ≡ true
-    pub hour : (t : ℕ) → 0 < p → sync_within_hour t stack ≡ sync_within_hour t (get_or ks (p - 1) no_numbered ∷ [])
-    pub before : before_sync stack ≡ stack_of ks (p - 1)
-    pub from : 0 < p → from_sync stack ≡ stack_from ks (p - 1) (h - (p - 1))
+  parts : turned ks [] ≡ turned (drop (at + 1) ks) (sync ∷ turned (take at ks) [])
+  unfolding turned
+  parts =
+      ap (λ (l : List Numbered). turned l []) (sym (take-append-drop at ks) ∙ ap (λ (l : List Numbered). take at ks ++ l) (drop_more ks at no_numbered s.here))
+      ∙ turned_append (take at ks) (sync ∷ drop (at + 1) ks) []
 
-  pub up_to_sync : (h : ℕ) → UpToSync (stack_of ks h) h (sync_place ks h)
-  unfolding sync_place sync_within_hour before_sync from_sync stack_of
-  up_to_sync zero = record {
-    low = omega arith;
-    none = λ t q. refl;
-    is = λ q. absurd (omega arith);
-    hour = λ t q. absurd (omega arith);
-    before = refl;
-    from = λ q. absurd (omega arith);
-  }
-  up_to_sync (suc h) = go (same (effect_of (get_or ks h no_numbered)) Sync) refl (up_to_sync h)
-    where
-      go : (b : Bool) → same (effect_of (get_or ks h no_numbered)) Sync ≡ b → UpToSync (stack_of ks h) h (sync_place ks h) →
-          UpToSync (get_or ks h no_numbered ∷ stack_of ks h) (suc h) (pick b (suc h) (sync_place ks h))
-      go true e r =
-          let d : suc h - 1 ≡ h = omega arith in
-          record {
-            low = omega arith;
-            none = λ t q. absurd (omega arith);
-            is = λ q. rw d e;
-            hour = λ t q. rw (d, e);
-            before = rw (d, e);
-            from = λ q. rw (d, e) (sym (from_more h h (omega arith) ∙ ap (λ (l : List Numbered). get_or ks h no_numbered ∷ l) (from_none h)));
-          }
-      go false e r = record {
-        low = omega (arith, r.low);
-        none = λ t q. rw e (r.none t q);
-        is = r.is;
-        hour = λ t q. rw e (r.hour t q);
-        before = rw e r.before;
-        from = λ q.
-            rw e (ap (λ (l : List Numbered). get_or ks h no_numbered ∷ l) (r.from q) ∙ sym (from_more (sync_place ks h - 1) h (omega (arith, r.low))));
-      }
+  pub hour_at : (t : ℕ) → sync_within_hour t (turned ks []) ≡ leb t (effective_of sync + 3600)
+  unfolding sync_within_hour
+  hour_at t =
+      ap (sync_within_hour t) parts ∙ (skip_hour t (drop (at + 1) ks) (sync ∷ turned (take at ks) []) none_after ∙ rw s.is)
+
+  pub from_at : from_sync (turned ks []) ≡ turned (drop at ks) []
+  unfolding turned from_sync
+  from_at =
+      let e : from_sync (sync ∷ turned (take at ks) []) ≡ sync ∷ [] = rw s.is in
+      ap from_sync parts ∙ (skip_from (drop (at + 1) ks) (sync ∷ turned (take at ks) []) none_after
+      ∙ (ap (turned (drop (at + 1) ks)) e ∙ ap (λ (l : List Numbered). turned l []) (sym (drop_more ks at no_numbered s.here))))
+
+  pub before_at : before_sync (turned ks []) ≡ turned (take at ks) []
+  unfolding before_sync
+  before_at = ap before_sync parts ∙ (skip_before (drop (at + 1) ks) (sync ∷ turned (take at ks) []) none_after ∙ rw s.is)
