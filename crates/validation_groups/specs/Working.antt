@@ -3,6 +3,7 @@ use Rattle.std.specs.Prelude.{ℕ, ◌+◌, ◌-◌, ◌<◌, ◌≤◌, min, ma
 use Rattle.level.specs.Choice.{pick}
 use Rattle.level.specs.Few.{Few, few_of}
 use Rattle.level.specs.Numbers.{instruction_places}
+use Rattle.records.specs.declared.Instruction.{Instruction}
 use Rattle.records.specs.Records.{no_instruction}
 use Rattle.validation.specs.declared.Numbered.{Numbered}
 use Rattle.validation.specs.Kept.{effective_of}
@@ -75,3 +76,7 @@ pub record LatestAsked (os : List Numbered) (at : ℕ) (ordered : Bool) (before 
 -- the place after the run of the time t from a place on
 abbrev pub run_end : List Numbered → ℕ → ℕ → ℕ
 run_end os t from = from + length (take_while (λ o. eqb (effective_of o) t) (drop from os))
+
+-- the instruction at the place i, from 0, with its number
+abbrev pub numbered_at : ℕ → Instruction → Numbered
+numbered_at i x = record { number = i + 1; instruction = x }

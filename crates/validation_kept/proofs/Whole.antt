@@ -17,15 +17,23 @@ use Rattle.records.specs.declared.Instruction.{Instruction}
 use Rattle.validation.specs.declared.Numbered.{Numbered}
 use Rattle.validation.specs.Kept.{numbered, Mark, superseded, Checked, check, used_from, used, actors, late_marks, turned, kept_of, validated, fate_among, fates_of}
 use Rattle.validation.proofs.Few.{numbered_length, Fated, fated_append, checked_fated, late_fated}
-use Rattle.validation_groups.specs.declared.Sequence.{Sequence}
 use Rattle.validation_kept.specs.declared.Validation.{Validation}
-use Rattle.validation_groups.specs.Working.{no_numbered, Holds, Timed, superseded_among}
+use Rattle.validation_groups.specs.Working.{no_numbered, numbered_at, sequence_of}
 use Rattle.validation_kept.specs.Outcome.{outcome_of, validation_of}
-use Rattle.validation_kept.specs.Late.{settle_fate, settled, acting_with, fates_to}
-use Rattle.validation_sequence.specs.Working.{Checking, set_fate, marked, none_checked, Tracks}
-use Rattle.validation_groups.proofs.Laws.{held, superseded_at, number_from}
-use Rattle.validation_sequence.proofs.Stack.{stack_turned}
-use Rattle.validation_sequence.proofs.Steps.{set_zero, set_some, set_length}
+use Rattle.validation_kept.specs.Late.{settle_fate, settled, fates_to}
+use Rattle.validation_sequence.specs.Working.{set_fate, marked, none_checked, Tracks}
+use Rattle.validation_sequence.proofs.Stack.{turned_back}
+use Rattle.validation_sequence.proofs.Steps.{set_length}
+
+-- ---- one fate set
+module _ (fates : List ℕ) (number fate : ℕ) where
+  set_zero : number ≡ 0 → fates ≡ set_fate fates number fate
+  unfolding set_fate
+  set_zero e = simp (eq-eqb _ _ e)
+
+  set_some : (number ≡ 0 → ⊥) → set fates (number - 1) fate ≡ set_fate fates number fate
+  unfolding set_fate
+  set_some n = simp (ne_eqb _ _ n)
 
 -- the array has at each place the fate of the number one above
 pub record Reads (fates : List ℕ) (ms : List Mark) : Type 0 where
@@ -132,71 +140,74 @@ reads_settled fates ms (l ∷ ls) r n k =
     (fated_append NotTwo ms (l ∷ []) n (k.0, tt)) k.1)
 
 -- ---- the fates by number
+number_at : (k : ℕ) (is : List Instruction) (i : ℕ) → i < length is → (get_or (numbered k is) i no_numbered).number ≡ k + i
+unfolding numbered
+number_at k [] i h = absurd (omega arith)
+number_at k (x ∷ xs) zero h = omega arith
+number_at k (x ∷ xs) (suc i) h = number_at (suc k) xs i (omega arith) ∙ omega arith
+
 fates_last : (all : List Numbered) (ms : List Mark) (xs : List Numbered) (x : Numbered) →
     fates_of all ms (xs ++ (x ∷ [])) ≡ fates_of all ms xs ++ (pick (superseded all x) 1 (fate_among x.number ms) ∷ [])
 unfolding fates_of
 fates_last all ms [] x = refl
 fates_last all ms (y ∷ ys) x = ap (λ (l : List ℕ). pick (superseded all y) 1 (fate_among y.number ms) ∷ l) (fates_last all ms ys x)
 
-module _ (is : List Instruction) (few : length is ≤ instruction_places) (times issues : List ℕ) (timed : Timed (numbered 1 is) times issues)
-    (later : List ℕ) (ms : List Mark) (r : Reads later ms) where
-  fates_upto : (i : ℕ) → i ≤ length is → fates_to times issues later i ≡ fates_of (numbered 1 is) ms (take i (numbered 1 is))
+module _ (is : List Instruction) (few : length is ≤ instruction_places) (later : List ℕ) (ms : List Mark) (r : Reads later ms) where
+  fates_upto : (i : ℕ) → i ≤ length is → fates_to (numbered 1 is) later i ≡ fates_of (numbered 1 is) ms (take i (numbered 1 is))
   unfolding fates_to fates_of
   fates_upto zero h = refl
   fates_upto (suc i) h =
       let os = numbered 1 is in
       let o = get_or os i no_numbered in
-      let n : i + 1 ≡ o.number = omega (arith, ap (λ (x : Numbered). x.number) (number_from 1 is i h)) in
+      let n : i + 1 ≡ o.number = omega (arith, number_at 1 is i h) in
       let e : get_or later i 0 ≡ fate_among o.number ms = r.at i (omega arith) ∙ ap (λ (k : ℕ). fate_among k ms) n in
-      let u : superseded_among times issues (get_or times i 0) (get_or issues i 0) ≡ superseded os o = superseded_at timed i in
-      let ih : fates_to times issues later i ≡ fates_of os ms (take i os) = fates_upto i (omega arith) in
-      (λ j. ih j ++ (pick (u j) 1 (e j) ∷ []))
+      let ih : fates_to os later i ≡ fates_of os ms (take i os) = fates_upto i (omega arith) in
+      (λ j. ih j ++ (pick (superseded os o) 1 (e j) ∷ []))
       ∙ (sym (fates_last os ms (take i os) o) ∙ ap (fates_of os ms) (sym (take-suc os i no_numbered (omega (arith, numbered_length 1 is)))))
 
-  pub fates_all : fates_to times issues later (length is) ≡ fates_of (numbered 1 is) ms (numbered 1 is)
+  fates_all : fates_to (numbered 1 is) later (length (numbered 1 is)) ≡ fates_of (numbered 1 is) ms (numbered 1 is)
   fates_all =
-      fates_upto (length is) (omega arith)
-      ∙ ap (fates_of (numbered 1 is) ms) (take_all (length is) (numbered 1 is) (omega (arith, numbered_length 1 is)))
+      ap (fates_to (numbered 1 is) later) (numbered_length 1 is) ∙ (fates_upto (length is) (omega arith)
+      ∙ ap (fates_of (numbered 1 is) ms) (take_all (length is) (numbered 1 is) (omega (arith, numbered_length 1 is))))
 
 -- ---- the four steps together
-module _ (end : ℕ) (os : List Numbered) (s : Checking) (t : Tracks s (check none_checked (used end os))) (fits : s.height ≤ length s.kept) where
-  in_order : take s.height s.kept ≡ turned (check none_checked (used end os)).kept []
-  in_order = sym (stack_turned s.kept s.height fits) ∙ ap (λ (l : List Numbered). turned l []) t.stack
+module _ (end : ℕ) (os ks : List Numbered) (fates : List ℕ) (t : Tracks ks fates (check none_checked (used end os))) where
+  in_time : ks ≡ turned (check none_checked (used end os)).kept []
+  in_time = sym (turned_back ks) ∙ ap (λ (l : List Numbered). turned l []) t.stack
 
-  pub acts_are : actors end (take s.height s.kept) ≡ (validated end os).acts
+  acts_are : actors end ks ≡ (validated end os).acts
   unfolding validated kept_of
-  acts_are = ap (actors end) in_order
+  acts_are = ap (actors end) in_time
 
-  pub marks_are : Reads (settled s.fates (late_marks end (take s.height s.kept))) (validated end os).marks
+  marks_are : Reads (settled fates (late_marks end ks)) (validated end os).marks
   unfolding validated kept_of
   marks_are =
       let m : Checked = check none_checked (used end os) in
       let ls = late_marks end (turned m.kept []) in
-      rw (in_order, t.settled)
+      rw (in_time, t.settled)
       (reads_settled (marked (replicate instruction_places 2) m.marks) m.marks ls (reads_marked m.marks)
       (checked_fated NotTwo (omega arith) (omega arith) (omega arith) none_checked (used end os) tt)
       (late_fated NotTwo (omega arith) (omega arith) (omega arith) end (turned m.kept [])))
 
 -- what the code puts together
-abbrev pub result : ℕ → List ℕ → List ℕ → Checking → ℕ → Validation
-result end times issues s n =
-    let ks = take s.height s.kept in
-    acting_with (filled instruction_places 0 (fates_to times issues (settled s.fates (late_marks end ks)) n)) (actors end ks)
+abbrev pub put_together : ℕ → List Numbered → List Numbered → List ℕ → Validation
+put_together end os ks later =
+    record { fates = filled instruction_places 0 (fates_to os later (length os)); acts = sequence_of (actors end ks) }
 
-outcome_is : (end : ℕ) (is : List Instruction) → length is ≤ instruction_places → (times issues : List ℕ) → Timed (numbered 1 is) times issues →
-    (s : Checking) → Tracks s (check none_checked (used end (numbered 1 is))) → s.height ≤ length s.kept →
-    result end times issues s (length is) ≡ outcome_of (numbered 1 is) end
+outcome_is : (end : ℕ) (is : List Instruction) → length is ≤ instruction_places → (ks : List Numbered) (fates : List ℕ) →
+    Tracks ks fates (check none_checked (used end (numbered 1 is))) →
+    put_together end (numbered 1 is) ks (settled fates (late_marks end ks)) ≡ outcome_of (numbered 1 is) end
 unfolding outcome_of
-outcome_is end is few times issues timed s t fits =
+outcome_is end is few ks fates t =
     let os = numbered 1 is in
-    let later = settled s.fates (late_marks end (take s.height s.kept)) in
-    let f : fates_to times issues later (length is) ≡ fates_of os (validated end os).marks os =
-    fates_all is few times issues timed later (validated end os).marks (marks_are end os s t fits) in
-    let a : actors end (take s.height s.kept) ≡ (validated end os).acts = acts_are end os s t fits in
-    λ j. acting_with (filled instruction_places 0 (f j)) (a j)
+    let later = settled fates (late_marks end ks) in
+    let f : fates_to os later (length os) ≡ fates_of os (validated end os).marks os =
+        fates_all is few later (validated end os).marks (marks_are end os ks fates t) in
+    let a : actors end ks ≡ (validated end os).acts = acts_are end os ks fates t in
+    λ j. record { fates = filled instruction_places 0 (f j); acts = sequence_of (a j) }
 
--- of the numbered ones os, the first n of the instructions
-module _ (is : List Instruction) (count end n : ℕ) (all : length is ≡ instruction_places) (m : n ≡ min count instruction_places) where
+-- of the first n of the instructions
+module _ (is : List Instruction) (count n : ℕ) (all : length is ≡ instruction_places) (m : n ≡ min count instruction_places) where
   entered : take n is ≡ take count is
   entered = elim (dec_le count instruction_places) [
     | yes h ↦ let e : n ≡ count = omega arith in rw e
@@ -205,18 +216,14 @@ module _ (is : List Instruction) (count end n : ℕ) (all : length is ≡ instru
         rw e (take_all instruction_places is (omega arith) ∙ sym (take_all count is (omega arith)))
   ]
 
-  pub validation_is : (times issues : List ℕ) → Timed (numbered 1 (take n is)) times issues → (us : Sequence) →
-      Holds us (used end (numbered 1 (take n is))) → (s : Checking) → Tracks s (check none_checked (take us.count us.items)) →
-      s.height ≤ length s.kept → result end times issues s n ≡ validation_of is count end
+  pub validation_is : (end : ℕ) (ks : List Numbered) (fates : List ℕ) → Tracks ks fates (check none_checked (used end (numbered 1 (take n is)))) →
+      put_together end (numbered 1 (take n is)) ks (settled fates (late_marks end ks)) ≡ validation_of is count end
   unfolding validation_of
-  validation_is times issues timed u q s t fits =
-      let k : n ≡ length (take n is) = omega (arith, length-take n is) in
-      ap (result end times issues s) k
-      ∙ (outcome_is end (take n is) (omega arith) times issues timed s (rw (held q) at t) fits
-      ∙ ap (λ (l : List Instruction). outcome_of (numbered 1 l) end) entered)
+  validation_is end ks fates t =
+      outcome_is end (take n is) (omega (arith, length-take n is)) ks fates t ∙ ap (λ (l : List Instruction). outcome_of (numbered 1 l) end) entered
 
 -- none entered
 pub none_entered : (is : List Instruction) (count end : ℕ) → count ≡ 0 →
-    record { fates = replicate instruction_places 0; acts = replicate instruction_places no_numbered; acting = 0 } ≡ validation_of is count end
+    record { fates = replicate instruction_places 0; acts = sequence_of [] } ≡ validation_of is count end
 unfolding validation_of outcome_of numbered validated kept_of used used_from check turned actors late_marks fates_of filled
 none_entered is count end e = rw e refl
