@@ -1,9 +1,10 @@
 -- What is followed, with the fates laid over, is what close finds.
 use Prim.Native.Nat.{ℕ, suc, ◌+◌, ◌*◌, ◌-◌, ◌^◌, min, ◌≤◌, ◌<◌}
 use mathlib.Core.Path.{◌≡◌, refl, ap, sym, ◌∙◌, subst}
-use mathlib.Core.List.{List, [], ◌∷◌, map}
+use mathlib.Core.List.{List, [], ◌∷◌, ◌++◌, map}
 use native.Mathlib.Omega.{arith}
-use lib.ListN.{length, take, get_or, length-take, length-map}
+use lib.ListN.{length, take, get_or, replicate, length-take, length-map}
+use lib.Seq.{take-append_seam}
 use lib.Dec.{ltb}
 use Rattle.level.specs.Level.{grains}
 use Rattle.level.specs.Lists.{All, some, list_from, filled}
@@ -17,7 +18,8 @@ use Rattle.validation.proofs.Few.{numbered_length, acts_few}
 use Rattle.validation_kept.specs.declared.Validation.{Validation}
 use Rattle.validation_groups.specs.Working.{no_numbered}
 use Rattle.validation_kept.specs.Outcome.{outcome_of, validation_of}
-use Rattle.level.proofs.Arrays.{filled_listed, filled_at}
+use Rattle.level.proofs.Arrays.{filled_at}
+use Rattle.level.proofs.FewLists.{few_filled}
 use Rattle.profile.specs.declared.UnderWay.{UnderWay}
 use Rattle.profile.specs.declared.Taken.{Taken}
 use Rattle.profile.specs.State.{by_rule}
@@ -72,6 +74,13 @@ module _ (t : Taken) (n : ℕ) (places : length t.instructions ≡ instruction_p
   abbrev v : Validation
   v = validation_of t.instructions t.count end
 
+  -- those that act, in their places, and how many
+  abbrev stored : List Numbered
+  stored = v.acts.these ++ v.acts.spare
+
+  abbrev acting_count : ℕ
+  acting_count = length v.acts.these
+
   abbrev u : UnitData
   u = t.unit
 
@@ -85,13 +94,13 @@ module _ (t : Taken) (n : ℕ) (places : length t.instructions ≡ instruction_p
   few_acts : length acts ≤ instruction_places
   few_acts = omega (arith, acts_few end (numbered 1 (entered t)), numbered_length 1 (entered t), as_many)
 
-  pub acting_few : v.acting ≤ instruction_places
+  pub acting_few : acting_count ≤ instruction_places
   unfolding validation_of outcome_of entered
   acting_few = few_acts
 
-  acts_are : take v.acting v.acts ≡ acts
+  acts_are : take acting_count stored ≡ acts
   unfolding validation_of outcome_of entered
-  acts_are = filled_listed no_numbered instruction_places acts few_acts
+  acts_are = take-append_seam acts (replicate (instruction_places - length acts) no_numbered)
 
   abbrev first : UnderWay
   first = start_course u t.start
@@ -107,29 +116,31 @@ module _ (t : Taken) (n : ℕ) (places : length t.instructions ≡ instruction_p
   begins = refl
 
   -- those that act stand in order
-  in_order : Ordered end first.course.begin (take v.acting v.acts)
+  in_order : Ordered end first.course.begin (take acting_count stored)
   in_order =
       let r = acting_rise end (numbered 1 (entered t)) in
-      subst (λ (a : ℕ). Ordered end a (take v.acting v.acts)) (sym begins)
+      subst (λ (a : ℕ). Ordered end a (take acting_count stored)) (sym begins)
       (subst (Ordered end 0) (sym acts_are) (rising_ordered end 0 acts (omega arith) (all_from acts) r.0 r.1))
 
-  starts_low : Words t → All LowStart (courses_from u first (take v.acting v.acts))
+  starts_low : Words t → All LowStart (courses_from u first (take acting_count stored))
   unfolding grains courses_from
   starts_low w = rw acts_are (all_map (Below (2 ^ 32)) LowStart (λ c b. omega (arith, b.start)) courses
       (courses_below u (2 ^ 32) (omega (arith, w.capacity)) (omega (arith, w.maximum)) first acts
       (start_below u (2 ^ 32) (omega (arith, w.capacity)) (omega (arith, w.maximum)) t.start (omega (arith, w.level))
       (omega (arith, w.target)) (omega (arith, w.ordered)))))
 
-  pub acts_fit : n ≤ most_half_hours → Words t → Followable u first v.acts v.acting n
+  pub acts_fit : n ≤ most_half_hours → Words t → Followable u first stored acting_count n
   acts_fit long w = record { few = acting_few; long = long; ordered = in_order; starts = starts_low w }
 
   abbrev settled : Fates
   settled = record { count = min t.count instruction_places; fates = v.fates }
 
   fates_are : over_all v.fates (min t.count instruction_places)
-      (marks_from v.acts (filled instruction_places 0 (map fate_in f.marks)) 0 v.acting) ≡ (arrays_of (found paper n t)).fates
+      (marks_from stored (filled instruction_places 0 (map fate_in f.marks)) 0 acting_count) ≡ (arrays_of (found paper n t)).fates
   unfolding validation_of outcome_of arrays_of found found_by entered
-  fates_are = ap (over_all v.fates (min t.count instruction_places)) (own_marks u first acts few_acts)
+  fates_are = ap (λ (l : List Numbered). over_all v.fates (min t.count instruction_places)
+      (marks_from l (filled instruction_places 0 (map fate_in f.marks)) 0 (length acts))) (few_filled instruction_places no_numbered acts few_acts)
+      ∙ ap (over_all v.fates (min t.count instruction_places)) (own_marks u first acts few_acts)
       ∙ ap (λ (k : ℕ). over_all v.fates k f.marks) (sym as_many) ∙ fates_found u first acts few_acts end (entered t) (omega (arith, as_many))
 
   sums_are : list_from (twin_to (spans_of u end courses)) 0 (suc n) ≡ (found paper n t).sums
@@ -140,8 +151,8 @@ module _ (t : Taken) (n : ℕ) (places : length t.instructions ≡ instruction_p
       (λ j p. area_to n ss (day_tiles by_rule end u t.start (numbered 1 (entered t))) j (omega arith)))
 
   -- what following comes to, with its fates laid over
-  pub find_is : (r : FollowedDay) → FollowedBy u first (take v.acting v.acts) n r → (record {
-    fates = (overlaid_all settled (marks_from v.acts r.walk.fates 0 v.acting)).fates;
+  pub find_is : (r : FollowedDay) → FollowedBy u first (take acting_count stored) n r → (record {
+    fates = (overlaid_all settled (marks_from stored r.walk.fates 0 acting_count)).fates;
     started = r.walk.started;
     courses = r.walk.courses;
     sums = r.sums;
@@ -152,7 +163,7 @@ module _ (t : Taken) (n : ℕ) (places : length t.instructions ≡ instruction_p
   find_is r by =
       let walk : r.walk ≡ walk_all u first acts = by.walk ∙ ap (walk_all u first) acts_are in
       let fates =
-      ap (λ (x : Walk). over_all v.fates settled.count (marks_from v.acts x.fates 0 v.acting)) walk ∙ fates_are in
+      ap (λ (x : Walk). over_all v.fates settled.count (marks_from stored x.fates 0 acting_count)) walk ∙ fates_are in
       let started = ap (λ (x : Walk). x.started) walk ∙ sym (length-map f.courses course_of) in
       let sums =
       by.sums ∙ ap (λ (os : List Numbered). filled boundary_places 0 (list_from (twin_to (spans_of u end (courses_from u first os))) 0 (suc n))) acts_are

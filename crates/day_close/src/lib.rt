@@ -74,16 +74,17 @@ pub fn find(t: profile::Taken, halves: u32) -> profile::Finding
     let u = t.unit;
     let instructions = t.instructions;
     let v = validation_kept::validate(instructions, t.count, level::HALF_HOUR * halves);
-    let acts = v.acts;
+    let acts = v.acts.into_array();
+    let acting = v.acts.len();
     let first = profile_effects::start_course(u, t.start);
-    let f = profile_follow::follow_day(u, first, acts, v.acting, halves);
+    let f = profile_follow::follow_day(u, first, acts, acting, halves);
     let settled = v.fates;
     let given = Fates {
         count: level::smaller_count(t.count, level::INSTRUCTIONS),
         fates: settled,
     };
     let own = f.walk.fates;
-    let over = lay_fates(given, acts, own, v.acting);
+    let over = lay_fates(given, acts, own, acting);
     let fates = over.fates;
     let courses = f.walk.courses;
     let sums = f.sums;

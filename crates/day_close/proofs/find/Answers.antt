@@ -1,4 +1,4 @@
-use Rattle.std.proofs.Common.{◌≡◌, ◌*◌, length, take, ap, ◌∙◌, arith}
+use Rattle.std.proofs.Common.{◌≡◌, ◌*◌, ◌++◌, length, take, ap, ◌∙◌, arith}
 use Rattle.level.specs.Numbers.{half_hour, instruction_places}
 use Rattle.validation_kept.specs.declared.Validation.{Validation}
 use Rattle.validation_kept.specs.Outcome.{validation_of}
@@ -14,13 +14,13 @@ follow_day-f-requires c =
     let t = c.args.t in
     let places : length t.instructions ≡ instruction_places = c.well_formed.0.1.1.1.1.1.1.1.0.1.0.1 in
     let words : Words t = omega (arith, c.well_formed.0) in
-    rw (c.start_course-first.ensures, c.validate-v.ensures) (acts_fit t c.args.halves places c.requires words)
+    rw (c.start_course-first.ensures, c.into_array-acts.ensures, c.len-acting.ensures.value, c.validate-v.ensures) (acts_fit t c.args.halves places c.requires words)
 
 pub lay_fates-over-requires : goal.lay_fates-over-requires
 lay_fates-over-requires c =
     let t = c.args.t in
     let places : length t.instructions ≡ instruction_places = c.well_formed.0.1.1.1.1.1.1.1.0.1.0.1 in
-    (omega (arith, c.smaller_count.ensures), rw c.validate-v.ensures (acting_few t c.args.halves places))
+    (omega (arith, c.smaller_count.ensures), rw (c.len-acting.ensures.value, c.validate-v.ensures) (acting_few t c.args.halves places))
 
 pub returns : goal.returns
 returns c =
@@ -30,11 +30,13 @@ returns c =
     let kept : Validation = validation_of t.instructions t.count (half_hour * n) in
     let r = c.follow_day-f.result in
     -- those kept that act are followed, and their fates laid over
-    let by : FollowedBy t.unit (start_course t.unit t.start) (take kept.acting kept.acts) n r =
-    rw (c.start_course-first.ensures, c.validate-v.ensures) at c.follow_day-f.ensures in
+    let by : FollowedBy t.unit (start_course t.unit t.start) (take (length kept.acts.these) (kept.acts.these ++ kept.acts.spare)) n r =
+    rw (c.start_course-first.ensures, c.into_array-acts.ensures, c.len-acting.ensures.value, c.validate-v.ensures) at c.follow_day-f.ensures in
+    let acts = c.into_array-acts.ensures ∙ ap (λ (x : Validation). x.acts.these ++ x.acts.spare) c.validate-v.ensures in
+    let acting = c.len-acting.ensures.value ∙ ap (λ (x : Validation). length x.acts.these) c.validate-v.ensures in
     let over = c.lay_fates-over.ensures
     ∙ (λ i. overlaid_all (record { count = c.smaller_count.ensures i; fates = (c.validate-v.ensures i).fates })
-    (marks_from (c.validate-v.ensures i).acts r.walk.fates 0 (c.validate-v.ensures i).acting)) in
+    (marks_from (acts i) r.walk.fates 0 (acting i))) in
     ap (λ (x : Fates). record {
       fates = x.fates;
       started = r.walk.started;
