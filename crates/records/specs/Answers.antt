@@ -1,9 +1,7 @@
 -- Believed: document 01, Refusals. The numbers of the answers, and the first refusal of several conditions.
-use Rattle.std.specs.Prelude.{ℕ, List, [], ◌∷◌, Bool, true, false}
+use Rattle.std.specs.Prelude.{ℕ, List, [], ◌∷◌, Bool, true, false, Result, Ok, Err}
 use Rattle.records.specs.declared.Refusal.{Refusal}
 use Rattle.records.specs.declared.Refusal.TheVariants.{UnknownKind, TooFewBytes, UnitField, UnitDisagrees, OpeningField, CodeField, EffectiveTime, IssueTime, LevelOrRates, SecondOne, BeforeUnit, OpeningTooHigh, TooManyInstructions, AfterClose, NotReady, SliceTooShort, QuantityTooHigh}
-use Rattle.records.specs.declared.Answer.{Answer}
-use Rattle.records.specs.declared.Answer.TheVariants.{Accepted, Refused}
 
 -- the paper's number of each refusal
 abbrev pub refusal_number : Refusal → ℕ
@@ -25,26 +23,36 @@ refusal_number NotReady = 25
 refusal_number SliceTooShort = 26
 refusal_number QuantityTooHigh = 27
 
--- the paper's number of an answer: 0 for an acceptance
-abbrev pub number_of : Answer → ℕ
-number_of Accepted = 0
-number_of (Refused r) = refusal_number r
+-- the answer to a call: an acceptance, `Ok`, or a refusal
+abbrev pub Answer : Type 0
+Answer = Result Unit Refusal
 
-abbrev pub accepted : Answer → Bool
-accepted Accepted = true
-accepted (Refused r) = false
+-- ---- of an answer, or of a result that has a value where it is accepted
+module _ {A : Type 0} where
+  -- the paper's number of it: 0 for an acceptance
+  abbrev pub number_of : Result A Refusal → ℕ
+  number_of (Ok x) = 0
+  number_of (Err r) = refusal_number r
+
+  abbrev pub accepted : Result A Refusal → Bool
+  accepted (Ok x) = true
+  accepted (Err r) = false
+
+  -- the first of two answers that is a refusal
+  abbrev pub before : Answer → Result A Refusal → Result A Refusal
+  before (Ok x) b = b
+  before (Err r) b = Err r
+
+  -- an answer with the value x where it is an acceptance
+  abbrev pub answered : Answer → A → Result A Refusal
+  answered a x = before a (Ok x)
 
 -- a refusal where its condition holds
 abbrev pub refusing : Bool → Refusal → Answer
-refusing true r = Refused r
-refusing false r = Accepted
-
--- the first of two answers that is a refusal
-abbrev pub before : Answer → Answer → Answer
-before Accepted b = b
-before (Refused r) b = Refused r
+refusing true r = Err r
+refusing false r = Ok tt
 
 -- the first refusal, in the order given
 abbrev pub first_refusal : List Answer → Answer
-first_refusal [] = Accepted
+first_refusal [] = Ok tt
 first_refusal (a ∷ rest) = before a (first_refusal rest)

@@ -7,9 +7,8 @@ use Rattle.records.specs.declared.UnitData.{UnitData}
 use Rattle.records.specs.declared.Opening.{Opening}
 use Rattle.records.specs.declared.Instruction.{Instruction}
 use Rattle.records.specs.declared.Effect.TheVariants.{Mwof}
-use Rattle.records.specs.declared.Answer.{Answer}
 use Rattle.records.specs.declared.Refusal.TheVariants.{UnitField, UnitDisagrees, OpeningField, CodeField, EffectiveTime, IssueTime, LevelOrRates}
-use Rattle.records.specs.Answers.{refusing, first_refusal}
+use Rattle.records.specs.Answers.{Answer, refusing, first_refusal}
 use Rattle.records.specs.Codes.{meaning_of, is_unknown, same}
 use Rattle.records.specs.Records.{unit_of, opening_of, instruction_of}
 

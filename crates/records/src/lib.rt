@@ -65,16 +65,28 @@ pub struct Opening {
     pub off: u32,
 }
 
-// What an instruction does at its acting second (Table 7).
+// What an instruction does at its acting second (Table 7), with the number of its code.
 #[derive(Clone, Copy, PartialEq, Eq)]
 pub enum Effect {
-    Trip,
-    Mwof,
-    Mxon,
-    Sync,
-    Mxof,
-    Desy,
-    Fail,
+    Trip = 1,
+    Mwof = 2,
+    Mxon = 3,
+    Sync = 4,
+    Mxof = 5,
+    Desy = 6,
+    Fail = 7,
+}
+
+impl Effect {
+    ghost use Rattle.std.specs.Prelude.{◌≡◌};
+    ghost use Rattle.records.specs.Codes.{code_number};
+
+    // The paper's number of a code.
+    pub fn number(self) -> u8
+        ensures { result ≡ code_number self }
+    {
+        self as u8
+    }
 }
 
 // What a code means: the lag in seconds, the rank (1 the highest), the effect.
@@ -83,13 +95,6 @@ pub struct Meaning {
     pub lag: u32,
     pub rank: u8,
     pub effect: Effect,
-}
-
-// A code byte read.
-#[derive(Clone, Copy)]
-pub enum Coded {
-    Means(Meaning),
-    Unknown,
 }
 
 // A dispatch instruction. The issue time is kept as seconds above -604,800; level in kW; up and down rate in kW a
@@ -104,31 +109,36 @@ pub struct Instruction {
     pub down: u32,
 }
 
-// The refusals of both lists.
-#[derive(Clone, Copy)]
+// The refusals of both lists, with the paper's numbers.
+#[derive(Clone, Copy, PartialEq, Eq)]
 pub enum Refusal {
-    UnknownKind,
-    TooFewBytes,
-    UnitField,
-    UnitDisagrees,
-    OpeningField,
-    CodeField,
-    EffectiveTime,
-    IssueTime,
-    LevelOrRates,
-    SecondOne,
-    BeforeUnit,
-    OpeningTooHigh,
-    TooManyInstructions,
-    AfterClose,
-    NotReady,
-    SliceTooShort,
-    QuantityTooHigh,
+    UnknownKind = 1,
+    TooFewBytes = 2,
+    UnitField = 3,
+    UnitDisagrees = 4,
+    OpeningField = 5,
+    CodeField = 6,
+    EffectiveTime = 7,
+    IssueTime = 8,
+    LevelOrRates = 9,
+    SecondOne = 20,
+    BeforeUnit = 21,
+    OpeningTooHigh = 22,
+    TooManyInstructions = 23,
+    AfterClose = 24,
+    NotReady = 25,
+    SliceTooShort = 26,
+    QuantityTooHigh = 27,
 }
 
-// The answer to a call.
-#[derive(Clone, Copy)]
-pub enum Answer {
-    Accepted,
-    Refused(Refusal),
+impl Refusal {
+    ghost use Rattle.std.specs.Prelude.{◌≡◌};
+    ghost use Rattle.records.specs.Answers.{refusal_number};
+
+    // The paper's number of a refusal.
+    pub fn number(self) -> u8
+        ensures { result ≡ refusal_number self }
+    {
+        self as u8
+    }
 }

@@ -1,20 +1,14 @@
--- Working. A unit's body, decoded: the answer to its 62 numbers, and the unit.
-use Rattle.std.specs.Prelude.{ℕ, ◌+◌, ◌≡◌, List, [], ◌∷◌, not, get_or}
+-- Working. A unit's body, decoded: the unit, or the refusal of its 62 numbers.
+use Rattle.std.specs.Prelude.{ℕ, ◌+◌, ◌≡◌, List, [], ◌∷◌, get_or, Result}
 use Rattle.records.specs.declared.Ramp.{Ramp}
 use Rattle.records.specs.declared.UnitData.{UnitData}
-use Rattle.records.specs.declared.Answer.{Answer}
-use Rattle.records.specs.declared.Refusal.TheVariants.{UnitField, UnitDisagrees}
-use Rattle.records.specs.Answers.{refusing, first_refusal}
+use Rattle.records.specs.declared.Refusal.{Refusal}
+use Rattle.records.specs.Answers.{answered}
 use Rattle.records.specs.Records.{numbers, unit_of}
-use Rattle.records.specs.Fields.{unit_ranges, fit_from, disagrees, unit_answer}
-use Rattle.records_unit.specs.declared.UnitRead.{UnitRead}
+use Rattle.records.specs.Fields.{unit_answer}
 
-abbrev pub unit_read : List ℕ → UnitRead
-unit_read b = record { answer = unit_answer (numbers b 62); unit = unit_of (numbers b 62) }
-
--- 3 and 4, of the numbers ns and the unit u
-abbrev pub unit_answer_for : List ℕ → UnitData → Answer
-unit_answer_for ns u = first_refusal (refusing (not (fit_from unit_ranges ns 0)) UnitField ∷ refusing (disagrees u) UnitDisagrees ∷ [])
+abbrev pub unit_read : List ℕ → Result UnitData Refusal
+unit_read b = answered (unit_answer (numbers b 62)) (unit_of (numbers b 62))
 
 -- the five rates and the four breaks of a ramp, from a place on
 pub record RampAt (ns : List ℕ) (at : ℕ) (r : Ramp) : Type 0 where

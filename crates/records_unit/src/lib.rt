@@ -5,9 +5,9 @@ ghost use Rattle.std.specs.Prelude.{◌≡◌, ◌+◌, ◌<◌, ◌≤◌, ltb}
 ghost use Rattle.records.specs.Records.{numbers, trigger_of, column_of, unit_of};
 ghost use Rattle.level.specs.Lists.{some};
 ghost use Rattle.records.specs.Fields.{unit_ranges, fit_from, falls, disagrees};
-ghost use Rattle.records_unit.specs.Decoded.{unit_read, unit_answer_for, RampAt};
+ghost use Rattle.records_unit.specs.Decoded.{unit_read, RampAt};
 
-use records::{Answer, Column, Deload, Ramp, Refusal, Trigger, UnitData};
+use records::{Column, Deload, Ramp, Refusal, Trigger, UnitData};
 
 // The 62 numbers of a unit's body.
 #[tactic(auto, unfolding(records::specs::Records::numbers))]
@@ -93,13 +93,6 @@ pub fn unit_of(ns: [u32; 62]) -> UnitData
         down,
         deload,
     }
-}
-
-// A unit's body: the answer to its 62 numbers, and the unit.
-#[derive(Clone, Copy)]
-pub struct UnitRead {
-    pub answer: Answer,
-    pub unit: UnitData,
 }
 
 // The lowest that each of a unit's 62 numbers may be.
@@ -314,26 +307,18 @@ fn unit_disagrees(u: UnitData) -> bool
     breaks | (maximum | (msg | (block | boundaries)))
 }
 
-// Refusals 3 and 4, of 62 numbers and the unit that they make.
-fn unit_answer(ns: [u32; 62], u: UnitData) -> Answer
-    ensures { result ≡ unit_answer_for ns u }
-{
-    if !all_fit(ns) {
-        return Answer::Refused(Refusal::UnitField);
-    }
-    if unit_disagrees(u) {
-        return Answer::Refused(Refusal::UnitDisagrees);
-    }
-    Answer::Accepted
-}
-
-// The unit that a body holds, and the answer to its numbers.
+// The unit that a body holds, where its numbers lie in their ranges and its figures agree.
 #[tactic(auto, unfolding(records::specs::Fields::unit_answer))]
-pub fn read_unit(body: &[u8]) -> UnitRead
+pub fn read_unit(body: &[u8]) -> Result<UnitData, Refusal>
     ensures { result ≡ unit_read body.now }
 {
     let ns = unit_numbers(body);
     let unit = unit_of(ns);
-    let answer = unit_answer(ns, unit);
-    UnitRead { answer, unit }
+    if !all_fit(ns) {
+        return Err(Refusal::UnitField);
+    }
+    if unit_disagrees(unit) {
+        return Err(Refusal::UnitDisagrees);
+    }
+    Ok(unit)
 }
