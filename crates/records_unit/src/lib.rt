@@ -14,16 +14,15 @@ use records::{Column, Deload, Ramp, Refusal, Trigger, UnitData};
 pub fn unit_numbers(body: &[u8]) -> [u32; 62]
     ensures { result ≡ numbers body.now 62 }
 {
-    let mut out = [0u32; 62];
-    let mut i: usize = 0;
-    while i < 62 {
+    let mut out = [0; 62];
+    for i in 0..62 {
         out[i] = records_bytes::number(body, i * 4);
-        i += 1;
     }
     out
 }
 
 // The trigger whose level and minutes stand at these places.
+#[tactic(auto, unfolding(records::specs::Records::trigger_of))]
 fn trigger_of(ns: [u32; 62], at: usize, minutes: usize) -> Trigger
     requires { (at < 62) × (minutes < 62) }
     ensures { result ≡ trigger_of ns at minutes }
@@ -40,16 +39,11 @@ fn column_of(ns: [u32; 62], at: usize) -> Column
     requires { at + 10 ≤ 62 }
     ensures { result ≡ column_of ns at }
 {
-    let rates = [ns[at + 1], ns[at + 2], ns[at + 3]];
-    let breaks = [ns[at + 4], ns[at + 5]];
-    let first = trigger_of(ns, at + 6, at + 8);
-    let second = trigger_of(ns, at + 7, at + 9);
-    let soaks = [first, second];
     Column {
         block: ns[at],
-        rates,
-        breaks,
-        soaks,
+        rates: [ns[at + 1], ns[at + 2], ns[at + 3]],
+        breaks: [ns[at + 4], ns[at + 5]],
+        soaks: [trigger_of(ns, at + 6, at + 8), trigger_of(ns, at + 7, at + 9)],
     }
 }
 
@@ -58,9 +52,10 @@ fn ramp_at(ns: [u32; 62], at: usize) -> Ramp
     requires { at + 9 ≤ 62 }
     ensures { RampAt ns at result }
 {
-    let rates = [ns[at], ns[at + 1], ns[at + 2], ns[at + 3], ns[at + 4]];
-    let breaks = [ns[at + 5], ns[at + 6], ns[at + 7], ns[at + 8]];
-    Ramp { rates, breaks }
+    Ramp {
+        rates: [ns[at], ns[at + 1], ns[at + 2], ns[at + 3], ns[at + 4]],
+        breaks: [ns[at + 5], ns[at + 6], ns[at + 7], ns[at + 8]],
+    }
 }
 
 // The unit of 62 numbers.
@@ -68,243 +63,166 @@ fn ramp_at(ns: [u32; 62], at: usize) -> Ramp
 pub fn unit_of(ns: [u32; 62]) -> UnitData
     ensures { result ≡ unit_of ns }
 {
-    let hot = column_of(ns, 5);
-    let warm = column_of(ns, 15);
-    let cold = column_of(ns, 25);
-    let columns = [hot, warm, cold];
-    let up = ramp_at(ns, 35);
-    let first = trigger_of(ns, 44, 47);
-    let second = trigger_of(ns, 45, 48);
-    let third = trigger_of(ns, 46, 49);
-    let dwells = [first, second, third];
-    let down = ramp_at(ns, 50);
-    let rates = [ns[59], ns[60]];
-    let breaks = [ns[61]];
-    let deload = Deload { rates, breaks };
     UnitData {
         capacity: ns[0],
         maximum: ns[1],
         msg: ns[2],
         hot: ns[3],
         warm: ns[4],
-        columns,
-        up,
-        dwells,
-        down,
-        deload,
+        columns: [column_of(ns, 5), column_of(ns, 15), column_of(ns, 25)],
+        up: ramp_at(ns, 35),
+        dwells: [trigger_of(ns, 44, 47), trigger_of(ns, 45, 48), trigger_of(ns, 46, 49)],
+        down: ramp_at(ns, 50),
+        deload: Deload {
+            rates: [ns[59], ns[60]],
+            breaks: [ns[61]],
+        },
     }
 }
 
-// The lowest that each of a unit's 62 numbers may be.
-const LOWS: [u32; 62] = [
-    1, // capacity
-    1, // short-term maximum
-    1, // MSG
-    0, // hot boundary
-    0, // warm boundary
-    0, // hot block load
-    1, // hot rate 1
-    1, // hot rate 2
-    1, // hot rate 3
-    0, // hot break 1
-    0, // hot break 2
-    0, // hot soak trigger 1
-    0, // hot soak trigger 2
-    0, // hot soak minutes 1
-    0, // hot soak minutes 2
-    0, // warm block load
-    1, // warm rate 1
-    1, // warm rate 2
-    1, // warm rate 3
-    0, // warm break 1
-    0, // warm break 2
-    0, // warm soak trigger 1
-    0, // warm soak trigger 2
-    0, // warm soak minutes 1
-    0, // warm soak minutes 2
-    0, // cold block load
-    1, // cold rate 1
-    1, // cold rate 2
-    1, // cold rate 3
-    0, // cold break 1
-    0, // cold break 2
-    0, // cold soak trigger 1
-    0, // cold soak trigger 2
-    0, // cold soak minutes 1
-    0, // cold soak minutes 2
-    1, // ramp-up rate 1
-    1, // ramp-up rate 2
-    1, // ramp-up rate 3
-    1, // ramp-up rate 4
-    1, // ramp-up rate 5
-    0, // ramp-up break 1
-    0, // ramp-up break 2
-    0, // ramp-up break 3
-    0, // ramp-up break 4
-    0, // dwell trigger 1
-    0, // dwell trigger 2
-    0, // dwell trigger 3
-    0, // dwell minutes 1
-    0, // dwell minutes 2
-    0, // dwell minutes 3
-    1, // ramp-down rate 1
-    1, // ramp-down rate 2
-    1, // ramp-down rate 3
-    1, // ramp-down rate 4
-    1, // ramp-down rate 5
-    0, // ramp-down break 1
-    0, // ramp-down break 2
-    0, // ramp-down break 3
-    0, // ramp-down break 4
-    1, // deload rate 1
-    1, // deload rate 2
-    0, // deload break
+// From the lowest to the highest that a number may be.
+#[derive(Clone, Copy)]
+struct Range {
+    low: u32,
+    high: u32,
+}
+
+// Levels in kW.
+const LEVEL: Range = Range {
+    low: 0,
+    high: 2000000,
+};
+
+const MAXIMUM: Range = Range {
+    low: 1,
+    high: 2000000,
+};
+
+// Rates in kW a minute, soak and dwell minutes, cooling boundaries in minutes.
+const RATE: Range = Range {
+    low: 1,
+    high: 200000,
+};
+
+const HOLD: Range = Range { low: 0, high: 1440 };
+
+const BOUNDARY: Range = Range {
+    low: 0,
+    high: 100000,
+};
+
+// The range of each of a unit's 62 numbers.
+const RANGES: [Range; 62] = [
+    MAXIMUM, // capacity
+    MAXIMUM, // short-term maximum
+    MAXIMUM, // MSG
+    BOUNDARY, // hot boundary
+    BOUNDARY, // warm boundary
+    LEVEL, // hot block load
+    RATE, // hot rate 1
+    RATE, // hot rate 2
+    RATE, // hot rate 3
+    LEVEL, // hot break 1
+    LEVEL, // hot break 2
+    LEVEL, // hot soak trigger 1
+    LEVEL, // hot soak trigger 2
+    HOLD, // hot soak minutes 1
+    HOLD, // hot soak minutes 2
+    LEVEL, // warm block load
+    RATE, // warm rate 1
+    RATE, // warm rate 2
+    RATE, // warm rate 3
+    LEVEL, // warm break 1
+    LEVEL, // warm break 2
+    LEVEL, // warm soak trigger 1
+    LEVEL, // warm soak trigger 2
+    HOLD, // warm soak minutes 1
+    HOLD, // warm soak minutes 2
+    LEVEL, // cold block load
+    RATE, // cold rate 1
+    RATE, // cold rate 2
+    RATE, // cold rate 3
+    LEVEL, // cold break 1
+    LEVEL, // cold break 2
+    LEVEL, // cold soak trigger 1
+    LEVEL, // cold soak trigger 2
+    HOLD, // cold soak minutes 1
+    HOLD, // cold soak minutes 2
+    RATE, // ramp-up rate 1
+    RATE, // ramp-up rate 2
+    RATE, // ramp-up rate 3
+    RATE, // ramp-up rate 4
+    RATE, // ramp-up rate 5
+    LEVEL, // ramp-up break 1
+    LEVEL, // ramp-up break 2
+    LEVEL, // ramp-up break 3
+    LEVEL, // ramp-up break 4
+    LEVEL, // dwell trigger 1
+    LEVEL, // dwell trigger 2
+    LEVEL, // dwell trigger 3
+    HOLD, // dwell minutes 1
+    HOLD, // dwell minutes 2
+    HOLD, // dwell minutes 3
+    RATE, // ramp-down rate 1
+    RATE, // ramp-down rate 2
+    RATE, // ramp-down rate 3
+    RATE, // ramp-down rate 4
+    RATE, // ramp-down rate 5
+    LEVEL, // ramp-down break 1
+    LEVEL, // ramp-down break 2
+    LEVEL, // ramp-down break 3
+    LEVEL, // ramp-down break 4
+    RATE, // deload rate 1
+    RATE, // deload rate 2
+    LEVEL, // deload break
 ];
 
-// The highest that each may be.
-const HIGHS: [u32; 62] = [
-    2000000, // capacity
-    2000000, // short-term maximum
-    2000000, // MSG
-    100000, // hot boundary
-    100000, // warm boundary
-    2000000, // hot block load
-    200000, // hot rate 1
-    200000, // hot rate 2
-    200000, // hot rate 3
-    2000000, // hot break 1
-    2000000, // hot break 2
-    2000000, // hot soak trigger 1
-    2000000, // hot soak trigger 2
-    1440, // hot soak minutes 1
-    1440, // hot soak minutes 2
-    2000000, // warm block load
-    200000, // warm rate 1
-    200000, // warm rate 2
-    200000, // warm rate 3
-    2000000, // warm break 1
-    2000000, // warm break 2
-    2000000, // warm soak trigger 1
-    2000000, // warm soak trigger 2
-    1440, // warm soak minutes 1
-    1440, // warm soak minutes 2
-    2000000, // cold block load
-    200000, // cold rate 1
-    200000, // cold rate 2
-    200000, // cold rate 3
-    2000000, // cold break 1
-    2000000, // cold break 2
-    2000000, // cold soak trigger 1
-    2000000, // cold soak trigger 2
-    1440, // cold soak minutes 1
-    1440, // cold soak minutes 2
-    200000, // ramp-up rate 1
-    200000, // ramp-up rate 2
-    200000, // ramp-up rate 3
-    200000, // ramp-up rate 4
-    200000, // ramp-up rate 5
-    2000000, // ramp-up break 1
-    2000000, // ramp-up break 2
-    2000000, // ramp-up break 3
-    2000000, // ramp-up break 4
-    2000000, // dwell trigger 1
-    2000000, // dwell trigger 2
-    2000000, // dwell trigger 3
-    1440, // dwell minutes 1
-    1440, // dwell minutes 2
-    1440, // dwell minutes 3
-    200000, // ramp-down rate 1
-    200000, // ramp-down rate 2
-    200000, // ramp-down rate 3
-    200000, // ramp-down rate 4
-    200000, // ramp-down rate 5
-    2000000, // ramp-down break 1
-    2000000, // ramp-down break 2
-    2000000, // ramp-down break 3
-    2000000, // ramp-down break 4
-    200000, // deload rate 1
-    200000, // deload rate 2
-    2000000, // deload break
-];
-
-// All 62 numbers lie in their ranges. Each is looked at, whatever the ones before it say: the compiler then compares four at once.
-fn all_fit(ns: [u32; 62]) -> bool
-    ensures { result ≡ fit_from unit_ranges ns 0 }
+// All 62 numbers lie in their ranges. Each is looked at, whatever the ones before it say.
+fn all_fit(ns: &[u32; 62]) -> bool
+    ensures { result ≡ fit_from unit_ranges ns.now 0 }
 {
-    let lows = LOWS;
-    let highs = HIGHS;
     let mut fit = true;
-    let mut i: usize = 0;
-    while i < 62 {
-        let v = ns[i];
-        let low = lows[i];
-        let high = highs[i];
-        fit = fit & ((low <= v) & (v <= high));
-        i += 1;
+    for i in 0..62 {
+        let range = RANGES[i];
+        fit &= (range.low <= ns[i]) & (ns[i] <= range.high);
     }
     fit
 }
 
 // A break lies below the one before it.
-#[tactic(auto, unfolding(records::specs::Fields::falls))]
 fn breaks_fall(breaks: &[u32]) -> bool
     ensures { result ≡ falls breaks.now }
 {
-    let mut before: u32 = 0;
-    let mut i: usize = 0;
-    while i < breaks.len() {
-        let here = breaks[i];
-        if here < before {
-            return true;
-        }
-        before = here;
-        i += 1;
-    }
-    false
+    !breaks.is_sorted()
 }
 
 // A column's breaks fall.
-fn columns_fall(columns: [Column; 3]) -> bool
-    ensures { result ≡ some (λ c. falls c.breaks) columns }
+fn columns_fall(columns: &[Column; 3]) -> bool
+    ensures { result ≡ some (λ c. falls c.breaks) columns.now }
 {
-    let hot = columns[0];
-    let warm = columns[1];
-    let cold = columns[2];
-    let a = breaks_fall(&hot.breaks);
-    let b = breaks_fall(&warm.breaks);
-    let c = breaks_fall(&cold.breaks);
-    a | (b | c)
+    columns.iter().any(|c| breaks_fall(&c.breaks))
 }
 
 // A block load lies above a level.
-fn some_block_above(msg: u32, columns: [Column; 3]) -> bool
-    ensures { result ≡ some (λ c. ltb msg c.block) columns }
+fn some_block_above(msg: u32, columns: &[Column; 3]) -> bool
+    ensures { result ≡ some (λ c. ltb msg c.block) columns.now }
 {
-    let a = msg < columns[0].block;
-    let b = msg < columns[1].block;
-    let c = msg < columns[2].block;
-    a | (b | c)
+    columns.iter().any(|c| msg < c.block)
 }
 
 // A unit's figures disagree.
 #[tactic(auto, unfolding(records::specs::Fields::disagrees))]
-fn unit_disagrees(u: UnitData) -> bool
-    ensures { result ≡ disagrees u }
+fn unit_disagrees(u: &UnitData) -> bool
+    ensures { result ≡ disagrees u.now }
 {
-    let columns = u.columns;
-    let up = u.up;
-    let down = u.down;
-    let deload = u.deload;
-    let starting = columns_fall(columns);
-    let rising = breaks_fall(&up.breaks);
-    let falling = breaks_fall(&down.breaks);
-    let unloading = breaks_fall(&deload.breaks);
-    let breaks = starting | (rising | (falling | unloading));
-    let maximum = u.maximum < u.capacity;
-    let msg = u.capacity < u.msg;
-    let block = some_block_above(u.msg, columns);
-    let boundaries = u.warm < u.hot;
-    breaks | (maximum | (msg | (block | boundaries)))
+    columns_fall(&u.columns)
+        || breaks_fall(&u.up.breaks)
+        || breaks_fall(&u.down.breaks)
+        || breaks_fall(&u.deload.breaks)
+        || u.maximum < u.capacity
+        || u.capacity < u.msg
+        || some_block_above(u.msg, &u.columns)
+        || u.warm < u.hot
 }
 
 // The unit that a body holds, where its numbers lie in their ranges and its figures agree.
@@ -314,10 +232,10 @@ pub fn read_unit(body: &[u8]) -> Result<UnitData, Refusal>
 {
     let ns = unit_numbers(body);
     let unit = unit_of(ns);
-    if !all_fit(ns) {
+    if !all_fit(&ns) {
         return Err(Refusal::UnitField);
     }
-    if unit_disagrees(unit) {
+    if unit_disagrees(&unit) {
         return Err(Refusal::UnitDisagrees);
     }
     Ok(unit)

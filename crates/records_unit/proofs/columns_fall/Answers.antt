@@ -1,5 +1,12 @@
-use Rattle.records_unit.proofs.Laws.{some_three}
+use Rattle.std.proofs.Common.{rules, tests, ◌∙◌}
+use Rattle.std.proofs.lemmas.Iterator.{YieldsList-from_slice}
+use Rattle.std.proofs.lemmas.Iterator.Search.{any_from_yields_List}
+use Rattle.records.specs.declared.Column.{Column}
+use Rattle.records.specs.Fields.{falls}
+use Rattle.records_unit.proofs.Laws.{some_is}
 use Rattle.records_unit.proofs.columns_fall.Goals as goal
 
 pub returns : goal.returns
-returns c = rw (c.breaks_fall-c.ensures, c.breaks_fall-b.ensures, c.breaks_fall-a.ensures) (some_three _ c.args.columns _ c.well_formed.0.1.0.1)
+returns c =
+    any_from_yields_List (λ (x : Column). falls x.breaks) _ _ c.any.result c.any.ensures.ran (YieldsList-from_slice _ c.iter.ensures.rest)
+    (λ x b q k. search (rules, tests)) ∙ some_is _ c.args.columns.now
