@@ -10,7 +10,7 @@ use Rattle.level.specs.Numbers.{instruction_places, boundary_places}
 use Rattle.records.specs.declared.Instruction.{Instruction}
 use Rattle.records.specs.Records.{numbers, no_instruction}
 use Rattle.records.specs.Fields.{unit_answer}
-use Rattle.records.specs.declared.Answer.TheVariants.{Accepted}
+use Rattle.std.specs.Prelude.{Ok, Err}
 use Rattle.validation.specs.Kept.{numbered, validated}
 use Rattle.profile.specs.declared.Taken.{Taken}
 use Rattle.profile.specs.declared.Finding.{Finding}
@@ -46,7 +46,7 @@ module _ (d : Day) (rs : List (List ℕ)) (m : Made d rs) (c : d.closed ≡ true
   unfolding taken_in
   has_unit = (m.fits.low (m.started c)).0
 
-  pub unit_fields : unit_answer (numbers (body_of_kind 1 rs) 62) ≡ Accepted
+  pub unit_fields : unit_answer (numbers (body_of_kind 1 rs) 62) ≡ Ok tt
   unit_fields = m.fits.unit has_unit
 
   pub start_keeps : Low (taken_in rs).unit (taken_in rs).start

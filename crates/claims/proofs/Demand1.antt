@@ -11,11 +11,10 @@ use borrow.Author.Tests.{ne_eqb}
 use Rattle.level.specs.Choice.{pick}
 use Rattle.level.specs.Numbers.{instruction_places}
 use Rattle.level.proofs.Lists.{by_bool, map_length}
-use Rattle.records.specs.declared.Answer.{Answer}
-use Rattle.records.specs.declared.Answer.TheVariants.{Accepted, Refused}
+use Rattle.std.specs.Prelude.{Ok, Err}
 use Rattle.records.specs.declared.Refusal.{Refusal}
 use Rattle.records.specs.declared.Refusal.TheVariants.{UnknownKind, TooFewBytes, UnitField, UnitDisagrees, OpeningField, CodeField, EffectiveTime, IssueTime, LevelOrRates, SecondOne, BeforeUnit, OpeningTooHigh, TooManyInstructions, AfterClose, NotReady, SliceTooShort, QuantityTooHigh}
-use Rattle.records.specs.Answers.{refusal_number, number_of, accepted, refusing, before, first_refusal}
+use Rattle.records.specs.Answers.{Answer, refusal_number, number_of, accepted, refusing, before, first_refusal}
 use Rattle.records.specs.Codes.{meaning_of, is_unknown}
 use Rattle.records.specs.Records.{size_of, numbers, unit_of, opening_of, instruction_of}
 use Rattle.records.specs.Fields.{unit_ranges, fit_from, disagrees, opening_fits, figures_fit, unit_answer, opening_answer, instruction_answer}
@@ -162,17 +161,17 @@ module _ (rs : List (List ℕ)) (s : List ℕ) where
       (row TooFewBytes (no_bytes s) ∷ row UnknownKind (unknown_kind s) ∷ row TooFewBytes (too_few s) ∷ row AfterClose (after_close rs)
       ∷ row SecondOne (second_unit_or_opening rs s) ∷ row BeforeUnit (before_a_unit rs s) ∷ row TooManyInstructions (forty_first_instruction rs s)
       ∷ row NotReady (close_without_opening rs s) ∷ [])
-      (before (field_answer (kind_of s) (body_of s)) (answers_then last Accepted)) (field_rulings (kind_of s) (body_of s) (rulings_then last []))
-      (fields (body_of s) (answers_then last Accepted) (rulings_then last []) (rows_ruled last Accepted [] refl) (kind_of s))
+      (before (field_answer (kind_of s) (body_of s)) (answers_then last (Ok tt))) (field_rulings (kind_of s) (body_of s) (rulings_then last []))
+      (fields (body_of s) (answers_then last (Ok tt)) (rulings_then last []) (rows_ruled last (Ok tt) [] refl) (kind_of s))
 
 -- ---- a refusal leaves all as it was
 refused_not : (a : Answer) → 1 ≤ number_of a → accepted a ≡ false
-refused_not Accepted h = absurd (omega arith)
-refused_not (Refused r) h = refl
+refused_not (Ok _) h = absurd (omega arith)
+refused_not (Err r) h = refl
 
 settled : (a : Answer) (d e : Day) (n : ℕ) → (settle a d (accept e n)).answer ≡ a
-settled Accepted d e n = refl
-settled (Refused r) d e n = refl
+settled (Ok _) d e n = refl
+settled (Err r) d e n = refl
 
 module _ (d : Day) where
   answer_is : (s : List ℕ) → (step_of d s).answer ≡ answer_of d s
@@ -212,7 +211,7 @@ module _ (d : Day) (rs : List (List ℕ)) (m : Made d rs) where
       (printed_from d rs m c) ∙ rw (sym m.closed, c) (go (ltb (length o) (length (listing_from rs)))))
       (λ c. rw (sym m.closed, c) refl)
     where
-      go : (b : Bool) → number_of (before (refusing b SliceTooShort) Accepted) ≡ pick b 26 0
+      go : (b : Bool) → number_of (before (refusing b SliceTooShort) (Ok tt)) ≡ pick b 26 0
       go true = refl
       go false = refl
 

@@ -8,22 +8,20 @@ use lib.ListN.{length, drop, length-drop}
 use lib.Seq.{take-append_seam, drop-append_seam}
 use borrow.Author.Tests.{ne_eqb}
 use Rattle.level.specs.Choice.{pick}
-use Rattle.records.specs.declared.Answer.{Answer}
-use Rattle.records.specs.declared.Answer.TheVariants.{Accepted, Refused}
+use Rattle.std.specs.Prelude.{Ok, Err}
 use Rattle.records.specs.declared.Refusal.{Refusal}
 use Rattle.records.specs.declared.Refusal.TheVariants.{UnknownKind, TooFewBytes, UnitField, UnitDisagrees, OpeningField, CodeField, EffectiveTime, IssueTime, LevelOrRates, SecondOne, BeforeUnit, OpeningTooHigh, TooManyInstructions, AfterClose, NotReady, SliceTooShort, QuantityTooHigh}
-use Rattle.records.specs.Answers.{refusal_number, number_of, accepted}
+use Rattle.records.specs.Answers.{Answer, refusal_number, number_of, accepted}
 use Rattle.profile.specs.Profile.{paper}
 use Rattle.day.specs.declared.Day.{Day}
 use Rattle.day.specs.declared.Stepped.{Stepped}
-use Rattle.day.specs.declared.Ran.{Ran}
 use Rattle.day.specs.Day.{empty, found_in, quantities_in}
 use Rattle.day.specs.Step.{step_of}
 use Rattle.day.proofs.Answers.{never}
 use Rattle.day.proofs.ByKind.{step_used}
 use Rattle.lines.specs.Text.{laid}
 use Rattle.listing.specs.Listing.{suffices, printed_day, list_answer, list_of, lent_after}
-use Rattle.listing.specs.Program.{run_by, ran_by}
+use Rattle.listing.specs.Program.{Ran, run_by, ran_by}
 use Rattle.listing.specs.Result.{in_one, run_result, lent_run, listed_result, listed_lent}
 use Rattle.listing.proofs.Onward.{onward, run_onward, used_some, enough}
 use Rattle.claims.specs.Calls.{Call, sends, asks, after_calls, wrote, day_after, records_of, listings_of}
@@ -56,9 +54,9 @@ some_number NotReady = omega arith
 some_number SliceTooShort = omega arith
 some_number QuantityTooHigh = omega arith
 
-no_number : (a : Answer) → number_of a ≡ 0 → a ≡ Accepted
-no_number Accepted e = refl
-no_number (Refused r) e = absurd (omega (arith, some_number r))
+no_number : (a : Answer) → number_of a ≡ 0 → a ≡ Ok tt
+no_number (Ok _) e = refl
+no_number (Err r) e = absurd (omega (arith, some_number r))
 
 -- it is the first where it stands first; and a number alone is the first
 first_here : (n : ℕ) (ns : List ℕ) → 1 ≤ n → first_refused (n ∷ ns) ≡ n
@@ -81,7 +79,7 @@ module _ (o : List ℕ) where
     left : e ≡ r.day
     listings : ws ≡ wrote r.day (asks o ∷ [])
     number : k ≡ ends_with r.answer r.day
-    closed : r.answer ≡ Accepted → r.day.closed ≡ true
+    closed : r.answer ≡ Ok tt → r.day.closed ≡ true
 
   abbrev CallsRun : Day → List Call → Ran → Type 0
   CallsRun d cs r = let c : List Call = cs ++ (asks o ∷ []) in Runs (after_calls d c) (wrote d c) (first_refused (numbers_of d c)) r
@@ -98,14 +96,14 @@ module _ (o : List ℕ) where
           ((k : Day) (v : List ℕ) → length v < n → CallsRun k (in_turn n k v) (run_by (found_in paper) n k v)) →
           let c : List Call = pick (accepted a && not b) (in_turn n e q) [] ++ (asks o ∷ []) in
           Runs (after_calls e c) (wrote e c) (first_refused (number_of a ∷ numbers_of e c)) (onward (found_in paper) n a e b q)
-      go (Refused x) e b q c l f = record {
+      go (Err x) e b q c l f = record {
         left = refl;
         listings = refl;
         number = first_here (refusal_number x) (numbers_of e (asks o ∷ [])) (some_number x);
         closed = λ y. never (ap accepted y);
       }
-      go Accepted e true q c l f = record { left = refl; listings = refl; number = first_only (number_of (list_of e o).answer); closed = λ y. c }
-      go Accepted e false q c l f = f e q (l refl)
+      go (Ok _) e true q c l f = record { left = refl; listings = refl; number = first_only (number_of (list_of e o).answer); closed = λ y. c }
+      go (Ok _) e false q c l f = f e q (l refl)
 
 -- those of the exported function
 runs : (s o : List ℕ) (r : Ran) → r ≡ ran_by (found_in paper) s →
@@ -117,13 +115,13 @@ runs s o r made =
     (enough (found_in paper) (suc n) n empty s (omega arith) (omega arith) ∙ sym made) (calls_run o (suc n) empty s (omega arith))
 
 -- a run that is accepted leaves the day closed, and its listing has at most 46,080 bytes
-pub run_fits : (s : List ℕ) (r : Ran) → r ≡ ran_by (found_in paper) s → r.answer ≡ Accepted →
+pub run_fits : (s : List ℕ) (r : Ran) → r ≡ ran_by (found_in paper) s → r.answer ≡ Ok tt →
     (r.day.closed ≡ true) × (length (printed_day r.day) ≤ suffices)
 run_fits s r made a =
     let k = runs s [] r made in
     (k.closed a, rw k.left at (listing_suffices (calls_for s []) (ap (λ (d : Day). d.closed) k.left ∙ k.closed a)))
 
-pub ran_fits : (s : List ℕ) → (ran_by (found_in paper) s).answer ≡ Accepted →
+pub ran_fits : (s : List ℕ) → (ran_by (found_in paper) s).answer ≡ Ok tt →
     ((ran_by (found_in paper) s).day.closed ≡ true) × (length (printed_day (ran_by (found_in paper) s).day) ≤ suffices)
 ran_fits s a = run_fits s (ran_by (found_in paper) s) refl a
 
@@ -131,20 +129,20 @@ ran_fits s a = run_fits s (ran_by (found_in paper) s) refl a
 module _ (o : List ℕ) where
   refused_gives : (a : Answer) (d : Day) → 1 ≤ ends_with o a d → (run_result a d o ≡ ends_with o a d * 4294967296) × (lent_run a d o ≡ o)
   unfolding ends_with list_of lent_after
-  refused_gives (Refused x) d h = (refl, refl)
-  refused_gives Accepted d h = go (list_answer d o) h
+  refused_gives (Err x) d h = (refl, refl)
+  refused_gives (Ok _) d h = go (list_answer d o) h
     where
       go : (b : Answer) → 1 ≤ number_of b →
           (in_one b (pick (accepted b) (length (printed_day d)) 0) ≡ number_of b * 4294967296) × (pick (accepted b) (laid (printed_day d) o) o ≡ o)
-      go Accepted h = absurd (omega arith)
-      go (Refused x) h = (refl, refl)
+      go (Ok _) h = absurd (omega arith)
+      go (Err x) h = (refl, refl)
 
-  none_refused : (a : Answer) (d : Day) → ends_with o a d ≡ 0 → (a ≡ Accepted) × (list_answer d o ≡ Accepted)
+  none_refused : (a : Answer) (d : Day) → ends_with o a d ≡ 0 → (a ≡ Ok tt) × (list_answer d o ≡ Ok tt)
   unfolding ends_with list_of
-  none_refused Accepted d e = (refl, no_number (list_answer d o) e)
-  none_refused (Refused x) d e = absurd (omega (arith, some_number x))
+  none_refused (Ok _) d e = (refl, no_number (list_answer d o) e)
+  none_refused (Err x) d e = absurd (omega (arith, some_number x))
 
-  taken_gives : (a : Answer) (d : Day) → a ≡ Accepted → list_answer d o ≡ Accepted →
+  taken_gives : (a : Answer) (d : Day) → a ≡ Ok tt → list_answer d o ≡ Ok tt →
       (run_result a d o ≡ length (printed_day d)) × (lent_run a d o ≡ laid (printed_day d) o)
   unfolding list_of lent_after
   taken_gives a d e l = (rw (e, l), rw (e, l))
@@ -165,7 +163,7 @@ module _ (s o : List ℕ) where
   refused = rw k.number (refused_gives o r.answer r.day)
 
   module _ (e : refused_with s o ≡ 0) where
-    no_refusal : (r.answer ≡ Accepted) × (list_answer r.day o ≡ Accepted)
+    no_refusal : (r.answer ≡ Ok tt) × (list_answer r.day o ≡ Ok tt)
     no_refusal = none_refused o r.answer r.day (sym k.number ∙ e)
 
     gives : (listed_result s o ≡ length p) × (listed_lent s o ≡ laid p o)

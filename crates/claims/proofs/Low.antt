@@ -12,7 +12,7 @@ use Rattle.level.proofs.Lists.{and_true, or_false}
 use Rattle.records.specs.declared.Column.{Column}
 use Rattle.records.specs.declared.UnitData.{UnitData}
 use Rattle.records.specs.declared.Opening.{Opening}
-use Rattle.records.specs.declared.Answer.TheVariants.{Accepted}
+use Rattle.std.specs.Prelude.{Ok, Err}
 use Rattle.records.specs.declared.Refusal.TheVariants.{UnitField, UnitDisagrees, OpeningField}
 use Rattle.records.specs.Answers.{accepted, refusing, first_refusal}
 use Rattle.records.specs.Records.{unit_of, opening_of}
@@ -24,12 +24,12 @@ use Rattle.day.specs.Step.{too_high}
 use Rattle.day.proofs.Answers.{never}
 
 -- ---- what the fields guarantee
-module _ (ns : List ℕ) (a : unit_answer ns ≡ Accepted) where
+module _ (ns : List ℕ) (a : unit_answer ns ≡ Ok tt) where
   agrees : disagrees (unit_of ns) ≡ false
   unfolding unit_answer
   agrees = go (fit_from unit_ranges ns 0) (disagrees (unit_of ns)) a
     where
-      go : (x y : Bool) → first_refusal (refusing (not x) UnitField ∷ refusing y UnitDisagrees ∷ []) ≡ Accepted → y ≡ false
+      go : (x y : Bool) → first_refusal (refusing (not x) UnitField ∷ refusing y UnitDisagrees ∷ []) ≡ Ok tt → y ≡ false
       go true true e = never (ap accepted e)
       go true false e = refl
       go false y e = never (ap accepted e)
@@ -47,7 +47,7 @@ module _ (ns : List ℕ) (a : unit_answer ns ≡ Accepted) where
   unfolding unit_of unit_ranges column_ranges ramp_ranges a_maximum
   maximum_low = (fit_at unit_ranges ns 0 1 (fits ns a) (omega arith)).1
 
-pub heat_low : (b : List ℕ) → opening_answer b ≡ Accepted → (opening_of b).heat ≤ 3
+pub heat_low : (b : List ℕ) → opening_answer b ≡ Ok tt → (opening_of b).heat ≤ 3
 unfolding opening_answer opening_fits
 heat_low b a =
     let o : Opening = opening_of b in
@@ -56,7 +56,7 @@ heat_low b a =
     leb-true o.heat 3 (and_true (leb 1 o.heat) (leb o.heat 3)
     (and_true (leb 1 o.heat && leb o.heat 3) (leb o.off 10000000) e).0).1
   where
-    is : (x : Bool) → refusing (not x) OpeningField ≡ Accepted → x ≡ true
+    is : (x : Bool) → refusing (not x) OpeningField ≡ Ok tt → x ≡ true
     is true e = refl
     is false e = never (ap accepted e)
 
@@ -67,6 +67,6 @@ level_low u o e =
     (ltb-false (grains u.maximum) o.level x.0, ltb-false u.maximum o.target (or_false (ltb u.maximum o.target) _ x.1).0)
 
 -- what an opening starts that meets neither 5 nor 22
-pub start_low : (u : UnitData) (b : List ℕ) → opening_answer b ≡ Accepted → too_high u (opening_of b) ≡ false → Low u (start_of (opening_of b))
+pub start_low : (u : UnitData) (b : List ℕ) → opening_answer b ≡ Ok tt → too_high u (opening_of b) ≡ false → Low u (start_of (opening_of b))
 unfolding start_of
 start_low u b a e = let l = level_low u (opening_of b) e in record { level = l.0; target = l.1; ordered = l.1; heat = heat_low b a }

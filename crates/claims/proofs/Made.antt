@@ -13,7 +13,7 @@ use Rattle.level.specs.Choice.{pick}
 use Rattle.level.specs.Lists.{those, some, filled}
 use Rattle.level.specs.Numbers.{instruction_places}
 use Rattle.level.proofs.Lists.{by_bool, some_append}
-use Rattle.records.specs.declared.Answer.TheVariants.{Accepted}
+use Rattle.std.specs.Prelude.{Ok, Err}
 use Rattle.records.specs.Records.{size_of, numbers, unit_of, column_of, trigger_of, opening_of, instruction_of, no_instruction}
 use Rattle.records.specs.Fields.{unit_answer}
 use Rattle.profile.specs.declared.Taken.{Taken}
@@ -184,7 +184,7 @@ module _ (rs : List (List ℕ)) (s : List ℕ) (may : MayCome rs s) where
 
 -- ---- what the refusals see to
 abbrev UnitFits : List ℕ → Type 0
-UnitFits b = unit_answer (numbers b 62) ≡ Accepted
+UnitFits b = unit_answer (numbers b 62) ≡ Ok tt
 
 -- what the day starts from keeps to its unit, which came before
 abbrev LowStart : Taken → Type 0

@@ -11,7 +11,7 @@ use Rattle.level.specs.Lists.{All, filled, list_from}
 use Rattle.level.specs.Bounds.{most_seconds}
 use Rattle.level.specs.Numbers.{instruction_places, course_places}
 use Rattle.records.specs.declared.UnitData.{UnitData}
-use Rattle.records.specs.declared.Answer.TheVariants.{Accepted}
+use Rattle.std.specs.Prelude.{Ok, Err}
 use Rattle.records.specs.Records.{numbers}
 use Rattle.course.specs.declared.Course.{Course}
 use Rattle.course.specs.declared.Piece.{Piece}
@@ -180,7 +180,7 @@ module _ (d : Day) (rs : List (List ℕ)) (m : Made d rs) (c : d.closed ≡ true
       )
 
   -- so a slice of that length is always long enough
-  pub always_listed : (o : List ℕ) → suffices ≤ length o → list_answer d o ≡ Accepted
+  pub always_listed : (o : List ℕ) → suffices ≤ length o → list_answer d o ≡ Ok tt
   unfolding list_answer
   always_listed o h = simp (c, le-ltb (length o) (length (printed_day d)) (omega (arith, listing_fits)))
 

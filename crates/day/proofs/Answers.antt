@@ -4,10 +4,9 @@ use mathlib.Core.List.{List, [], ◌∷◌}
 use mathlib.Core.Bool.{Bool, true, false, not, true≢false}
 use borrow.Author.Tests.{not-true, not-false}
 use Rattle.level.specs.Lists.{All}
-use Rattle.records.specs.declared.Answer.{Answer}
-use Rattle.records.specs.declared.Answer.TheVariants.{Accepted, Refused}
+use Rattle.std.specs.Prelude.{Ok, Err}
 use Rattle.records.specs.declared.Refusal.{Refusal}
-use Rattle.records.specs.Answers.{accepted, refusing, first_refusal}
+use Rattle.records.specs.Answers.{Answer, accepted, refusing, first_refusal}
 use Rattle.day.specs.declared.Day.{Day}
 use Rattle.day.specs.declared.Stepped.{Stepped}
 use Rattle.day.specs.Step.{settle}
@@ -15,22 +14,22 @@ use Rattle.day.specs.Step.{settle}
 pub never : {P : Type 0} → false ≡ true → P
 never e = absurd (true≢false (sym e))
 
-pub is_accepted : (a : Answer) → accepted a ≡ true → a ≡ Accepted
-is_accepted Accepted e = refl
-is_accepted (Refused r) e = never e
+pub is_accepted : (a : Answer) → accepted a ≡ true → a ≡ Ok tt
+is_accepted (Ok _) e = refl
+is_accepted (Err r) e = never e
 
 -- each of several answers is an acceptance where the first refusal of them is none
-pub all_accepted : (xs : List Answer) → first_refusal xs ≡ Accepted → All (λ (a : Answer). a ≡ Accepted) xs
+pub all_accepted : (xs : List Answer) → first_refusal xs ≡ Ok tt → All (λ (a : Answer). a ≡ Ok tt) xs
 all_accepted [] e = tt
-all_accepted (Accepted ∷ xs) e = (refl, all_accepted xs e)
-all_accepted (Refused r ∷ xs) e = never (ap accepted e)
+all_accepted (Ok _ ∷ xs) e = (refl, all_accepted xs e)
+all_accepted (Err r ∷ xs) e = never (ap accepted e)
 
 -- a condition that does not hold
-pub not_met : (c : Bool) (r : Refusal) → refusing c r ≡ Accepted → c ≡ false
+pub not_met : (c : Bool) (r : Refusal) → refusing c r ≡ Ok tt → c ≡ false
 not_met true r e = never (ap accepted e)
 not_met false r e = refl
 
-pub met_not : (c : Bool) (r : Refusal) → refusing (not c) r ≡ Accepted → c ≡ true
+pub met_not : (c : Bool) (r : Refusal) → refusing (not c) r ≡ Ok tt → c ≡ true
 met_not true r e = refl
 met_not false r e = never (ap accepted e)
 

@@ -11,10 +11,9 @@ use borrow.Author.Tests.{eqb-false, leb-false, ltb-false, eq-eqb, ne_eqb}
 use Rattle.level.specs.Lists.{some}
 use Rattle.level.specs.Numbers.{instruction_places}
 use Rattle.level.proofs.Lists.{by_bool}
-use Rattle.records.specs.declared.Answer.{Answer}
-use Rattle.records.specs.declared.Answer.TheVariants.{Accepted, Refused}
+use Rattle.std.specs.Prelude.{Ok, Err}
 use Rattle.records.specs.declared.Refusal.TheVariants.{UnknownKind, TooFewBytes, SecondOne, BeforeUnit, OpeningTooHigh, TooManyInstructions, AfterClose, NotReady, QuantityTooHigh}
-use Rattle.records.specs.Answers.{accepted, refusing, before, first_refusal}
+use Rattle.records.specs.Answers.{Answer, accepted, refusing, before, first_refusal}
 use Rattle.records.specs.Records.{size_of, numbers, opening_of}
 use Rattle.records.specs.Fields.{unit_answer, opening_answer, instruction_answer}
 use Rattle.profile.specs.declared.Taken.{Taken}
@@ -74,23 +73,23 @@ by_kind find d s =
 module _ (t : Taken) (b : List ℕ) where
   pub record UnitPasses : Type 0 where
     pub first : t.hasUnit ≡ false
-    pub fields : unit_answer (numbers b 62) ≡ Accepted
+    pub fields : unit_answer (numbers b 62) ≡ Ok tt
 
   pub record OpeningPasses : Type 0 where
     pub first : t.hasStart ≡ false
     pub unit : t.hasUnit ≡ true
-    pub fields : opening_answer b ≡ Accepted
+    pub fields : opening_answer b ≡ Ok tt
     pub low : too_high t.unit (opening_of b) ≡ false
 
   pub record InstructionPasses : Type 0 where
     pub unit : t.hasUnit ≡ true
     pub room : t.count < instruction_places
-    pub fields : instruction_answer day_seconds b ≡ Accepted
+    pub fields : instruction_answer day_seconds b ≡ Ok tt
 
-  pub unit_passes : first_refusal (unit_refusals t b) ≡ Accepted → UnitPasses
+  pub unit_passes : first_refusal (unit_refusals t b) ≡ Ok tt → UnitPasses
   unit_passes e = let a = all_accepted (unit_refusals t b) e in record { first = not_met t.hasUnit SecondOne a.0; fields = a.1.0 }
 
-  pub opening_passes : first_refusal (opening_refusals t b) ≡ Accepted → OpeningPasses
+  pub opening_passes : first_refusal (opening_refusals t b) ≡ Ok tt → OpeningPasses
   opening_passes e = let a = all_accepted (opening_refusals t b) e in record {
     first = not_met t.hasStart SecondOne a.0;
     unit = met_not t.hasUnit BeforeUnit a.1.0;
@@ -98,7 +97,7 @@ module _ (t : Taken) (b : List ℕ) where
     low = not_met (too_high t.unit (opening_of b)) OpeningTooHigh a.1.1.1.0;
   }
 
-  pub instruction_passes : first_refusal (instruction_refusals t b) ≡ Accepted → InstructionPasses
+  pub instruction_passes : first_refusal (instruction_refusals t b) ≡ Ok tt → InstructionPasses
   instruction_passes e = let a = all_accepted (instruction_refusals t b) e in record {
     unit = met_not t.hasUnit BeforeUnit a.0;
     room = leb-false instruction_places t.count (not_met (leb instruction_places t.count) TooManyInstructions a.1.0);
@@ -110,7 +109,7 @@ module _ (t : Taken) (f : Found) where
     pub started : t.hasStart ≡ true
     pub low : quantity_too_high t.unit f ≡ false
 
-  pub close_passes : first_refusal (close_refusals t f) ≡ Accepted → ClosePasses
+  pub close_passes : first_refusal (close_refusals t f) ≡ Ok tt → ClosePasses
   close_passes e = let a = all_accepted (close_refusals t f) e in record {
     started = met_not t.hasStart NotReady a.0;
     low = not_met (quantity_too_high t.unit f) QuantityTooHigh a.1.0;
@@ -143,7 +142,7 @@ module _ (find : Taken → Found) (d : Day) (s : List ℕ) where
     pub instruction : kind_of s ≡ 3 → InstructionPasses d.taken (body_of s)
     pub close : kind_of s ≡ 4 → ClosePasses d.taken (find d.taken)
 
-  pub passed : answer_by find d s ≡ Accepted → RecordPasses
+  pub passed : answer_by find d s ≡ Ok tt → RecordPasses
   unfolding no_bytes too_few kind_refusals
   passed e =
       let k : ℕ = kind_of s in
@@ -151,7 +150,7 @@ module _ (find : Taken → Found) (d : Day) (s : List ℕ) where
       all_accepted (refusing (no_bytes s) TooFewBytes ∷ refusing (unknown_kind s) UnknownKind ∷ refusing (too_few s) TooFewBytes ∷ refusing d.closed
       AfterClose ∷ first_refusal (kind_refusals find d.taken k (body_of s)) ∷ [])
       (last ∙ (sym (by_kind find d s) ∙ e)) in
-      let own : first_refusal (kind_refusals find d.taken k (body_of s)) ≡ Accepted = a.1.1.1.1.0 in
+      let own : first_refusal (kind_refusals find d.taken k (body_of s)) ≡ Ok tt = a.1.1.1.1.0 in
       record {
         some = not_zero (length s) (not_met (no_bytes s) TooFewBytes a.0);
         long = ltb-false (length s) (size_of k) (not_met (too_few s) TooFewBytes a.1.1.0);
@@ -171,17 +170,17 @@ module _ (find : Taken → Found) (d : Day) (s : List ℕ) where
           (before (refusing (unknown_kind s) UnknownKind) (before (refusing (too_few s) TooFewBytes) (before (refusing d.closed AfterClose) x))))
           (end (first_refusal (kind_refusals find d.taken (kind_of s) (body_of s))))
         where
-          end : (x : Answer) → before x Accepted ≡ x
-          end Accepted = refl
-          end (Refused r) = refl
+          end : (x : Answer) → before x (Ok tt) ≡ x
+          end (Ok _) = refl
+          end (Err r) = refl
 
-      kind_is : (k m : ℕ) → k ≡ m → first_refusal (kind_refusals find d.taken k (body_of s)) ≡ Accepted →
-          first_refusal (kind_refusals find d.taken m (body_of s)) ≡ Accepted
+      kind_is : (k m : ℕ) → k ≡ m → first_refusal (kind_refusals find d.taken k (body_of s)) ≡ Ok tt →
+          first_refusal (kind_refusals find d.taken m (body_of s)) ≡ Ok tt
       kind_is k m h e = ap (λ (n : ℕ). first_refusal (kind_refusals find d.taken n (body_of s))) (sym h) ∙ e
 
 -- ---- a step, by its kind
 module _ (find : Taken → Found) (d : Day) (s : List ℕ) where
-  pub step_empty : length s ≡ 0 → record { answer = Refused TooFewBytes; day = d; used = 0 } ≡ step_by find d s
+  pub step_empty : length s ≡ 0 → record { answer = Err TooFewBytes; day = d; used = 0 } ≡ step_by find d s
   unfolding step_by answer_by no_bytes
   step_empty h = simp (eq-eqb (length s) 0 h)
 
@@ -190,11 +189,11 @@ module _ (find : Taken → Found) (d : Day) (s : List ℕ) where
     unfolding no_bytes
     has = ne_eqb (length s) 0 (λ e. omega arith)
 
-    strange : unknown_kind s ≡ true → record { answer = Refused UnknownKind; day = d; used = 0 } ≡ step_by find d s
+    strange : unknown_kind s ≡ true → record { answer = Err UnknownKind; day = d; used = 0 } ≡ step_by find d s
     unfolding step_by answer_by
     strange u = simp (has, u)
 
-    pub no_kind : a_kind (get_or s 0 0) ≡ false → record { answer = Refused UnknownKind; day = d; used = 0 } ≡ step_by find d s
+    pub no_kind : a_kind (get_or s 0 0) ≡ false → record { answer = Err UnknownKind; day = d; used = 0 } ≡ step_by find d s
     unfolding kind_of unknown_kind
     no_kind out = strange (ap not out)
 

@@ -3,9 +3,8 @@
 use Rattle.std.specs.Prelude.{ℕ, List, [], ◌∷◌, not, leb, eqb}
 use Rattle.level.specs.Choice.{pick}
 use Rattle.level.specs.Numbers.{instruction_places}
-use Rattle.records.specs.declared.Answer.{Answer}
 use Rattle.records.specs.declared.Refusal.TheVariants.{SecondOne, BeforeUnit, OpeningTooHigh, TooManyInstructions, NotReady, QuantityTooHigh}
-use Rattle.records.specs.Answers.{refusing}
+use Rattle.records.specs.Answers.{Answer, refusing}
 use Rattle.records.specs.Records.{numbers, opening_of}
 use Rattle.records.specs.Fields.{unit_answer, opening_answer, instruction_answer}
 use Rattle.profile.specs.declared.Taken.{Taken}

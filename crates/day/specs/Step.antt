@@ -1,15 +1,13 @@
 -- Believed: document 01, Refusals. Taking a record: the refusals in the paper's order, and what an acceptance and a refusal return.
-use Rattle.std.specs.Prelude.{ℕ, ◌-◌, List, [], ◌∷◌, Bool, false, ◌&&◌, ◌||◌, not, leb, ltb, eqb, length, get_or, take, drop}
+use Rattle.std.specs.Prelude.{ℕ, ◌-◌, List, [], ◌∷◌, Bool, false, ◌&&◌, ◌||◌, not, leb, ltb, eqb, length, get_or, take, drop, Ok, Err}
 use Rattle.level.specs.Choice.{pick}
 use Rattle.level.specs.Level.{grains}
 use Rattle.level.specs.Lists.{some}
 use Rattle.level.specs.Numbers.{instruction_places}
 use Rattle.records.specs.declared.UnitData.{UnitData}
 use Rattle.records.specs.declared.Opening.{Opening}
-use Rattle.records.specs.declared.Answer.{Answer}
-use Rattle.records.specs.declared.Answer.TheVariants.{Accepted}
 use Rattle.records.specs.declared.Refusal.TheVariants.{UnknownKind, TooFewBytes, SecondOne, BeforeUnit, OpeningTooHigh, TooManyInstructions, AfterClose, NotReady, QuantityTooHigh}
-use Rattle.records.specs.Answers.{accepted, refusing, first_refusal}
+use Rattle.records.specs.Answers.{Answer, accepted, refusing, first_refusal}
 use Rattle.records.specs.Records.{size_of, numbers, opening_of}
 use Rattle.records.specs.Fields.{unit_answer, opening_answer, instruction_answer}
 use Rattle.profile.specs.declared.Taken.{Taken}
@@ -66,7 +64,7 @@ field_answer k b =
     pick (eqb k 1) (unit_answer (numbers b 62))
     (pick (eqb k 2) (opening_answer b)
     (pick (eqb k 3) (instruction_answer day_seconds b)
-    Accepted))
+    (Ok tt)))
 
 -- "22 opening level or target above the short-term maximum, or seconds off with a level above 0"
 unfoldable pub too_high : UnitData → Opening → Bool
@@ -78,7 +76,7 @@ quantity_too_high u f = some (λ q. ltb u.maximum q) f.quantities
 
 -- an acceptance: the day after it, and the bytes used; else "A refusal returns its number, the same day, the whole input slice"
 abbrev pub accept : Day → ℕ → Stepped
-accept d n = record { answer = Accepted; day = d; used = n }
+accept d n = record { answer = Ok tt; day = d; used = n }
 
 abbrev pub settle : Answer → Day → Stepped → Stepped
 settle a d x = pick (accepted a) x (record { answer = a; day = d; used = 0 })

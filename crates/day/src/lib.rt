@@ -1,6 +1,8 @@
 // The day: what was let in, whether it is closed, what close found.
 #![tactic(auto)]
 
+use records::Refusal;
+
 // A day: what was let in, whether it is closed, what close found.
 #[derive(Clone, Copy)]
 pub struct Day {
@@ -10,16 +12,10 @@ pub struct Day {
 }
 
 // What taking a record gives: the answer, the day after it, and how many bytes it used.
+// Not one `Result`: a refusal returns the day and the bytes used too, the same day and none.
 #[derive(Clone, Copy)]
 pub struct Stepped {
-    pub answer: records::Answer,
+    pub answer: Result<(), Refusal>,
     pub day: Day,
     pub used: usize,
-}
-
-// What taking records one after another comes to: the answer to the last one, and the day.
-#[derive(Clone, Copy)]
-pub struct Ran {
-    pub answer: records::Answer,
-    pub day: Day,
 }

@@ -3,9 +3,8 @@ use mathlib.Core.Path.{◌≡◌, ap, ◌∙◌}
 use native.Mathlib.Omega.{arith}
 use mathlib.Core.List.{[]}
 use mathlib.Core.Bool.{Bool, true, false}
-use Rattle.records.specs.declared.Answer.{Answer}
 use Rattle.records.specs.declared.Refusal.TheVariants.{QuantityTooHigh}
-use Rattle.records.specs.Answers.{accepted, refusing}
+use Rattle.records.specs.Answers.{Answer, accepted, refusing}
 use Rattle.records.specs.Records.{close_size}
 use Rattle.profile.specs.declared.Taken.{Taken}
 use Rattle.profile.specs.declared.Finding.{Finding}

@@ -2,77 +2,42 @@
 // paper's order, and what the record says. A slice of any kind is read as one of the kind asked for.
 #![tactic(auto)]
 
-ghost use Rattle.std.specs.Prelude.{◌≡◌, ◌<◌, []};
-ghost use Rattle.day.specs.Step.{too_high};
-ghost use Rattle.day_enter.specs.Fronts.{unit_refused, opening_refused, instruction_refused, unit_front, below_maximum, opening_front, instruction_front, close_front};
+ghost use Rattle.std.specs.Prelude.{◌≡◌, []};
 ghost use Rattle.records.specs.Records.{unit_of, opening_of};
+ghost use Rattle.day.specs.Step.{too_high};
+ghost use Rattle.day_enter.specs.Fronts.{unit_front, opening_front, instruction_front, close_front};
 ghost use Rattle.profile.specs.Taken.{start_of, no_taken};
 ghost use Rattle.profile.specs.Finding.{no_finding};
 ghost use Rattle.day.specs.Day.{empty};
 
 use day::Day;
-use records::{Answer, Refusal};
-use records_fields::{InstructionRead, OpeningRead};
-use records_unit::UnitRead;
+use profile::{Finding, Start, State, Taken, UnderWay};
+use records::{Instruction, Opening, Refusal, UnitData};
 
 // ---- nothing let in
 
 // A unit of zeros.
 #[tactic(auto, unfolding(records::specs::Records::unit_of, records::specs::Records::column_of, records::specs::Records::trigger_of))]
-pub fn no_unit() -> records::UnitData
+pub fn no_unit() -> UnitData
     ensures { result ≡ unit_of [] }
 {
-    let none = records::Trigger {
-        level: 0,
-        minutes: 0,
-    };
-    let column = records::Column {
-        block: 0,
-        rates: [0; 3],
-        breaks: [0; 2],
-        soaks: [none; 2],
-    };
-    let ramp = records::Ramp {
-        rates: [0; 5],
-        breaks: [0; 4],
-    };
-    let deload = records::Deload {
-        rates: [0; 2],
-        breaks: [0; 1],
-    };
-    records::UnitData {
-        capacity: 0,
-        maximum: 0,
-        msg: 0,
-        hot: 0,
-        warm: 0,
-        columns: [column; 3],
-        up: ramp,
-        dwells: [none; 3],
-        down: ramp,
-        deload,
-    }
+    UnitData::default()
 }
 
 // An opening of zeros.
 #[tactic(auto, unfolding(records::specs::Records::opening_of))]
-pub fn no_opening() -> records::Opening
+pub fn no_opening() -> Opening
     ensures { result ≡ opening_of [] }
 {
-    records::Opening {
-        level: 0,
-        target: 0,
-        heat: 0,
-        off: 0,
-    }
+    Opening::default()
 }
 
 // What an opening starts: no rate replaced, not maximised.
 #[tactic(auto, unfolding(profile::specs::Taken::start_of))]
-pub fn start_of(o: records::Opening) -> profile::Start
+pub fn start_of(o: Opening) -> Start
     ensures { result ≡ start_of o }
 {
-    profile::Start {
+    Start {
         level: o.level,
         target: o.target,
         heat: o.heat,
@@ -86,43 +51,37 @@ pub fn start_of(o: records::Opening) -> profile::Start
 
 // Nothing let in.
 #[tactic(auto, unfolding(profile::specs::Taken::no_taken))]
-pub fn no_taken() -> profile::Taken
+pub fn no_taken() -> Taken
     ensures { result ≡ no_taken }
 {
-    let unit = no_unit();
-    let opening = no_opening();
-    let start = start_of(opening);
-    let instruction = records_bytes::no_instruction();
-    profile::Taken {
+    Taken {
         hasUnit: false,
-        unit,
+        unit: no_unit(),
         hasStart: false,
-        start,
+        start: start_of(no_opening()),
         count: 0,
-        instructions: [instruction; level::INSTRUCTIONS],
+        instructions: [records_bytes::no_instruction(); level::INSTRUCTIONS],
     }
 }
 
 // Nothing found.
 #[tactic(auto, unfolding(profile::specs::Finding::no_finding))]
-fn no_finding() -> profile::Finding
+fn no_finding() -> Finding
     ensures { result ≡ no_finding }
 {
     let course = course_rates::no_course();
-    let last = profile::UnderWay {
-        course,
-        maximised: false,
-        ordered: 0,
-        off: 0,
-    };
-    let end = profile::State { level: 0, off: 0 };
-    profile::Finding {
+    Finding {
         fates: [0; level::INSTRUCTIONS],
         started: 0,
         courses: [course; level::COURSES],
         sums: [0; level::BOUNDARIES],
-        last,
-        end,
+        last: UnderWay {
+            course,
+            maximised: false,
+            ordered: 0,
+            off: 0,
+        },
+        end: State { level: 0, off: 0 },
     }
 }
 
@@ -131,150 +90,107 @@ fn no_finding() -> profile::Finding
 pub fn empty_day() -> Day
     ensures { result ≡ empty }
 {
-    let taken = no_taken();
-    let found = no_finding();
     Day {
-        taken,
+        taken: no_taken(),
         closed: false,
-        found,
+        found: no_finding(),
     }
 }
 
 // ---- a record at the front of the input
 
-// A unit that is refused unread: zeros.
-fn refuse_unit(r: Refusal) -> UnitRead
-    ensures { result ≡ unit_refused r }
-{
-    let answer = Answer::Refused(r);
-    let unit = no_unit();
-    UnitRead { answer, unit }
-}
-
 // A unit at the front of the input.
 #[tactic(auto, unfolding(crate::specs::Fronts::unit_front))]
-pub fn unit_front(hasUnit: bool, closed: bool, input: &[u8]) -> UnitRead
-    ensures { result ≡ unit_front hasUnit closed input.now }
+pub fn unit_front(has_unit: bool, closed: bool, input: &[u8]) -> Result<UnitData, Refusal>
+    ensures { result ≡ unit_front has_unit closed input.now }
 {
     if input.len() < records::UNIT_SIZE {
-        return refuse_unit(Refusal::TooFewBytes);
+        return Err(Refusal::TooFewBytes);
     }
     if closed {
-        return refuse_unit(Refusal::AfterClose);
+        return Err(Refusal::AfterClose);
     }
-    if hasUnit {
-        return refuse_unit(Refusal::SecondOne);
+    if has_unit {
+        return Err(Refusal::SecondOne);
     }
     records_unit::read_unit(&input[1..records::UNIT_SIZE])
 }
 
 // Refusal 22: level or target above the short-term maximum, or seconds off with a level above 0.
 #[tactic(auto, unfolding(day::specs::Step::too_high, level::specs::Level::from_kw))]
-fn too_high(unit: records::UnitData, o: records::Opening) -> bool
-    ensures { result ≡ too_high unit o }
+fn too_high(unit: &UnitData, o: &Opening) -> bool
+    ensures { result ≡ too_high unit.now o.now }
 {
-    let most = level::Level::from_kw(unit.maximum);
-    let wide = o.level as u64;
-    let level = most.grains < wide;
-    let target = unit.maximum < o.target;
-    let running_off = (0 < o.level) & (0 < o.off);
-    level | (target | running_off)
-}
-
-// An opening whose fields are answered, held to the unit's short-term maximum.
-#[tactic(auto, using(crate::proofs::Laws::opening_high, crate::proofs::Laws::opening_low))]
-fn below_maximum(unit: records::UnitData, read: OpeningRead) -> OpeningRead
-    ensures { result ≡ below_maximum unit read }
-{
-    let opening = read.opening;
-    let given = read.answer;
-    let fits = records_bytes::is_accepted(given);
-    let high = too_high(unit, opening);
-    if fits & high {
-        let answer = Answer::Refused(Refusal::OpeningTooHigh);
-        return OpeningRead { answer, opening };
-    }
-    read
-}
-
-// An opening that is refused unread: zeros.
-fn refuse_opening(r: Refusal) -> OpeningRead
-    ensures { result ≡ opening_refused r }
-{
-    let answer = Answer::Refused(r);
-    let opening = no_opening();
-    OpeningRead { answer, opening }
+    level::Level::from_kw(unit.maximum).grains < u64::from(o.level)
+        || unit.maximum < o.target
+        || (0 < o.level && 0 < o.off)
 }
 
 // An opening at the front of the input.
 #[tactic(auto, unfolding(crate::specs::Fronts::opening_front))]
 pub fn opening_front(
-    hasUnit: bool,
-    hasStart: bool,
+    has_unit: bool,
+    has_start: bool,
     closed: bool,
-    unit: records::UnitData,
+    unit: &UnitData,
     input: &[u8],
-) -> OpeningRead
-    ensures { result ≡ opening_front hasUnit hasStart closed unit input.now }
+) -> Result<Opening, Refusal>
+    ensures { result ≡ opening_front has_unit has_start closed unit.now input.now }
 {
     if input.len() < records::OPENING_SIZE {
-        return refuse_opening(Refusal::TooFewBytes);
+        return Err(Refusal::TooFewBytes);
     }
     if closed {
-        return refuse_opening(Refusal::AfterClose);
+        return Err(Refusal::AfterClose);
     }
-    if hasStart {
-        return refuse_opening(Refusal::SecondOne);
+    if has_start {
+        return Err(Refusal::SecondOne);
     }
-    if !hasUnit {
-        return refuse_opening(Refusal::BeforeUnit);
+    if !has_unit {
+        return Err(Refusal::BeforeUnit);
     }
-    let read = records_fields::read_opening(&input[1..records::OPENING_SIZE]);
-    below_maximum(unit, read)
-}
-
-// An instruction that is refused unread: zeros.
-fn refuse_instruction(r: Refusal) -> InstructionRead
-    ensures { result ≡ instruction_refused r }
-{
-    let answer = Answer::Refused(r);
-    let instruction = records_bytes::no_instruction();
-    InstructionRead {
-        answer,
-        instruction,
+    let opening = records_fields::read_opening(&input[1..records::OPENING_SIZE])?;
+    if too_high(unit, &opening) {
+        return Err(Refusal::OpeningTooHigh);
     }
+    Ok(opening)
 }
 
 // An instruction at the front of the input.
 #[tactic(auto, unfolding(crate::specs::Fronts::instruction_front))]
-pub fn instruction_front(hasUnit: bool, closed: bool, count: usize, input: &[u8]) -> InstructionRead
-    ensures { result ≡ instruction_front hasUnit closed count input.now }
+pub fn instruction_front(
+    has_unit: bool,
+    closed: bool,
+    count: usize,
+    input: &[u8],
+) -> Result<Instruction, Refusal>
+    ensures { result ≡ instruction_front has_unit closed count input.now }
 {
     if input.len() < records::INSTRUCTION_SIZE {
-        return refuse_instruction(Refusal::TooFewBytes);
+        return Err(Refusal::TooFewBytes);
     }
     if closed {
-        return refuse_instruction(Refusal::AfterClose);
+        return Err(Refusal::AfterClose);
     }
-    if !hasUnit {
-        return refuse_instruction(Refusal::BeforeUnit);
+    if !has_unit {
+        return Err(Refusal::BeforeUnit);
     }
     if level::INSTRUCTIONS <= count {
-        return refuse_instruction(Refusal::TooManyInstructions);
+        return Err(Refusal::TooManyInstructions);
     }
     records_fields::read_instruction(level::MOST_SECONDS, &input[1..records::INSTRUCTION_SIZE])
 }
 
 // A close, before anything is found.
 #[tactic(auto, unfolding(crate::specs::Fronts::close_front))]
-pub fn close_front(hasStart: bool, closed: bool) -> Answer
-    ensures { result ≡ close_front hasStart closed }
+pub fn close_front(has_start: bool, closed: bool) -> Result<(), Refusal>
+    ensures { result ≡ close_front has_start closed }
 {
     if closed {
-        return Answer::Refused(Refusal::AfterClose);
+        return Err(Refusal::AfterClose);
     }
-    if !hasStart {
-        return Answer::Refused(Refusal::NotReady);
+    if !has_start {
+        return Err(Refusal::NotReady);
     }
-    Answer::Accepted
+    Ok(())
 }

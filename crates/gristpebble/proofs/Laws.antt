@@ -5,8 +5,7 @@ use native.Mathlib.Omega.{arith}
 use mathlib.Core.Bool.{true, false}
 use mathlib.Core.List.{List}
 use lib.ListN.{length, take, drop, get_or}
-use Rattle.records.specs.declared.Answer.{Answer}
-use Rattle.records.specs.Answers.{accepted, number_of}
+use Rattle.records.specs.Answers.{Answer, accepted, number_of}
 use Rattle.records.specs.Records.{unit_size, opening_size, instruction_size}
 use Rattle.records_unit.specs.declared.UnitRead.{UnitRead}
 use Rattle.records_fields.specs.declared.OpeningRead.{OpeningRead}
@@ -15,13 +14,12 @@ use Rattle.profile.specs.declared.Taken.{Taken}
 use Rattle.profile.specs.Profile.{paper}
 use Rattle.profile.specs.Taken.{taken_with}
 use Rattle.day.specs.declared.Day.{Day}
-use Rattle.day.specs.declared.Ran.{Ran}
 use Rattle.day.specs.Day.{found_in, day_with}
 use Rattle.day.specs.Step.{accept, settle, step_of}
 use Rattle.day.proofs.ByKind.{no_kinds}
 use Rattle.day_enter.specs.Fronts.{body, unit_front, opening_front, instruction_front}
 use Rattle.day_enter.proofs.Laws.{unit_step, opening_step, instruction_step}
-use Rattle.listing.specs.Program.{ran_by}
+use Rattle.listing.specs.Program.{Ran, ran_by}
 use Rattle.listing.specs.Result.{listed_result, listed_lent, ran_result, ran_lent}
 use Rattle.listing_run.specs.Ended.{open_day, ended_by}
 use Rattle.listing_run.proofs.Results.{refused_run}

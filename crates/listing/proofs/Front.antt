@@ -9,28 +9,26 @@ use lib.Dec.{ltb}
 use lib.ListN.{length, take, drop, length-append}
 use lib.Seq.{take-append-le, drop-append-le}
 use borrow.Author.Tests.{ltb-false, le-ltb, ne_eqb}
-use Rattle.records.specs.declared.Answer.{Answer}
-use Rattle.records.specs.declared.Answer.TheVariants.{Accepted, Refused}
+use Rattle.std.specs.Prelude.{Ok, Err}
 use Rattle.records.specs.declared.Refusal.TheVariants.{UnknownKind, TooFewBytes, AfterClose}
-use Rattle.records.specs.Answers.{accepted, refusing, first_refusal}
+use Rattle.records.specs.Answers.{Answer, accepted, refusing, first_refusal}
 use Rattle.records.specs.Records.{size_of}
 use Rattle.profile.specs.declared.Taken.{Taken}
 use Rattle.profile.specs.Profile.{Found}
 use Rattle.day.specs.declared.Day.{Day}
 use Rattle.day.specs.declared.Stepped.{Stepped}
-use Rattle.day.specs.declared.Ran.{Ran}
 use Rattle.day.specs.Day.{empty, day_with}
 use Rattle.day.specs.Step.{kind_of, body_of, a_kind, no_bytes, unknown_kind, too_few, accept, settle, answer_by, step_by}
 use Rattle.day.specs.ByKind.{kind_refusals}
 use Rattle.level.proofs.Lists.{by_bool}
 use Rattle.day.proofs.Answers.{never}
 use Rattle.day.proofs.ByKind.{by_kind, step_used}
-use Rattle.listing.specs.Program.{run_by, ran_by}
+use Rattle.listing.specs.Program.{Ran, run_by, ran_by}
 use Rattle.listing.proofs.Onward.{onward, run_onward}
 
 -- the answer of too few bytes
 abbrev Few : Answer → Type 0
-Few a = a ≡ Refused TooFewBytes
+Few a = a ≡ Err TooFewBytes
 
 -- a step, by what it reads of the bytes
 module _ (find : Taken → Found) (d : Day) where
@@ -109,8 +107,8 @@ module _ (find : Taken → Found) (d : Day) where
 module _ (find : Taken → Found) where
   refused_onward : (n : ℕ) (a : Answer) (d : Day) (b : Bool) (s : List ℕ) → Few a → Few (onward find n a d b s).answer
   unfolding onward
-  refused_onward n (Refused r) d b s e = e
-  refused_onward n Accepted d b s e = never (sym (ap accepted e))
+  refused_onward n (Err r) d b s e = e
+  refused_onward n (Ok _) d b s e = never (sym (ap accepted e))
 
   run_few : (n : ℕ) (d : Day) (s : List ℕ) → Few (step_by find d s).answer → Few (run_by find (suc n) d s).answer
   run_few n d s e =
@@ -136,11 +134,11 @@ module _ (find : Taken → Found) where
       go : (a : Answer) (e : Day) (b : Bool) (r q : List ℕ) → q ≡ r ++ t → (Few (onward find n a e b r).answer → ⊥) →
           ((k : Day) (v : List ℕ) → (Few (run_by find n k v).answer → ⊥) → run_by find m k (v ++ t) ≡ run_by find n k v) →
           onward find m a e b q ≡ onward find n a e b r
-      go (Refused y) e b r q p g f = refl
-      go Accepted e true r q p g f = refl
-      go Accepted e false r q p g f = ap (run_by find m e) p ∙ f e r g
+      go (Err y) e b r q p g f = refl
+      go (Ok _) e true r q p g f = refl
+      go (Ok _) e false r q p g f = ap (run_by find m e) p ∙ f e r g
 
   -- the answer to bytes, unless there were too few, is the answer to them with any others after them
-  pub ran_front : (s t : List ℕ) → ((ran_by find s).answer ≡ Refused TooFewBytes → ⊥) → ran_by find (s ++ t) ≡ ran_by find s
+  pub ran_front : (s t : List ℕ) → ((ran_by find s).answer ≡ Err TooFewBytes → ⊥) → ran_by find (s ++ t) ≡ ran_by find s
   unfolding ran_by
   ran_front s t h = run_front (length s) (length (s ++ t)) (omega (arith, length-append s t)) empty s t h

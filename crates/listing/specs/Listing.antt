@@ -1,9 +1,8 @@
 -- Believed: document 01, The printed day. The printed day, byte by byte, and what asking for it returns.
 use Rattle.std.specs.Prelude.{ℕ, suc, List, [], ◌∷◌, ◌++◌, not, ltb, eqb, length}
 use Rattle.level.specs.Choice.{pick}
-use Rattle.records.specs.declared.Answer.{Answer}
 use Rattle.records.specs.declared.Refusal.TheVariants.{NotReady, SliceTooShort}
-use Rattle.records.specs.Answers.{accepted, refusing, first_refusal}
+use Rattle.records.specs.Answers.{Answer, accepted, refusing, first_refusal}
 use Rattle.course.specs.declared.Piece.{Piece}
 use Rattle.profile.specs.declared.Closing.{Closing}
 use Rattle.profile.specs.Profile.{spans_of, day_pieces}

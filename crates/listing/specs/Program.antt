@@ -1,14 +1,12 @@
 -- Believed: document 01, The printed day. "The listing program reads records .. up to close and prints this, or .. only the line X n".
-use Rattle.std.specs.Prelude.{ℕ, zero, suc, List, [], Bool, true, false, leb, eqb, length, drop}
+use Rattle.std.specs.Prelude.{ℕ, zero, suc, List, [], Bool, true, false, leb, eqb, length, drop, Ok, Err}
 use Rattle.level.specs.Choice.{pick}
-use Rattle.records.specs.declared.Answer.TheVariants.{Accepted, Refused}
 use Rattle.records.specs.declared.Refusal.TheVariants.{TooFewBytes}
 use Rattle.records.specs.Answers.{refusal_number, number_of}
 use Rattle.profile.specs.declared.Taken.{Taken}
 use Rattle.profile.specs.Profile.{Found, paper}
 use Rattle.day.specs.declared.Day.{Day}
 use Rattle.day.specs.declared.Stepped.{Stepped}
-use Rattle.day.specs.declared.Ran.{Ran}
 use Rattle.day.specs.Day.{empty, found_in}
 use Rattle.day.specs.Step.{step_by}
 use Rattle.lines.specs.Lines.{x_line}
@@ -18,12 +16,12 @@ use Rattle.listing.specs.Listing.{printed_day}
 
 -- records from a day on, up to close or the first refusal, n at most; where none is left, there are too few bytes
 unfoldable pub run_by : (Taken → Found) → ℕ → Day → List ℕ → Ran
-run_by find zero d s = record { answer = Refused TooFewBytes; day = d }
+run_by find zero d s = record { answer = Err TooFewBytes; day = d }
 run_by find (suc n) d s =
     let t : Stepped = step_by find d s in
     elim t.answer [
-      | Refused r ↦ record { answer = Refused r; day = t.day }
-      | Accepted ↦ elim t.day.closed [ true ↦ record { answer = Accepted; day = t.day } | false ↦ run_by find n t.day (drop t.used s) ]
+      | Err r ↦ record { answer = Err r; day = t.day }
+      | Ok _ ↦ elim t.day.closed [ true ↦ record { answer = Ok tt; day = t.day } | false ↦ run_by find n t.day (drop t.used s) ]
     ]
 
 -- each record has at least one byte
@@ -31,7 +29,7 @@ unfoldable pub ran_by : (Taken → Found) → List ℕ → Ran
 ran_by find s = run_by find (length s) empty s
 
 unfoldable pub printed_run : Ran → List ℕ
-printed_run r = elim r.answer [ Refused x ↦ x_line (refusal_number x) | Accepted ↦ printed_day r.day ]
+printed_run r = elim r.answer [ Err x ↦ x_line (refusal_number x) | Ok _ ↦ printed_day r.day ]
 
 -- what the program prints for the input s
 unfoldable pub program : List ℕ → List ℕ

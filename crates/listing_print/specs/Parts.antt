@@ -1,7 +1,6 @@
 -- Working. The parts of a listing, and what asking for it gives.
-use Rattle.std.specs.Prelude.{ℕ, List, take}
+use Rattle.std.specs.Prelude.{ℕ, List, take, Ok, Err}
 use Rattle.records.specs.declared.Refusal.{Refusal}
-use Rattle.records.specs.declared.Answer.TheVariants.{Accepted, Refused}
 use Rattle.day.specs.declared.Day.{Day}
 use Rattle.day.specs.Day.{half_hours, day_seconds, closing_in}
 use Rattle.listing.specs.declared.Listed.{Listed}
@@ -22,7 +21,7 @@ line_e d = closing_line (closing_in d)
 
 -- what asking for a listing gives: a refusal, or so many bytes
 abbrev pub no_listing : Refusal → Listed
-no_listing r = record { answer = Refused r; count = 0 }
+no_listing r = record { answer = Err r; count = 0 }
 
 abbrev pub some_listing : ℕ → Listed
-some_listing n = record { answer = Accepted; count = n }
+some_listing n = record { answer = Ok tt; count = n }

@@ -11,21 +11,19 @@ use borrow.Author.Tests.{eq-eqb, ne_eqb}
 use Rattle.level.specs.Choice.{pick}
 use Rattle.level.specs.Numbers.{instruction_places}
 use Rattle.level.proofs.Lists.{or_false}
-use Rattle.records.specs.declared.Answer.{Answer}
-use Rattle.records.specs.declared.Answer.TheVariants.{Accepted, Refused}
-use Rattle.records.specs.Answers.{accepted, number_of}
+use Rattle.std.specs.Prelude.{Ok, Err}
+use Rattle.records.specs.Answers.{Answer, accepted, number_of}
 use Rattle.records.specs.Records.{unit_size, opening_size, instruction_size, size_of}
 use Rattle.profile.specs.declared.Taken.{Taken}
 use Rattle.profile.specs.Profile.{Found, paper}
 use Rattle.profile.specs.Taken.{no_taken, taken_with}
 use Rattle.day.specs.declared.Day.{Day}
 use Rattle.day.specs.declared.Stepped.{Stepped}
-use Rattle.day.specs.declared.Ran.{Ran}
 use Rattle.day.specs.Day.{empty, found_in, day_with}
 use Rattle.day.specs.Step.{kind_of, body_of, accept, settle, answer_by, step_by}
 use Rattle.day.proofs.Answers.{never}
 use Rattle.day.proofs.ByKind.{RecordPasses, passed, no_kinds, some_size}
-use Rattle.listing.specs.Program.{run_by, ran_by, ends_early}
+use Rattle.listing.specs.Program.{Ran, run_by, ran_by, ends_early}
 use Rattle.listing.proofs.Onward.{onward, run_onward}
 use Rattle.listing_program.proofs.Records.{longest, Own, step_own, known_kind}
 
@@ -55,7 +53,7 @@ module _ (find : Taken → Found) (d : Day) (s : List ℕ) where
   unfolding day_with
   not_close c e = never (sym (or_false (eqb (kind_of s) 4) d.closed c).0 ∙ eq-eqb (kind_of s) 4 e)
 
-  step_left : answer_by find d s ≡ Accepted → next.closed ≡ false → left next.taken + size_of (kind_of s) ≤ left d.taken
+  step_left : answer_by find d s ≡ Ok tt → next.closed ≡ false → left next.taken + size_of (kind_of s) ≤ left d.taken
   unfolding day_with
   step_left a c =
       let t : Taken = d.taken in
@@ -71,15 +69,15 @@ module _ (find : Taken → Found) (d : Day) (s : List ℕ) where
         ]
       ]
 
-  step_taken : (step_by find d s).answer ≡ Accepted → (answer_by find d s ≡ Accepted) × (accept next (size_of (kind_of s)) ≡ step_by find d s)
+  step_taken : (step_by find d s).answer ≡ Ok tt → (answer_by find d s ≡ Ok tt) × (accept next (size_of (kind_of s)) ≡ step_by find d s)
   unfolding step_by
   step_taken = go (answer_by find d s) (accept next (size_of (kind_of s)))
     where
-      go : (a : Answer) (x : Stepped) → (settle a d x).answer ≡ Accepted → (a ≡ Accepted) × (x ≡ settle a d x)
-      go Accepted x e = (refl, refl)
-      go (Refused r) x e = never (ap accepted e)
+      go : (a : Answer) (x : Stepped) → (settle a d x).answer ≡ Ok tt → (a ≡ Ok tt) × (x ≡ settle a d x)
+      go (Ok _) x e = (refl, refl)
+      go (Err r) x e = never (ap accepted e)
 
-  step_room : (step_by find d s).answer ≡ Accepted → (step_by find d s).day.closed ≡ false →
+  step_room : (step_by find d s).answer ≡ Ok tt → (step_by find d s).day.closed ≡ false →
       (left (step_by find d s).day.taken + (step_by find d s).used ≤ left d.taken) × (1 ≤ (step_by find d s).used)
   step_room a =
       let q = step_taken a in
@@ -91,8 +89,8 @@ module _ (find : Taken → Found) (d : Day) (s : List ℕ) where
   step_some h = go (step_by find d s).answer (step_own find d s)
     where
       go : (a : Answer) → Own (length s) a → number_of a ≡ 2 → ⊥
-      go Accepted own e = omega arith
-      go (Refused r) own e = omega (arith, own.3 e)
+      go (Ok _) own e = omega arith
+      go (Err r) own e = omega (arith, own.3 e)
 
 -- nor has a run, where they are more than the records that may come
 module _ (find : Taken → Found) where
@@ -108,12 +106,12 @@ module _ (find : Taken → Found) where
       (sym (ap (λ (r : Ran). number_of r.answer) (run_onward find n d s)) ∙ e)
     where
       go : (a : Answer) (x : Day) (b : Bool) (v : List ℕ) → (number_of a ≡ 2 → ⊥) →
-          (a ≡ Accepted → b ≡ false → (length v ≤ n) × (left x.taken + longest ≤ length v)) →
+          (a ≡ Ok tt → b ≡ false → (length v ≤ n) × (left x.taken + longest ≤ length v)) →
           ((k : Day) (w : List ℕ) → length w ≤ n → left k.taken + longest ≤ length w → number_of (run_by find n k w).answer ≡ 2 → ⊥) →
           number_of (onward find n a x b v).answer ≡ 2 → ⊥
-      go (Refused r) x b v q f g e = q e
-      go Accepted x true v q f g e = q e
-      go Accepted x false v q f g e = let h = f refl refl in g x v h.0 h.1 e
+      go (Err r) x b v q f g e = q e
+      go (Ok _) x true v q f g e = q e
+      go (Ok _) x false v q f g e = let h = f refl refl in g x v h.0 h.1 e
 
 pub full_answered : (s : List ℕ) → 1395 ≤ length s → ends_early s ≡ false
 unfolding ends_early ran_by empty no_taken left

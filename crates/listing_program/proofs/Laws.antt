@@ -9,12 +9,10 @@ use lib.ListN.{length, take, drop}
 use lib.Seq.{take_at}
 use borrow.Author.Tests.{lt-ltb, le-ltb, le-leb, lt-leb, leb-true, leb-false, eqb-false}
 use Rattle.level.proofs.Lists.{by_bool}
-use Rattle.records.specs.declared.Answer.{Answer}
-use Rattle.records.specs.declared.Answer.TheVariants.{Accepted, Refused}
-use Rattle.records.specs.Answers.{refusal_number, number_of}
+use Rattle.std.specs.Prelude.{Ok, Err}
+use Rattle.records.specs.Answers.{Answer, refusal_number, number_of}
 use Rattle.profile.specs.Profile.{paper}
 use Rattle.day.specs.declared.Day.{Day}
-use Rattle.day.specs.declared.Ran.{Ran}
 use Rattle.day.specs.Day.{found_in}
 use Rattle.lines.specs.Text.{laid}
 use Rattle.lines.specs.Lines.{x_line}
@@ -23,7 +21,7 @@ use Rattle.lines.proofs.Decimals.{laid_length, word_width}
 use Rattle.lines.proofs.Widths.{x_length}
 use Rattle.listing.specs.declared.Printed.{Printed}
 use Rattle.listing.specs.Listing.{suffices, printed_day, list_answer, list_of, lent_after}
-use Rattle.listing.specs.Program.{ran_by, printed_run, program, ends_early, fitting, print_of, print_lent}
+use Rattle.listing.specs.Program.{Ran, ran_by, printed_run, program, ends_early, fitting, print_of, print_lent}
 use Rattle.listing.specs.Result.{run_result, lent_run, listed_result, listed_lent}
 use Rattle.listing.proofs.Front.{ran_front}
 use Rattle.claims.proofs.Exported.{run_fits}
@@ -72,21 +70,21 @@ says_refused {o} {q} {n} k e some other f =
 
 -- asking a closed day for its listing
 module _ (d : Day) (o : List ℕ) (closed : d.closed ≡ true) where
-  asked_long : length o < length (printed_day d) → (run_result Accepted d o ≡ 26 * 4294967296) × (lent_run Accepted d o ≡ o)
+  asked_long : length o < length (printed_day d) → (run_result (Ok tt) d o ≡ 26 * 4294967296) × (lent_run (Ok tt) d o ≡ o)
   unfolding list_of lent_after list_answer
   asked_long h = (simp (closed, lt-ltb (length o) (length (printed_day d)) h), simp (closed, lt-ltb (length o) (length (printed_day d)) h))
 
   asked_room : length (printed_day d) ≤ length o →
-      (run_result Accepted d o ≡ length (printed_day d)) × (lent_run Accepted d o ≡ laid (printed_day d) o)
+      (run_result (Ok tt) d o ≡ length (printed_day d)) × (lent_run (Ok tt) d o ≡ laid (printed_day d) o)
   unfolding list_of lent_after list_answer
   asked_room h = (simp (closed, le-ltb (length o) (length (printed_day d)) h), simp (closed, le-ltb (length o) (length (printed_day d)) h))
 
 -- of a run with this answer and this day
-says_run : (a : Answer) (d : Day) {o q : List ℕ} {n : ℕ} → Own 0 a → (a ≡ Accepted → (d.closed ≡ true) × (length (printed_day d) ≤ suffices)) →
+says_run : (a : Answer) (d : Day) {o q : List ℕ} {n : ℕ} → Own 0 a → (a ≡ Ok tt → (d.closed ≡ true) × (length (printed_day d) ≤ suffices)) →
     n ≡ run_result a d o → q ≡ lent_run a d o → Says (printed_run (record { answer = a; day = d })) o (eqb (number_of a) 2) n q
 unfolding printed_run
-says_run (Refused r) d own fits e f = says_refused (refusal_number r) e own.0 own.2 f
-says_run Accepted d {o} own fits e f =
+says_run (Err r) d own fits e f = says_refused (refusal_number r) e own.0 own.2 f
+says_run (Ok tt) d {o} own fits e f =
     let c : d.closed ≡ true = (fits refl).0 in
     by_bool (leb (length (printed_day d)) (length o))
     (λ b. let h = asked_room d o c (leb-true (length (printed_day d)) (length o) b) in
@@ -121,11 +119,11 @@ module _ (s o : List ℕ) where
 line_few : (n : ℕ) → n ≤ 27 → length (x_line n) ≤ suffices
 line_few n h = omega (arith, x_length n, word_width n (omega arith))
 
-run_few : (a : Answer) (d : Day) → Own 0 a → (a ≡ Accepted → (d.closed ≡ true) × (length (printed_day d) ≤ suffices)) →
+run_few : (a : Answer) (d : Day) → Own 0 a → (a ≡ Ok tt → (d.closed ≡ true) × (length (printed_day d) ≤ suffices)) →
     length (printed_run (record { answer = a; day = d })) ≤ suffices
 unfolding printed_run
-run_few (Refused r) d own fits = line_few (refusal_number r) own.1
-run_few Accepted d own fits = (fits refl).1
+run_few (Err r) d own fits = line_few (refusal_number r) own.1
+run_few (Ok _) d own fits = (fits refl).1
 
 program_few : (s : List ℕ) → length (program s) ≤ suffices
 unfolding program

@@ -11,11 +11,10 @@ use borrow.Author.Tests.{eqb-true, ltb-true, not-false}
 use Rattle.level.specs.Choice.{pick}
 use Rattle.level.specs.Lists.{All}
 use Rattle.level.proofs.Lists.{by_bool}
-use Rattle.records.specs.declared.Answer.{Answer}
-use Rattle.records.specs.declared.Answer.TheVariants.{Accepted, Refused}
+use Rattle.std.specs.Prelude.{Ok, Err}
 use Rattle.records.specs.declared.Refusal.{Refusal}
 use Rattle.records.specs.declared.Refusal.TheVariants.{UnknownKind, TooFewBytes, UnitField, UnitDisagrees, OpeningField, CodeField, EffectiveTime, IssueTime, LevelOrRates, SecondOne, BeforeUnit, OpeningTooHigh, TooManyInstructions, AfterClose, NotReady, QuantityTooHigh}
-use Rattle.records.specs.Answers.{refusal_number, refusing, before, first_refusal}
+use Rattle.records.specs.Answers.{Answer, refusal_number, refusing, before, first_refusal}
 use Rattle.records.specs.Codes.{meaning_of, is_unknown}
 use Rattle.records.specs.Records.{unit_size, size_of, unit_of, opening_of, instruction_of, numbers}
 use Rattle.records.specs.Fields.{fit_from, unit_ranges, disagrees, opening_fits, figures_fit, unit_answer, opening_answer, instruction_answer}
@@ -23,13 +22,12 @@ use Rattle.profile.specs.declared.Taken.{Taken}
 use Rattle.profile.specs.Profile.{Found}
 use Rattle.day.specs.declared.Day.{Day}
 use Rattle.day.specs.declared.Stepped.{Stepped}
-use Rattle.day.specs.declared.Ran.{Ran}
 use Rattle.day.specs.Day.{empty, day_seconds, day_with}
 use Rattle.day.specs.Step.{kind_of, body_of, a_kind, no_bytes, unknown_kind, too_few, second_one, before_unit, too_many, not_ready, field_answer, too_high, quantity_too_high, accept, settle, answer_by, step_by}
 use Rattle.day.specs.ByKind.{kind_refusals}
 use Rattle.day.proofs.Answers.{all_accepted, not_met}
 use Rattle.day.proofs.ByKind.{by_kind}
-use Rattle.listing.specs.Program.{run_by, ran_by}
+use Rattle.listing.specs.Program.{Ran, run_by, ran_by}
 use Rattle.listing.proofs.Onward.{onward, run_onward}
 
 -- the most bytes that a record has
@@ -38,16 +36,16 @@ longest = unit_size
 
 -- of m bytes: accepted, or refused with a number from 1 to 27 that is not 26, and is 2 only where a record may have more
 abbrev pub Own : ℕ → Answer → Type 0
-Own m Accepted = Unit {0}
-Own m (Refused r) =
+Own m (Ok _) = Unit {0}
+Own m (Err r) =
     (1 ≤ refusal_number r) × (refusal_number r ≤ 27) × (refusal_number r ≡ 26 → ⊥) × (refusal_number r ≡ 2 → m < longest)
 
 own_none : (m : ℕ) (a : Answer) → Own m a → Own 0 a
-own_none m Accepted h = tt
-own_none m (Refused r) h = (h.0, h.1, h.2, λ e. omega arith)
+own_none m (Ok _) h = tt
+own_none m (Err r) h = (h.0, h.1, h.2, λ e. omega arith)
 
 module _ (m : ℕ) where
-  own_refusing : (c : Bool) (r : Refusal) → (c ≡ true → Own m (Refused r)) → Own m (refusing c r)
+  own_refusing : (c : Bool) (r : Refusal) → (c ≡ true → Own m (Err r)) → Own m (refusing c r)
   own_refusing true r h = h refl
   own_refusing false r h = tt
 
@@ -56,8 +54,8 @@ module _ (m : ℕ) where
   own_pick false a b h g = g
 
   own_before : (a b : Answer) → Own m a → Own m b → Own m (before a b)
-  own_before Accepted b h g = g
-  own_before (Refused r) b h g = h
+  own_before (Ok _) b h g = g
+  own_before (Err r) b h g = h
 
 -- the first refusal of several conditions, each with its refusal, and then of other answers
 abbrev Condition : Type 0
@@ -67,7 +65,7 @@ abbrev answers : List Condition → List Answer → List Answer
 answers [] rest = rest
 answers (c ∷ cs) rest = refusing c.0 c.1 ∷ answers cs rest
 
-own_first : (m : ℕ) (cs : List Condition) (rest : List Answer) → All (λ (c : Condition). c.0 ≡ true → Own m (Refused c.1)) cs →
+own_first : (m : ℕ) (cs : List Condition) (rest : List Answer) → All (λ (c : Condition). c.0 ≡ true → Own m (Err c.1)) cs →
     Own m (first_refusal rest) → Own m (first_refusal (answers cs rest))
 own_first m [] rest h g = g
 own_first m (c ∷ cs) rest h g =
@@ -98,7 +96,7 @@ unfolding field_answer
 field_own m k b =
     own_pick m (eqb k 1) (unit_answer (numbers b 62)) _ (unit_own m (numbers b 62))
     (own_pick m (eqb k 2) (opening_answer b) _ (opening_own m b)
-    (own_pick m (eqb k 3) (instruction_answer day_seconds b) Accepted (instruction_own m day_seconds b) tt))
+    (own_pick m (eqb k 3) (instruction_answer day_seconds b) (Ok tt) (instruction_own m day_seconds b) tt))
 
 -- ---- of a record, and of a run
 none_short : (s : List ℕ) → no_bytes s ≡ true → length s < longest
@@ -144,8 +142,8 @@ module _ (find : Taken → Found) where
   step_own d s = go (answer_by find d s) (day_with find d (kind_of s) (body_of s)) (answer_own d s)
     where
       go : (a : Answer) (e : Day) → Own (length s) a → Own (length s) (settle a d (accept e (size_of (kind_of s)))).answer
-      go Accepted e h = tt
-      go (Refused r) e h = h
+      go (Ok _) e h = tt
+      go (Err r) e h = h
 
   run_own : (n : ℕ) (d : Day) (s : List ℕ) → Own 0 (run_by find n d s).answer
   unfolding run_by onward
@@ -157,16 +155,16 @@ module _ (find : Taken → Found) where
     where
       go : (a : Answer) (e : Day) (b : Bool) (v : List ℕ) → Own 0 a → ((k : Day) (w : List ℕ) → Own 0 (run_by find n k w).answer) →
           Own 0 (onward find n a e b v).answer
-      go (Refused r) e b v h f = h
-      go Accepted e true v h f = tt
-      go Accepted e false v h f = f e v
+      go (Err r) e b v h f = h
+      go (Ok _) e true v h f = tt
+      go (Ok _) e false v h f = f e v
 
   pub ran_own : (s : List ℕ) → Own 0 (ran_by find s).answer
   unfolding ran_by
   ran_own s = run_own (length s) empty s
 
   -- a record that is accepted is of a kind that there is
-  pub known_kind : (d : Day) (s : List ℕ) → answer_by find d s ≡ Accepted → a_kind (kind_of s) ≡ true
+  pub known_kind : (d : Day) (s : List ℕ) → answer_by find d s ≡ Ok tt → a_kind (kind_of s) ≡ true
   unfolding unknown_kind
   known_kind d s e =
       let a =

@@ -1,12 +1,11 @@
 -- A run that ends at a refusal, at no kind, and at a close.
 use Rattle.std.proofs.Common.{◌≡◌, ◌*◌, ℕ, List, true, false, refl, ap, ◌∙◌}
 use Rattle.profile.specs.declared.Taken.{Taken}
-use Rattle.records.specs.declared.Answer.{Answer}
-use Rattle.records.specs.declared.Answer.TheVariants.{Accepted, Refused}
+use Rattle.std.specs.Prelude.{Ok, Err}
 use Rattle.records.specs.declared.Refusal.TheVariants.{UnknownKind}
-use Rattle.records.specs.Answers.{accepted, number_of}
+use Rattle.records.specs.Answers.{Answer, accepted, number_of}
 use Rattle.day.specs.declared.Day.{Day}
-use Rattle.day.specs.declared.Ran.{Ran}
+use Rattle.listing.specs.Program.{Ran}
 use Rattle.day_enter.specs.Fronts.{close_front}
 use Rattle.day_close.specs.declared.CloseRead.{CloseRead}
 use Rattle.day_close.specs.Closed.{close_read, closed_day}
@@ -25,14 +24,14 @@ refuses t r o a e out q =
 
 -- no kind
 pub no_kind_result : (t : Taken) (kind : ℕ) (o : List ℕ) (n : ℕ) → (kind ≡ 4 → ⊥) → n ≡ 1 * 4294967296 → n ≡ ran_result (ended_by (open_day t) kind) o
-no_kind_result t kind o n h q = (refuses t _ o (Refused UnknownKind) (end_none _ _ h) refl q).0
+no_kind_result t kind o n h q = (refuses t _ o (Err UnknownKind) (end_none _ _ h) refl q).0
 
 pub no_kind_lent : (t : Taken) (kind : ℕ) (o : List ℕ) → (kind ≡ 4 → ⊥) → o ≡ ran_lent (ended_by (open_day t) kind) o
-no_kind_lent t kind o h = (refuses t _ o (Refused UnknownKind) (end_none _ _ h) refl refl).1
+no_kind_lent t kind o h = (refuses t _ o (Err UnknownKind) (end_none _ _ h) refl refl).1
 
 -- a close that is not refused ends them with the closed day
 pub closes : (t : Taken) (kind : ℕ) → kind ≡ 4 → (early : Answer) → early ≡ close_front t.hasStart false → accepted early ≡ true →
     (r : CloseRead) → r ≡ close_read t → accepted r.answer ≡ true → (d : Day) → d ≡ closed_day t r.finding →
-    record { answer = Accepted; day = d } ≡ ended_by (open_day t) kind
+    record { answer = Ok tt; day = d } ≡ ended_by (open_day t) kind
 closes t kind h early e y r f n d q =
-    ap (λ (x : Day). record { answer = Accepted; day = x }) q ∙ end_close _ _ h _ (close_taken_lem (open_day t) early e y r f n)
+    ap (λ (x : Day). record { answer = Ok tt; day = x }) q ∙ end_close _ _ h _ (close_taken_lem (open_day t) early e y r f n)

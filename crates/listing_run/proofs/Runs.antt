@@ -9,15 +9,13 @@ use lib.ListN.{length, get_or, take, drop, length-drop}
 use borrow.Author.Tests.{eq-eqb, ne_eqb, eqb-true, eqb-false}
 use Rattle.level.specs.Choice.{pick}
 use Rattle.level.proofs.Lists.{tail_is}
-use Rattle.records.specs.declared.Answer.{Answer}
-use Rattle.records.specs.declared.Answer.TheVariants.{Accepted, Refused}
+use Rattle.std.specs.Prelude.{Ok, Err}
 use Rattle.records.specs.declared.Refusal.TheVariants.{TooFewBytes, UnknownKind, AfterClose}
-use Rattle.records.specs.Answers.{accepted, refusing, first_refusal}
+use Rattle.records.specs.Answers.{Answer, accepted, refusing, first_refusal}
 use Rattle.records.specs.Records.{close_size}
 use Rattle.profile.specs.Profile.{paper}
 use Rattle.day.specs.declared.Day.{Day}
 use Rattle.day.specs.declared.Stepped.{Stepped}
-use Rattle.day.specs.declared.Ran.{Ran}
 use Rattle.day.specs.Day.{empty, found_in, day_with}
 use Rattle.day.specs.Step.{a_kind, accept, settle, step_of}
 use Rattle.day.specs.ByKind.{close_refusals}
@@ -25,7 +23,7 @@ use Rattle.day.proofs.Answers.{never, settle_refused, settle_taken}
 use Rattle.day.proofs.ByKind.{step_used, no_kind}
 use Rattle.day_enter.specs.Fronts.{close_taken}
 use Rattle.day_enter.proofs.Laws.{close_step}
-use Rattle.listing.specs.Program.{run_by, ran_by}
+use Rattle.listing.specs.Program.{Ran, run_by, ran_by}
 use Rattle.listing.proofs.Onward.{onward, run_onward, enough}
 use Rattle.listing_run.specs.Ended.{after_step, ended_by}
 
@@ -50,9 +48,9 @@ module _ (d : Day) (s : List ℕ) (some : 1 ≤ length s) where
     where
       go : (a : Answer) (b : Bool) → (accepted a ≡ true → b ≡ true) →
           onward (found_in paper) (length s - 1) a t.day b (drop t.used s) ≡ record { answer = a; day = t.day }
-      go (Refused r) b h = refl
-      go Accepted true h = refl
-      go Accepted false h = never (h refl)
+      go (Err r) b h = refl
+      go (Ok _) true h = refl
+      go (Ok _) false h = never (h refl)
 
   -- the record is refused with a, or taken: the day is then e, and u bytes are used
   module _ (a : Answer) (e : Day) (u : ℕ) (q : settle a d (accept e u) ≡ step_of d s) where
@@ -70,7 +68,7 @@ module _ (d : Day) (s : List ℕ) (some : 1 ≤ length s) where
       unfolding onward
       goes_on_lem p c =
           by_step d s (accept e u) taken some
-          ∙ (ap (λ (b : Bool). onward (found_in paper) (length s - 1) Accepted e b (drop u s)) c
+          ∙ (ap (λ (b : Bool). onward (found_in paper) (length s - 1) (Ok tt) e b (drop u s)) c
           ∙ (enough (found_in paper) (length s - 1) (length (drop u s)) e (drop u s) (omega (arith, length-drop u s)) (omega arith)
           ∙ ap (from e) (sym (tail_is u s))))
 
@@ -83,8 +81,8 @@ module _ (d : Day) (s : List ℕ) (some : 1 ≤ length s) where
       go : (a : Answer) (e : Day) → e.closed ≡ true →
           let t : Stepped = settle a d (accept e close_size) in
           accepted t.answer ≡ true → t.day.closed ≡ true
-      go (Refused r) e c h = never h
-      go Accepted e c h = c
+      go (Err r) e c h = never h
+      go (Ok _) e c h = c
 
   -- at a close, or at no kind
   pub by_other : ((get_or s 0 0 ≡ 4 → ⊥) → a_kind (get_or s 0 0) ≡ false) → ended_by d (get_or s 0 0) ≡ from d s
@@ -92,23 +90,23 @@ module _ (d : Day) (s : List ℕ) (some : 1 ≤ length s) where
   by_other out = go (eqb (get_or s 0 0) 4) refl
     where
       go : (x : Bool) → eqb (get_or s 0 0) 4 ≡ x →
-          pick x (after_step (close_taken (found_in paper) d)) (record { answer = Refused UnknownKind; day = d }) ≡ from d s
+          pick x (after_step (close_taken (found_in paper) d)) (record { answer = Err UnknownKind; day = d }) ≡ from d s
       go true e = ends (close_taken (found_in paper) d) (close_step (found_in paper) d s some (eqb-true (get_or s 0 0) 4 e)) closes
       go false e =
-          ends (record { answer = Refused UnknownKind; day = d; used = 0 }) (no_kind (found_in paper) d s some (out (eqb-false (get_or s 0 0) 4 e)))
+          ends (record { answer = Err UnknownKind; day = d; used = 0 }) (no_kind (found_in paper) d s some (out (eqb-false (get_or s 0 0) 4 e)))
           (λ y. never y)
 
 pub run_first : (d : Day) (s : List ℕ) → d ≡ empty → from d s ≡ ran_by (found_in paper) s
 unfolding ran_by
 run_first d s e = ap (λ (x : Day). from x s) e
 
-pub run_none : (d : Day) (s : List ℕ) → length s ≡ 0 → record { answer = Refused TooFewBytes; day = d } ≡ from d s
+pub run_none : (d : Day) (s : List ℕ) → length s ≡ 0 → record { answer = Err TooFewBytes; day = d } ≡ from d s
 unfolding run_by
 run_none d s e = ap (λ (k : ℕ). run_by (found_in paper) k d s) {x = 0} {y = length s} (sym e)
 
 -- ---- where it ends
 module _ (d : Day) (k : ℕ) where
-  pub end_none : (k ≡ 4 → ⊥) → record { answer = Refused UnknownKind; day = d } ≡ ended_by d k
+  pub end_none : (k ≡ 4 → ⊥) → record { answer = Err UnknownKind; day = d } ≡ ended_by d k
   unfolding ended_by
   end_none h = rw (ne_eqb k 4 h)
 

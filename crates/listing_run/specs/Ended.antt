@@ -1,14 +1,13 @@
 -- Working. Where a run of records ends: at a close, or at a kind that is none.
-use Rattle.std.specs.Prelude.{ℕ, false, eqb}
+use Rattle.std.specs.Prelude.{ℕ, false, eqb, Ok, Err}
 use Rattle.level.specs.Choice.{pick}
-use Rattle.records.specs.declared.Answer.TheVariants.{Refused}
 use Rattle.records.specs.declared.Refusal.TheVariants.{UnknownKind}
 use Rattle.profile.specs.declared.Taken.{Taken}
 use Rattle.profile.specs.Profile.{paper}
 use Rattle.profile.specs.Finding.{no_finding}
 use Rattle.day.specs.declared.Day.{Day}
 use Rattle.day.specs.declared.Stepped.{Stepped}
-use Rattle.day.specs.declared.Ran.{Ran}
+use Rattle.listing.specs.Program.{Ran}
 use Rattle.day.specs.Day.{found_in}
 use Rattle.day_enter.specs.Fronts.{close_taken}
 
@@ -21,4 +20,4 @@ after_step t = record { answer = t.answer; day = t.day }
 
 -- of a record of the kind k, a close or none
 unfoldable pub ended_by : Day → ℕ → Ran
-ended_by d k = pick (eqb k 4) (after_step (close_taken (found_in paper) d)) (record { answer = Refused UnknownKind; day = d })
+ended_by d k = pick (eqb k 4) (after_step (close_taken (found_in paper) d)) (record { answer = Err UnknownKind; day = d })

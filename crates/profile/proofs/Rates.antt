@@ -13,7 +13,7 @@ use Rattle.level.proofs.Lists.{and_true}
 use Rattle.level.specs.Level.{grains}
 use Rattle.records.specs.declared.Column.{Column}
 use Rattle.records.specs.declared.UnitData.{UnitData}
-use Rattle.records.specs.declared.Answer.TheVariants.{Accepted}
+use Rattle.std.specs.Prelude.{Ok, Err}
 use Rattle.records.specs.declared.Refusal.TheVariants.{UnitField, UnitDisagrees}
 use Rattle.records.specs.Answers.{refusing, first_refusal, accepted}
 use Rattle.records.specs.Records.{unit_of, column_of}
@@ -85,11 +85,11 @@ fit_at (r ∷ rs) ns i (suc j) e p =
     rw z (fit_at rs ns (suc i) j a (omega arith))
 
 module _ (ns : List ℕ) where
-  pub fits : unit_answer ns ≡ Accepted → fit_from unit_ranges ns 0 ≡ true
+  pub fits : unit_answer ns ≡ Ok tt → fit_from unit_ranges ns 0 ≡ true
   unfolding unit_answer
   fits = go (fit_from unit_ranges ns 0) (disagrees (unit_of ns))
     where
-      go : (a b : Bool) → first_refusal (refusing (not a) UnitField ∷ refusing b UnitDisagrees ∷ []) ≡ Accepted → a ≡ true
+      go : (a b : Bool) → first_refusal (refusing (not a) UnitField ∷ refusing b UnitDisagrees ∷ []) ≡ Ok tt → a ≡ true
       go true b e = refl
       go false b e = absurd (true≢false (sym (ap accepted e)))
 
@@ -147,7 +147,7 @@ module _ (ns : List ℕ) where
         columns false false = column_some 25 (rate 26 (omega arith) refl) (rate 27 (omega arith) refl) (rate 28 (omega arith) refl)
 
   -- a unit that meets neither 3 nor 4 is fit
-  pub fit_of : unit_answer ns ≡ Accepted → Fit (unit_of ns)
+  pub fit_of : unit_answer ns ≡ Ok tt → Fit (unit_of ns)
   fit_of e = fit_of_numbers (fits e)
 
 -- ---- every course of the day

@@ -2,3 +2,4 @@ pub mod Answers
 pub mod Codes
 pub mod Records
 pub mod Fields
+pub mod Kinds

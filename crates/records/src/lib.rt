@@ -10,15 +10,43 @@ pub const INSTRUCTION_SIZE: usize = 22;
 
 pub const CLOSE_SIZE: usize = 1;
 
+// The kinds of records, with their numbers.
+#[derive(Clone, Copy, PartialEq, Eq)]
+pub enum Kind {
+    Unit = 1,
+    Opening = 2,
+    Instruction = 3,
+    Close = 4,
+}
+
+impl TryFrom<u8> for Kind {
+    ghost use Rattle.std.specs.Prelude.{◌≡◌};
+    ghost use Rattle.records.specs.Kinds.{kind_by};
+
+    type Error = Refusal;
+
+    ghost try_from_gives = { λ k r. r ≡ kind_by k };
+
+    fn try_from(byte: u8) -> Result<Self, Refusal> {
+        match byte {
+            1 => Ok(Kind::Unit),
+            2 => Ok(Kind::Opening),
+            3 => Ok(Kind::Instruction),
+            4 => Ok(Kind::Close),
+            _ => Err(Refusal::UnknownKind),
+        }
+    }
+}
+
 // A soak or dwell trigger: a level in kW, and the minutes that the unit holds there. 0 minutes: no hold.
-#[derive(Clone, Copy)]
+#[derive(Clone, Copy, Default)]
 pub struct Trigger {
     pub level: u32,
     pub minutes: u32,
 }
 
 // A start-up column: block load in kW, rates in kW a minute, breaks in kW, soak triggers.
-#[derive(Clone, Copy)]
+#[derive(Clone, Copy, Default)]
 pub struct Column {
     pub block: u32,
     pub rates: [u32; 3],
@@ -27,14 +55,14 @@ pub struct Column {
 }
 
 // A ramp-up or ramp-down list.
-#[derive(Clone, Copy)]
+#[derive(Clone, Copy, Default)]
 pub struct Ramp {
     pub rates: [u32; 5],
     pub breaks: [u32; 4],
 }
 
 // The deload list.
-#[derive(Clone, Copy)]
+#[derive(Clone, Copy, Default)]
 pub struct Deload {
     pub rates: [u32; 2],
     pub breaks: [u32; 1],
@@ -42,7 +70,7 @@ pub struct Deload {
 
 // A unit's technical data. Levels in kW, cooling boundaries in minutes; `msg` is the Minimum Stable Generation.
 // The columns stand by heat: hot, warm, cold.
-#[derive(Clone, Copy)]
+#[derive(Clone, Copy, Default)]
 pub struct UnitData {
     pub capacity: u32,
     pub maximum: u32,
@@ -57,7 +85,7 @@ pub struct UnitData {
 }
 
 // The opening: level at 06:00 in grains, target in kW, heat (1 hot, 2 warm, 3 cold), seconds off.
-#[derive(Clone, Copy)]
+#[derive(Clone, Copy, Default)]
 pub struct Opening {
     pub level: u32,
     pub target: u32,

@@ -1,8 +1,7 @@
 use Rattle.std.proofs.Common.{◌≡◌, ◌*◌, ◌≤◌, ℕ, List, false, length, refl, ap, sym, ◌∙◌, arith}
-use Rattle.records.specs.declared.Answer.{Answer}
-use Rattle.records.specs.declared.Answer.TheVariants.{Refused}
+use Rattle.std.specs.Prelude.{Ok, Err}
 use Rattle.records.specs.declared.Refusal.TheVariants.{TooFewBytes}
-use Rattle.records.specs.Answers.{accepted, number_of}
+use Rattle.records.specs.Answers.{Answer, accepted, number_of}
 use Rattle.profile.specs.declared.Taken.{Taken}
 use Rattle.profile.specs.Profile.{paper}
 use Rattle.profile.specs.Taken.{taken_with}
@@ -140,4 +139,4 @@ returns-in_default c =
 
 pub returns : goal.returns
 returns c =
-    refused c.loop-rest.invariant (Refused TooFewBytes) (run_none (open_day c.loop-rest.t) c.loop-rest.rest.now (omega arith)) refl c.answer_result-2.ensures
+    refused c.loop-rest.invariant (Err TooFewBytes) (run_none (open_day c.loop-rest.t) c.loop-rest.rest.now (omega arith)) refl c.answer_result-2.ensures

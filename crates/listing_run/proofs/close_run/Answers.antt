@@ -1,7 +1,7 @@
 use Rattle.std.proofs.Common.{length, ap, sym, ◌∙◌, arith}
 use borrow.Author.Tests.{leb-true}
 use Rattle.day.specs.declared.Day.{Day}
-use Rattle.day.specs.declared.Ran.{Ran}
+use Rattle.listing.specs.Program.{Ran}
 use Rattle.day_close.proofs.Closed.{close_early, close_refused}
 use Rattle.listing.specs.declared.Listed.{Listed}
 use Rattle.listing.specs.Listing.{suffices, printed_day}
