@@ -1,5 +1,5 @@
 // What close finds from what was taken: the fates, the courses, twice the area up to each half-hour boundary, the last course and the
-// state at the day's end; the answer to it, and the day closed with it.
+// state at the day's end; and refusal 27.
 #![tactic(auto)]
 
 ghost use Rattle.std.specs.Prelude.{◌≡◌, ◌≤◌};
@@ -7,11 +7,10 @@ ghost use Rattle.level.specs.Numbers.{instruction_places, most_half_hours};
 ghost use Rattle.profile.specs.Profile.{found, paper};
 ghost use Rattle.profile.specs.Finding.{arrays_of};
 ghost use Rattle.day_close.specs.Laying.{overlaid, overlaid_all, marks_from};
-ghost use Rattle.day_close.specs.Closed.{close_read, closed_day};
+ghost use Rattle.day_close.specs.Closed.{close_read};
 
-use day::Day;
 use profile::{Finding, Taken};
-use records::{Answer, Refusal};
+use records::Refusal;
 
 // ---- the fates
 
@@ -67,71 +66,42 @@ fn lay_fates(
 // ---- what close finds
 
 // From what was taken, in a day of so many half-hours. A count above the places that there are reads like them all.
-pub fn find(t: profile::Taken, halves: u32) -> profile::Finding
+pub fn find(t: Taken, halves: u32) -> Finding
     requires { halves ≤ most_half_hours }
     ensures { result ≡ arrays_of (found paper halves t) }
 {
-    let u = t.unit;
-    let instructions = t.instructions;
-    let v = validation_kept::validate(instructions, t.count, level::HALF_HOUR * halves);
+    let v = validation_kept::validate(t.instructions, t.count, level::HALF_HOUR * halves);
     let acts = v.acts.into_array();
     let acting = v.acts.len();
-    let first = profile_effects::start_course(u, t.start);
-    let f = profile_follow::follow_day(u, first, acts, acting, halves);
+    let first = profile_effects::start_course(t.unit, t.start);
+    let f = profile_follow::follow_day(t.unit, first, acts, acting, halves);
     let settled = v.fates;
     let given = Fates {
-        count: level::smaller_count(t.count, level::INSTRUCTIONS),
+        count: t.count.min(level::INSTRUCTIONS),
         fates: settled,
     };
-    let own = f.walk.fates;
-    let over = lay_fates(given, acts, own, acting);
+    let over = lay_fates(given, acts, f.walk.fates, acting);
     let fates = over.fates;
     let courses = f.walk.courses;
     let sums = f.sums;
-    let last = f.walk.now;
-    let end = f.end;
-    profile::Finding {
+    Finding {
         fates,
         started: f.walk.started,
         courses,
         sums,
-        last,
-        end,
+        last: f.walk.now,
+        end: f.end,
     }
 }
 
-// ---- the answer to a close, and the closed day
-
-// What close finds, and the answer to it: accepted, or a quantity above the short-term maximum.
-#[derive(Clone, Copy)]
-pub struct CloseRead {
-    pub answer: Answer,
-    pub finding: Finding,
-}
-
-// What close finds from what was taken.
-#[tactic(auto, using(crate::proofs::Closed::read_is))]
-pub fn find_close(taken: Taken) -> CloseRead
+// What close finds from what was taken; refused where a quantity lies above the short-term maximum.
+#[tactic(auto, using(crate::proofs::Closed::read_high, crate::proofs::Closed::read_low))]
+pub fn find_close(taken: Taken) -> Result<Finding, Refusal>
     ensures { result ≡ close_read taken }
 {
-    let finding = find(taken, level::MOST_HALF_HOURS);
-    let unit = taken.unit;
-    let sums = finding.sums;
-    if profile_quantity::quantity_too_high(unit, sums, level::MOST_HALF_HOURS) {
-        let answer = Answer::Refused(Refusal::QuantityTooHigh);
-        return CloseRead { answer, finding };
+    let found = find(taken, level::MOST_HALF_HOURS);
+    if profile_quantity::quantity_too_high(taken.unit, found.sums, level::MOST_HALF_HOURS) {
+        return Err(Refusal::QuantityTooHigh);
     }
-    let answer = Answer::Accepted;
-    CloseRead { answer, finding }
-}
-
-// The closed day of what was taken and found.
-pub fn closed_day(taken: Taken, found: Finding) -> Day
-    ensures { result ≡ closed_day taken found }
-{
-    Day {
-        taken,
-        closed: true,
-        found,
-    }
+    Ok(found)
 }

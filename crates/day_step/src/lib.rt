@@ -2,113 +2,77 @@
 // close.
 #![tactic(auto)]
 
-ghost use Rattle.std.specs.Prelude.{◌≡◌, get_or};
+ghost use Rattle.std.specs.Prelude.{◌≡◌};
 ghost use Rattle.profile.specs.Profile.{paper};
 ghost use Rattle.day.specs.Day.{found_in};
-ghost use Rattle.day.specs.Step.{accept, step_of};
-ghost use Rattle.day_enter.specs.Fronts.{close_taken};
+ghost use Rattle.day.specs.Step.{step_of};
+ghost use Rattle.day_step.specs.Taking.{kind_at, stepped, TakenBy, close_taken};
 
 use day::{Day, Stepped};
-use day_close::CloseRead;
 use profile::Taken;
-use records::{Answer, Refusal};
-use records_unit::UnitRead;
+use records::{Kind, Refusal};
 
-// A refusal: the same day, nothing used.
-fn refused(day: Day, answer: Answer) -> Stepped
-    ensures { result ≡ record { answer = answer; day = day; used = 0 } }
+// A unit at the front of the input: the bytes used, or its refusal, which leaves what was taken as it was.
+fn take_unit(taken: &mut Taken, closed: bool, input: &[u8]) -> Result<usize, Refusal>
+    ensures { TakenBy 1 taken.old closed input.now result taken.new }
 {
-    Stepped {
-        answer,
-        day,
-        used: 0,
-    }
-}
-
-// An acceptance: the day with what was taken, and the bytes used.
-fn accepted(day: Day, taken: Taken, used: usize) -> Stepped
-    ensures { result ≡ accept (record { taken = taken; closed = day.closed; found = day.found }) used }
-{
-    let mut next = day;
-    next.taken = taken;
-    let answer = Answer::Accepted;
-    Stepped {
-        answer,
-        day: next,
-        used,
-    }
-}
-
-// A unit at the front of the input.
-fn unit_step(day: Day, input: &[u8]) -> Stepped
-    requires { get_or input.now 0 0 ≡ 1 }
-    ensures { result ≡ step_of day input.now }
-{
-    let mut taken = day.taken;
-    let UnitRead { answer, unit } = day_enter::unit_front(taken.hasUnit, day.closed, input);
-    if !records_bytes::is_accepted(answer) {
-        return refused(day, answer);
-    }
+    let unit = day_enter::unit_front(taken.hasUnit, closed, input)?;
     taken.hasUnit = true;
     taken.unit = unit;
-    accepted(day, taken, records::UNIT_SIZE)
+    Ok(records::UNIT_SIZE)
 }
 
-// An opening at the front of the input.
-fn opening_step(day: Day, input: &[u8]) -> Stepped
-    requires { get_or input.now 0 0 ≡ 2 }
-    ensures { result ≡ step_of day input.now }
+// An opening.
+fn take_opening(taken: &mut Taken, closed: bool, input: &[u8]) -> Result<usize, Refusal>
+    ensures { TakenBy 2 taken.old closed input.now result taken.new }
 {
-    let mut taken = day.taken;
-    let unit = taken.unit;
-    let read = day_enter::opening_front(taken.hasUnit, taken.hasStart, day.closed, unit, input);
-    let answer = read.answer;
-    if !records_bytes::is_accepted(answer) {
-        return refused(day, answer);
-    }
-    let start = day_enter::start_of(read.opening);
+    let opening =
+        day_enter::opening_front(taken.hasUnit, taken.hasStart, closed, &taken.unit, input)?;
     taken.hasStart = true;
-    taken.start = start;
-    accepted(day, taken, records::OPENING_SIZE)
+    taken.start = day_enter::start_of(opening);
+    Ok(records::OPENING_SIZE)
 }
 
-// An instruction at the front of the input.
-fn instruction_step(day: Day, input: &[u8]) -> Stepped
-    requires { get_or input.now 0 0 ≡ 3 }
-    ensures { result ≡ step_of day input.now }
+// An instruction.
+fn take_instruction(taken: &mut Taken, closed: bool, input: &[u8]) -> Result<usize, Refusal>
+    ensures { TakenBy 3 taken.old closed input.now result taken.new }
 {
-    let mut taken = day.taken;
-    let count = taken.count;
-    let read = day_enter::instruction_front(taken.hasUnit, day.closed, count, input);
-    let answer = read.answer;
-    if !records_bytes::is_accepted(answer) {
-        return refused(day, answer);
-    }
-    let instruction = read.instruction;
-    taken.instructions[count] = instruction;
-    taken.count = count + 1;
-    accepted(day, taken, records::INSTRUCTION_SIZE)
+    let instruction = day_enter::instruction_front(taken.hasUnit, closed, taken.count, input)?;
+    taken.instructions[taken.count] = instruction;
+    taken.count += 1;
+    Ok(records::INSTRUCTION_SIZE)
 }
 
 // A close of the day.
-fn close_step(day: Day) -> Stepped
-    ensures { result ≡ close_taken (found_in paper) day }
+fn take_close(day: &mut Day) -> Result<usize, Refusal>
+    ensures { stepped result day.new ≡ close_taken (found_in paper) day.old }
 {
-    let taken = day.taken;
-    let early = day_enter::close_front(taken.hasStart, day.closed);
-    if !records_bytes::is_accepted(early) {
-        return refused(day, early);
+    day_enter::close_front(day.taken.hasStart, day.closed)?;
+    let found = day_close::find_close(day.taken)?;
+    day.found = found;
+    day.closed = true;
+    Ok(records::CLOSE_SIZE)
+}
+
+// The kind of the record at the front of the input.
+fn kind_at(input: &[u8]) -> Result<Kind, Refusal>
+    ensures { result ≡ kind_at input.now }
+{
+    if input.is_empty() {
+        return Err(Refusal::TooFewBytes);
     }
-    let CloseRead { answer, finding } = day_close::find_close(taken);
-    if !records_bytes::is_accepted(answer) {
-        return refused(day, answer);
-    }
-    let next = day_close::closed_day(taken, finding);
-    let answer = Answer::Accepted;
-    Stepped {
-        answer,
-        day: next,
-        used: records::CLOSE_SIZE,
+    Kind::try_from(input[0])
+}
+
+// The record at the front of the input, taken into the day: the bytes used, or its refusal, which leaves the day as it was.
+pub fn take_record(day: &mut Day, input: &[u8]) -> Result<usize, Refusal>
+    ensures { stepped result day.new ≡ step_of day.old input.now }
+{
+    match kind_at(input)? {
+        Kind::Unit => take_unit(&mut day.taken, day.closed, input),
+        Kind::Opening => take_opening(&mut day.taken, day.closed, input),
+        Kind::Instruction => take_instruction(&mut day.taken, day.closed, input),
+        Kind::Close => take_close(day),
     }
 }
 
@@ -116,15 +80,17 @@ fn close_step(day: Day) -> Stepped
 pub fn step(day: Day, input: &[u8]) -> Stepped
     ensures { result ≡ step_of day input.now }
 {
-    if input.len() < 1 {
-        return refused(day, Answer::Refused(Refusal::TooFewBytes));
-    }
-    let kind = input[0];
-    match kind {
-        1 => unit_step(day, input),
-        2 => opening_step(day, input),
-        3 => instruction_step(day, input),
-        4 => close_step(day),
-        _ => refused(day, Answer::Refused(Refusal::UnknownKind)),
+    let mut next = day;
+    match take_record(&mut next, input) {
+        Ok(used) => Stepped {
+            answer: Ok(()),
+            day: next,
+            used,
+        },
+        Err(refusal) => Stepped {
+            answer: Err(refusal),
+            day: next,
+            used: 0,
+        },
     }
 }

@@ -20,7 +20,7 @@ pub lay_fates-over-requires : goal.lay_fates-over-requires
 lay_fates-over-requires c =
     let t = c.args.t in
     let places : length t.instructions ≡ instruction_places = c.well_formed.0.1.1.1.1.1.1.1.0.1.0.1 in
-    (omega (arith, c.smaller_count.ensures), rw (c.len-acting.ensures.value, c.validate-v.ensures) (acting_few t c.args.halves places))
+    (omega (arith, c.min.ensures), rw (c.len-acting.ensures.value, c.validate-v.ensures) (acting_few t c.args.halves places))
 
 pub returns : goal.returns
 returns c =
@@ -35,7 +35,7 @@ returns c =
     let acts = c.into_array-acts.ensures ∙ ap (λ (x : Validation). x.acts.these ++ x.acts.spare) c.validate-v.ensures in
     let acting = c.len-acting.ensures.value ∙ ap (λ (x : Validation). length x.acts.these) c.validate-v.ensures in
     let over = c.lay_fates-over.ensures
-    ∙ (λ i. overlaid_all (record { count = c.smaller_count.ensures i; fates = (c.validate-v.ensures i).fates })
+    ∙ (λ i. overlaid_all (record { count = c.min.ensures i; fates = (c.validate-v.ensures i).fates })
     (marks_from (acts i) r.walk.fates 0 (acting i))) in
     ap (λ (x : Fates). record {
       fates = x.fates;
