@@ -11,7 +11,7 @@ use borrow.Author.Tests.{ne_eqb}
 use Rattle.level.specs.Choice.{pick}
 use Rattle.level.specs.Numbers.{instruction_places}
 use Rattle.level.proofs.Lists.{by_bool, map_length}
-use Rattle.std.specs.Prelude.{Ok, Err}
+use Rattle.std.specs.Prelude.{Result, Ok, Err}
 use Rattle.records.specs.declared.Refusal.{Refusal}
 use Rattle.records.specs.declared.Refusal.TheVariants.{UnknownKind, TooFewBytes, UnitField, UnitDisagrees, OpeningField, CodeField, EffectiveTime, IssueTime, LevelOrRates, SecondOne, BeforeUnit, OpeningTooHigh, TooManyInstructions, AfterClose, NotReady, SliceTooShort, QuantityTooHigh}
 use Rattle.records.specs.Answers.{Answer, refusal_number, number_of, accepted, refusing, before, first_refusal}
@@ -25,8 +25,8 @@ use Rattle.day.specs.declared.Stepped.{Stepped}
 use Rattle.day.specs.Day.{day_seconds, empty, found_in, day_with}
 use Rattle.day.specs.Step.{kind_of, body_of, no_bytes, unknown_kind, too_few, second_one, before_unit, too_many, not_ready, field_answer, too_high, quantity_too_high, accept, settle, answer_by, step_by, step_of}
 use Rattle.day.specs.ByKind.{answer_of}
-use Rattle.day.proofs.Answers.{settle_refused}
-use Rattle.listing.specs.Listing.{list_answer, list_of, lent_after}
+use Rattle.day.proofs.Answers.{number_same, settle_refused}
+use Rattle.listing.specs.Listing.{printed_day, list_answer, list_of, count_of, lent_after}
 use Rattle.claims.specs.Calls.{day_after, records_of}
 use Rattle.claims.specs.LetIn.{of_kind, has_kind, instructions_in, taken_in, found_from, listing_from}
 use Rattle.claims.specs.Conditions.{Ruling, first_number, is_kind, unit_out_of_range, unit_disagreeing, opening_out_of_range, code_outside, effective_time_outside, issue_time_outside, level_or_rates_outside, second_unit_or_opening, before_a_unit, opening_too_high, forty_first_instruction, after_close, close_without_opening, listing_before_close, longer_than_lent, quantity_above_maximum, record_rulings, listing_rulings}
@@ -165,9 +165,13 @@ module _ (rs : List (List ℕ)) (s : List ℕ) where
       (fields (body_of s) (answers_then last (Ok tt)) (rulings_then last []) (rows_ruled last (Ok tt) [] refl) (kind_of s))
 
 -- ---- a refusal leaves all as it was
-refused_not : (a : Answer) → 1 ≤ number_of a → accepted a ≡ false
-refused_not (Ok _) h = absurd (omega arith)
+refused_not : {A : Type 0} (a : Result A Refusal) → 1 ≤ number_of a → accepted a ≡ false
+refused_not (Ok x) h = absurd (omega arith)
 refused_not (Err r) h = refl
+
+not_counted : (a : Result ℕ Refusal) → 1 ≤ number_of a → count_of a ≡ 0
+not_counted (Ok n) h = absurd (omega arith)
+not_counted (Err r) h = refl
 
 settled : (a : Answer) (d e : Day) (n : ℕ) → (settle a d (accept e n)).answer ≡ a
 settled (Ok _) d e n = refl
@@ -184,13 +188,12 @@ module _ (d : Day) where
       settle_refused (answer_of d s) d (accept (day_with (found_in paper) d (kind_of s) (body_of s)) (size_of (kind_of s)))
       (refused_not (answer_of d s) (rw (answer_is s) at h))
 
-  lent_kept : (o : List ℕ) → 1 ≤ number_of (list_of d o).answer → lent_after d o ≡ o
+  lent_kept : (o : List ℕ) → 1 ≤ number_of (list_of d o) → lent_after d o ≡ o
   unfolding list_of lent_after
-  lent_kept o h = simp (refused_not (list_answer d o) h)
+  lent_kept o h = simp (refused_not (list_answer d o) (rw (number_same (length (printed_day d)) (list_answer d o)) at h))
 
-  none_counted : (o : List ℕ) → 1 ≤ number_of (list_of d o).answer → (list_of d o).count ≡ 0
-  unfolding list_of
-  none_counted o h = simp (refused_not (list_answer d o) h)
+  none_counted : (o : List ℕ) → 1 ≤ number_of (list_of d o) → count_of (list_of d o) ≡ 0
+  none_counted o h = not_counted (list_of d o) h
 
 -- ---- the day d that the records rs, let in, made
 module _ (d : Day) (rs : List (List ℕ)) (m : Made d rs) where
@@ -204,14 +207,14 @@ module _ (d : Day) (rs : List (List ℕ)) (m : Made d rs) where
       ∙ (ap (λ (b : Bool). number_of (first_refusal (answers rs s t (has_kind 4 rs) b (too_many t (kind_of s))))) (second_is rs s)
       ∙ (ap (λ (b : Bool). number_of (first_refusal (answers rs s t (has_kind 4 rs) (second_unit_or_opening rs s) b))) (many_is rs s) ∙ number_is rs s))))
 
-  asked : (o : List ℕ) → number_of (list_of d o).answer ≡ first_number (listing_rulings rs o)
+  asked : (o : List ℕ) → number_of (list_of d o) ≡ first_number (listing_rulings rs o)
   unfolding list_of list_answer listing_rulings listing_before_close longer_than_lent first_number
-  asked o = by_bool d.closed
+  asked o = number_same (length (printed_day d)) (list_answer d o) ∙ by_bool d.closed
       (λ c. ap (λ (x : List ℕ). number_of (first_refusal (refusing (not d.closed) NotReady ∷ refusing (ltb (length o) (length x)) SliceTooShort ∷ [])))
       (printed_from d rs m c) ∙ rw (sym m.closed, c) (go (ltb (length o) (length (listing_from rs)))))
       (λ c. rw (sym m.closed, c) refl)
     where
-      go : (b : Bool) → number_of (before (refusing b SliceTooShort) (Ok tt)) ≡ pick b 26 0
+      go : (b : Bool) → number_of (first_refusal (refusing b SliceTooShort ∷ [])) ≡ pick b 26 0
       go true = refl
       go false = refl
 

@@ -11,18 +11,18 @@ use Rattle.level.specs.Choice.{pick}
 use Rattle.std.specs.Prelude.{Ok, Err}
 use Rattle.records.specs.declared.Refusal.{Refusal}
 use Rattle.records.specs.declared.Refusal.TheVariants.{UnknownKind, TooFewBytes, UnitField, UnitDisagrees, OpeningField, CodeField, EffectiveTime, IssueTime, LevelOrRates, SecondOne, BeforeUnit, OpeningTooHigh, TooManyInstructions, AfterClose, NotReady, SliceTooShort, QuantityTooHigh}
-use Rattle.records.specs.Answers.{Answer, refusal_number, number_of, accepted}
+use Rattle.records.specs.Answers.{Answer, refusal_number, number_of, accepted, before, answered}
 use Rattle.profile.specs.Profile.{paper}
 use Rattle.day.specs.declared.Day.{Day}
 use Rattle.day.specs.declared.Stepped.{Stepped}
 use Rattle.day.specs.Day.{empty, found_in, quantities_in}
 use Rattle.day.specs.Step.{step_of}
-use Rattle.day.proofs.Answers.{never}
+use Rattle.day.proofs.Answers.{never, number_same}
 use Rattle.day.proofs.ByKind.{step_used}
 use Rattle.lines.specs.Text.{laid}
 use Rattle.listing.specs.Listing.{suffices, printed_day, list_answer, list_of, lent_after}
 use Rattle.listing.specs.Program.{Ran, run_by, ran_by}
-use Rattle.listing.specs.Result.{in_one, run_result, lent_run, listed_result, listed_lent}
+use Rattle.listing.specs.Result.{list_ran, lent_ran, listed, in_one, listed_result, listed_lent}
 use Rattle.listing.proofs.Onward.{onward, run_onward, used_some, enough}
 use Rattle.claims.specs.Calls.{Call, sends, asks, after_calls, wrote, day_after, records_of, listings_of}
 use Rattle.claims.specs.Demand2.{Demand2}
@@ -71,14 +71,14 @@ first_only (suc n) = first_here (suc n) [] (omega arith)
 -- ---- the calls of a run, then asking for the listing
 module _ (o : List ℕ) where
   -- the number of the refusal that ends the run; else that of the listing
-  ends_with : Answer → Day → ℕ
-  ends_with a d = pick (accepted a) (number_of (list_of d o).answer) (number_of a)
+  ends_with : Ran → ℕ
+  ends_with r = number_of (list_ran r o)
 
   -- calls leave the day e, their listings are ws, the first that is refused has the number k: as the run r has it
   record Runs (e : Day) (ws : List (List ℕ)) (k : ℕ) (r : Ran) : Type 0 where
     left : e ≡ r.day
     listings : ws ≡ wrote r.day (asks o ∷ [])
-    number : k ≡ ends_with r.answer r.day
+    number : k ≡ ends_with r
     closed : r.answer ≡ Ok tt → r.day.closed ≡ true
 
   abbrev CallsRun : Day → List Call → Ran → Type 0
@@ -102,7 +102,7 @@ module _ (o : List ℕ) where
         number = first_here (refusal_number x) (numbers_of e (asks o ∷ [])) (some_number x);
         closed = λ y. never (ap accepted y);
       }
-      go (Ok _) e true q c l f = record { left = refl; listings = refl; number = first_only (number_of (list_of e o).answer); closed = λ y. c }
+      go (Ok _) e true q c l f = record { left = refl; listings = refl; number = first_only (number_of (list_of e o)); closed = λ y. c }
       go (Ok _) e false q c l f = f e q (l refl)
 
 -- those of the exported function
@@ -127,25 +127,32 @@ ran_fits s a = run_fits s (ran_by (found_in paper) s) refl a
 
 -- ---- what the run gives with the lent slice
 module _ (o : List ℕ) where
-  refused_gives : (a : Answer) (d : Day) → 1 ≤ ends_with o a d → (run_result a d o ≡ ends_with o a d * 4294967296) × (lent_run a d o ≡ o)
+  refused_gives : (r : Ran) → 1 ≤ ends_with o r → (in_one (list_ran r o) ≡ ends_with o r * 4294967296) × (lent_ran r o ≡ o)
   unfolding ends_with list_of lent_after
-  refused_gives (Err x) d h = (refl, refl)
-  refused_gives (Ok _) d h = go (list_answer d o) h
+  refused_gives r h = go r.answer r.day h
     where
-      go : (b : Answer) → 1 ≤ number_of b →
-          (in_one b (pick (accepted b) (length (printed_day d)) 0) ≡ number_of b * 4294967296) × (pick (accepted b) (laid (printed_day d) o) o ≡ o)
-      go (Ok _) h = absurd (omega arith)
-      go (Err x) h = (refl, refl)
+      asked : (a : Answer) (xs : List ℕ) → 1 ≤ number_of (answered a (length xs)) →
+          (in_one (answered a (length xs)) ≡ number_of (answered a (length xs)) * 4294967296) × (pick (accepted a) (laid xs o) o ≡ o)
+      asked (Ok _) xs h = absurd (omega arith)
+      asked (Err x) xs h = (refl, refl)
 
-  none_refused : (a : Answer) (d : Day) → ends_with o a d ≡ 0 → (a ≡ Ok tt) × (list_answer d o ≡ Ok tt)
+      go : (a : Answer) (d : Day) → 1 ≤ number_of (before a (list_of d o)) →
+          (in_one (before a (list_of d o)) ≡ number_of (before a (list_of d o)) * 4294967296) × (pick (accepted a) (lent_after d o) o ≡ o)
+      go (Ok _) d h = asked (list_answer d o) (printed_day d) h
+      go (Err x) d h = (refl, refl)
+
+  none_refused : (r : Ran) → ends_with o r ≡ 0 → (r.answer ≡ Ok tt) × (list_answer r.day o ≡ Ok tt)
   unfolding ends_with list_of
-  none_refused (Ok _) d e = (refl, no_number (list_answer d o) e)
-  none_refused (Err x) d e = absurd (omega (arith, some_number x))
+  none_refused r e = go r.answer r.day e
+    where
+      go : (a : Answer) (d : Day) → number_of (before a (list_of d o)) ≡ 0 → (a ≡ Ok tt) × (list_answer d o ≡ Ok tt)
+      go (Ok _) d e = (refl, no_number (list_answer d o) (sym (number_same (length (printed_day d)) (list_answer d o)) ∙ e))
+      go (Err x) d e = absurd (omega (arith, some_number x))
 
-  taken_gives : (a : Answer) (d : Day) → a ≡ Ok tt → list_answer d o ≡ Ok tt →
-      (run_result a d o ≡ length (printed_day d)) × (lent_run a d o ≡ laid (printed_day d) o)
+  taken_gives : (r : Ran) → r.answer ≡ Ok tt → list_answer r.day o ≡ Ok tt →
+      (in_one (list_ran r o) ≡ length (printed_day r.day)) × (lent_ran r o ≡ laid (printed_day r.day) o)
   unfolding list_of lent_after
-  taken_gives a d e l = (rw (e, l), rw (e, l))
+  taken_gives r e l = (rw (e, l), rw (e, l))
 
 -- ---- the claim
 module _ (s o : List ℕ) where
@@ -159,16 +166,16 @@ module _ (s o : List ℕ) where
   k = runs s o r refl
 
   refused : 1 ≤ refused_with s o → (listed_result s o ≡ refused_with s o * 4294967296) × (listed_lent s o ≡ o)
-  unfolding listed_result listed_lent
-  refused = rw k.number (refused_gives o r.answer r.day)
+  unfolding listed_result listed listed_lent
+  refused = rw k.number (refused_gives o r)
 
   module _ (e : refused_with s o ≡ 0) where
     no_refusal : (r.answer ≡ Ok tt) × (list_answer r.day o ≡ Ok tt)
-    no_refusal = none_refused o r.answer r.day (sym k.number ∙ e)
+    no_refusal = none_refused o r (sym k.number ∙ e)
 
     gives : (listed_result s o ≡ length p) × (listed_lent s o ≡ laid p o)
-    unfolding listed_result listed_lent
-    gives = taken_gives o r.answer r.day no_refusal.0 no_refusal.1
+    unfolding listed_result listed listed_lent
+    gives = taken_gives o r no_refusal.0 no_refusal.1
 
     closed : (day_after (calls_for s o)).closed ≡ true
     closed = ap (λ (d : Day). d.closed) k.left ∙ k.closed no_refusal.0

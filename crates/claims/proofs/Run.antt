@@ -15,7 +15,7 @@ use Rattle.day.specs.Day.{found_in, day_with}
 use Rattle.day.specs.Step.{kind_of, body_of, step_by, step_of}
 use Rattle.day.specs.ByKind.{answer_of}
 use Rattle.level.proofs.Lists.{by_bool}
-use Rattle.day.proofs.Answers.{never, is_accepted}
+use Rattle.day.proofs.Answers.{never, is_accepted, accepted_same}
 use Rattle.day.proofs.ByKind.{RecordPasses, passed}
 use Rattle.listing.specs.Listing.{printed_day, list_answer, list_of, lent_after}
 use Rattle.claims.specs.Calls.{Call, sends, asks, after_calls, let_in, wrote}
@@ -58,11 +58,11 @@ module _ (d : Day) (o : List ℕ) (cs : List Call) where
 
   pub wrote_one : accepted (list_answer d o) ≡ true → wrote d (asks o ∷ cs) ≡ printed_day d ∷ wrote d cs
   unfolding wrote list_of lent_after
-  wrote_one e = simp (e, take-append_seam)
+  wrote_one e = simp (is_accepted (list_answer d o) e, take-append_seam)
 
   wrote_none : accepted (list_answer d o) ≡ false → wrote d (asks o ∷ cs) ≡ wrote d cs
   unfolding wrote list_of lent_after
-  wrote_none e = simp e
+  wrote_none e = simp (accepted_same (length (printed_day d)) (list_answer d o), e)
 
   -- only a closed day is listed
   listed_closed : accepted (list_answer d o) ≡ true → d.closed ≡ true

@@ -5,7 +5,7 @@ use Rattle.records.specs.Answers.{accepted}
 use Rattle.day.specs.declared.Day.{Day}
 use Rattle.day.specs.Day.{empty}
 use Rattle.day.specs.Step.{step_of}
-use Rattle.listing.specs.Listing.{list_of, lent_after}
+use Rattle.listing.specs.Listing.{list_of, count_of, lent_after}
 
 -- "The calls are taking a record, close among them, and asking for a listing": a call is sent a slice or lent one, of any length and content
 pub data Call : Type 0 where
@@ -29,7 +29,7 @@ let_in d (asks o ∷ cs) = let_in d cs
 unfoldable pub wrote : Day → List Call → List (List ℕ)
 wrote d [] = []
 wrote d (sends s ∷ cs) = wrote (step_of d s).day cs
-wrote d (asks o ∷ cs) = pick (accepted (list_of d o).answer) (take (list_of d o).count (lent_after d o) ∷ wrote d cs) (wrote d cs)
+wrote d (asks o ∷ cs) = pick (accepted (list_of d o)) (take (count_of (list_of d o)) (lent_after d o) ∷ wrote d cs) (wrote d cs)
 
 -- "The first gets an empty day"
 abbrev pub day_after : List Call → Day

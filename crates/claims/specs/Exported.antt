@@ -27,7 +27,7 @@ calls_for s o = in_turn (suc (length s)) empty s ++ (asks o ∷ [])
 unfoldable pub numbers_of : Day → List Call → List ℕ
 numbers_of d [] = []
 numbers_of d (sends s ∷ cs) = number_of (step_of d s).answer ∷ numbers_of (step_of d s).day cs
-numbers_of d (asks o ∷ cs) = number_of (list_of d o).answer ∷ numbers_of d cs
+numbers_of d (asks o ∷ cs) = number_of (list_of d o) ∷ numbers_of d cs
 
 unfoldable pub first_refused : List ℕ → ℕ
 first_refused [] = 0

@@ -6,7 +6,7 @@ use borrow.Author.Tests.{not-true, not-false}
 use Rattle.level.specs.Lists.{All}
 use Rattle.std.specs.Prelude.{Ok, Err}
 use Rattle.records.specs.declared.Refusal.{Refusal}
-use Rattle.records.specs.Answers.{Answer, accepted, refusing, first_refusal}
+use Rattle.records.specs.Answers.{Answer, number_of, accepted, refusing, answered, first_refusal}
 use Rattle.day.specs.declared.Day.{Day}
 use Rattle.day.specs.declared.Stepped.{Stepped}
 use Rattle.day.specs.Step.{settle}
@@ -32,6 +32,16 @@ not_met false r e = refl
 pub met_not : (c : Bool) (r : Refusal) → refusing (not c) r ≡ Ok tt → c ≡ true
 met_not true r e = refl
 met_not false r e = never (ap accepted e)
+
+-- ---- with a value
+module _ {A : Type 0} (x : A) where
+  pub number_same : (a : Answer) → number_of (answered a x) ≡ number_of a
+  number_same (Ok _) = refl
+  number_same (Err r) = refl
+
+  pub accepted_same : (a : Answer) → accepted (answered a x) ≡ accepted a
+  accepted_same (Ok _) = refl
+  accepted_same (Err r) = refl
 
 -- ---- by the answer, and by what its test says
 pub is_refused : (a : Answer) (ok : Bool) → ok ≡ accepted a → not ok ≡ true → accepted a ≡ false

@@ -1,8 +1,9 @@
 -- Believed: document 01, The printed day. The printed day, byte by byte, and what asking for it returns.
-use Rattle.std.specs.Prelude.{ℕ, suc, List, [], ◌∷◌, ◌++◌, not, ltb, eqb, length}
+use Rattle.std.specs.Prelude.{ℕ, suc, List, [], ◌∷◌, ◌++◌, not, ltb, eqb, length, Result, Ok, Err}
 use Rattle.level.specs.Choice.{pick}
+use Rattle.records.specs.declared.Refusal.{Refusal}
 use Rattle.records.specs.declared.Refusal.TheVariants.{NotReady, SliceTooShort}
-use Rattle.records.specs.Answers.{Answer, accepted, refusing, first_refusal}
+use Rattle.records.specs.Answers.{Answer, accepted, refusing, answered, first_refusal}
 use Rattle.course.specs.declared.Piece.{Piece}
 use Rattle.profile.specs.declared.Closing.{Closing}
 use Rattle.profile.specs.Profile.{spans_of, day_pieces}
@@ -10,7 +11,6 @@ use Rattle.day.specs.declared.Day.{Day}
 use Rattle.day.specs.Day.{day_seconds, fates_in, courses_in, quantities_in, closing_in}
 use Rattle.lines.specs.Lines.{f_line, s_line, q_line, e_line}
 use Rattle.lines.specs.Text.{laid}
-use Rattle.listing.specs.declared.Listed.{Listed}
 
 -- "F n fate by number", from the number n on
 unfoldable pub f_lines : ℕ → List ℕ → List ℕ
@@ -43,12 +43,17 @@ printed_day d = listing (fates_in d) (day_pieces (spans_of d.taken.unit day_seco
 abbrev pub suffices : ℕ
 suffices = 46080
 
--- asking for it, with a lent slice o: "25 .. a listing before close. 26 listing longer than the lent slice"; "for a listing 25, 26"
+-- asking for it, with a lent slice o: the count of bytes written, or the refusal. "25 .. a listing before close. 26 listing longer than the lent slice"; "for a listing 25, 26"
 unfoldable pub list_answer : Day → List ℕ → Answer
 list_answer d o = first_refusal (refusing (not d.closed) NotReady ∷ refusing (ltb (length o) (length (printed_day d))) SliceTooShort ∷ [])
 
-unfoldable pub list_of : Day → List ℕ → Listed
-list_of d o = record { answer = list_answer d o; count = pick (accepted (list_answer d o)) (length (printed_day d)) 0 }
+unfoldable pub list_of : Day → List ℕ → Result ℕ Refusal
+list_of d o = answered (list_answer d o) (length (printed_day d))
+
+-- the bytes written: none at a refusal
+abbrev pub count_of : Result ℕ Refusal → ℕ
+count_of (Ok n) = n
+count_of (Err r) = 0
 
 -- the lent slice after it: "bytes past the listing being unchanged"; a refusal leaves "untouched output"
 unfoldable pub lent_after : Day → List ℕ → List ℕ

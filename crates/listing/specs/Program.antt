@@ -2,7 +2,7 @@
 use Rattle.std.specs.Prelude.{ℕ, zero, suc, List, [], Bool, true, false, leb, eqb, length, drop, Ok, Err}
 use Rattle.level.specs.Choice.{pick}
 use Rattle.records.specs.declared.Refusal.TheVariants.{TooFewBytes}
-use Rattle.records.specs.Answers.{refusal_number, number_of}
+use Rattle.records.specs.Answers.{Answer, refusal_number, number_of}
 use Rattle.profile.specs.declared.Taken.{Taken}
 use Rattle.profile.specs.Profile.{Found, paper}
 use Rattle.day.specs.declared.Day.{Day}
@@ -13,6 +13,11 @@ use Rattle.lines.specs.Lines.{x_line}
 use Rattle.lines.specs.Text.{laid}
 use Rattle.listing.specs.declared.Printed.{Printed}
 use Rattle.listing.specs.Listing.{printed_day}
+
+-- what taking records one after another comes to: the answer to the last one, and the day
+pub record Ran : Type 0 where
+  pub answer : Answer
+  pub day : Day
 
 -- records from a day on, up to close or the first refusal, n at most; where none is left, there are too few bytes
 unfoldable pub run_by : (Taken → Found) → ℕ → Day → List ℕ → Ran

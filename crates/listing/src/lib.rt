@@ -1,13 +1,6 @@
 // The listing of a day.
 #![tactic(auto)]
 
-// What asking for a listing gives: the answer, and how many bytes of the lent slice were written.
-#[derive(Clone, Copy)]
-pub struct Listed {
-    pub answer: records::Answer,
-    pub count: usize,
-}
-
 // What printing for an input gives: how many bytes of the lent slice were written, and whether the input ends too early to be
 // answered.
 #[derive(Clone, Copy)]

@@ -2,17 +2,18 @@
 use Prim.Native.Nat.{ℕ, ◌+◌, ◌≤◌, ◌<◌}
 use mathlib.Core.Path.{◌≡◌, refl}
 use mathlib.Core.List.{List, ◌++◌}
-use mathlib.Core.Bool.{true, not}
+use mathlib.Core.Bool.{true, false}
 use native.Mathlib.Omega.{arith}
 use borrow.Author.Tests.{lt-ltb, le-ltb}
 use lib.ListN.{length, length-append}
+use Rattle.std.specs.Prelude.{Ok, Err}
 use Rattle.records.specs.declared.Refusal.TheVariants.{NotReady, SliceTooShort}
 use Rattle.day.specs.declared.Day.{Day}
 use Rattle.day.specs.Day.{fates_in, courses_in, quantities_in}
 use Rattle.lines.specs.Text.{laid}
 use Rattle.lines.proofs.Laying.{Next, next_length}
 use Rattle.listing.specs.Listing.{listing, printed_day, list_answer, list_of, lent_after}
-use Rattle.listing_print.specs.Parts.{lines_f, lines_s, lines_q, line_e, no_listing, some_listing}
+use Rattle.listing_print.specs.Parts.{lines_f, lines_s, lines_q, line_e}
 use Rattle.listing_parts.specs.Rest.{courses_lines, closing_line}
 
 -- ---- the parts of a day's listing
@@ -35,15 +36,15 @@ module _ (d : Day) where
 
 -- ---- asking for it
 module _ (d : Day) (o : List ℕ) where
-  pub ask_open : not d.closed ≡ true → (no_listing NotReady ≡ list_of d o) × (o ≡ lent_after d o)
+  pub ask_open : d.closed ≡ false → (Err NotReady ≡ list_of d o) × (o ≡ lent_after d o)
   unfolding list_of lent_after list_answer
   ask_open e = (simp e, simp e)
 
-  pub ask_short : d.closed ≡ true → length o < length (printed_day d) → (no_listing SliceTooShort ≡ list_of d o) × (o ≡ lent_after d o)
+  pub ask_short : d.closed ≡ true → length o < length (printed_day d) → (Err SliceTooShort ≡ list_of d o) × (o ≡ lent_after d o)
   unfolding list_of lent_after list_answer
   ask_short e h = (simp (e, lt-ltb (length o) (length (printed_day d)) h), simp (e, lt-ltb (length o) (length (printed_day d)) h))
 
   pub ask_room : d.closed ≡ true → length (printed_day d) ≤ length o →
-      (some_listing (length (printed_day d)) ≡ list_of d o) × (laid (printed_day d) o ≡ lent_after d o)
+      (Ok (length (printed_day d)) ≡ list_of d o) × (laid (printed_day d) o ≡ lent_after d o)
   unfolding list_of lent_after list_answer
   ask_room e h = (simp (e, le-ltb (length o) (length (printed_day d)) h), simp (e, le-ltb (length o) (length (printed_day d)) h))

@@ -8,10 +8,10 @@ pub returns : goal.returns
 returns c =
     omega (
       arith,
-      day_length c.args.day,
-      c.fates_width-f.ensures.count_is,
-      c.courses_width-s.ensures.count_is,
-      c.quantities_width-q.ensures.count_is,
-      c.closing_width-e.ensures.count_is,
+      day_length c.args.day.now,
+      c.fates_width.ensures.count_is,
+      c.courses_width.ensures.count_is,
+      c.quantities_width.ensures.count_is,
+      c.closing_width.ensures.count_is,
       ap (λ (e : Closing). length (closing_line e)) c.closing_of-closing.ensures,
     )
