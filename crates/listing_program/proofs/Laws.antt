@@ -9,7 +9,9 @@ use lib.ListN.{length, take, drop}
 use lib.Seq.{take_at}
 use borrow.Author.Tests.{lt-ltb, le-ltb, le-leb, lt-leb, leb-true, leb-false, eqb-false}
 use Rattle.level.proofs.Lists.{by_bool}
-use Rattle.std.specs.Prelude.{Ok, Err}
+use Rattle.std.specs.Prelude.{Result, Ok, Err}
+use Rattle.records.specs.declared.Refusal.{Refusal}
+use Rattle.records.specs.declared.Refusal.TheVariants.{SliceTooShort}
 use Rattle.records.specs.Answers.{Answer, refusal_number, number_of}
 use Rattle.profile.specs.Profile.{paper}
 use Rattle.day.specs.declared.Day.{Day}
@@ -22,7 +24,7 @@ use Rattle.lines.proofs.Widths.{x_length}
 use Rattle.listing.specs.declared.Printed.{Printed}
 use Rattle.listing.specs.Listing.{suffices, printed_day, list_answer, list_of, lent_after}
 use Rattle.listing.specs.Program.{Ran, ran_by, printed_run, program, ends_early, fitting, print_of, print_lent}
-use Rattle.listing.specs.Result.{run_result, lent_run, listed_result, listed_lent}
+use Rattle.listing.specs.Result.{list_ran, lent_ran, listed, listed_lent}
 use Rattle.listing.proofs.Front.{ran_front}
 use Rattle.claims.proofs.Exported.{run_fits}
 use Rattle.listing_program.specs.Shown.{Shown}
@@ -38,64 +40,66 @@ module _ (xs o : List ℕ) where
   unfolding fitting
   none_written h = simp (lt-leb (length xs) (length o) h) (record { count_is = refl; bytes = refl })
 
--- ---- what a result n says, with the slice q, of the bytes p that are printed, and of whether the input ends early
-pub record Says (p o : List ℕ) (early : Bool) (n : ℕ) (q : List ℕ) : Type 0 where
-  pub listed : n / 4294967296 ≡ 0 → Written (fitting p o) n o q × (false ≡ early)
-  pub long : n / 4294967296 ≡ 26 → Written (fitting p o) 0 o q × (false ≡ early)
-  pub refused : (n / 4294967296 ≡ 0 → ⊥) → (n / 4294967296 ≡ 26 → ⊥) → (x_line (n / 4294967296) ≡ p) × (q ≡ o) × (eqb (n / 4294967296) 2 ≡ early)
+-- ---- what a result r says, with the slice q, of the bytes p that are printed, and of whether the input ends early
+pub record Says (p o : List ℕ) (early : Bool) (r : Result ℕ Refusal) (q : List ℕ) : Type 0 where
+  pub listed : (n : ℕ) → r ≡ Ok n → Written (fitting p o) n o q × (false ≡ early)
+  pub long : r ≡ Err SliceTooShort → Written (fitting p o) 0 o q × (false ≡ early)
+  pub refused : (x : Refusal) → r ≡ Err x → (x ≡ SliceTooShort → ⊥) → (x_line (refusal_number x) ≡ p) × (q ≡ o) × (eqb (refusal_number x) 2 ≡ early)
 
-module _ {p o : List ℕ} {n : ℕ} {q : List ℕ} where
-  says_listed : n ≡ length p → length p ≤ suffices → length p ≤ length o → q ≡ laid p o → Says p o false n q
-  says_listed e few h f = record {
-    listed = λ z. (all_written p o h (record { count_is = e; bytes = f }), refl);
-    long = λ z. absurd (omega arith);
-    refused = λ z. absurd (z (omega arith));
+module _ {p o q : List ℕ} where
+  says_listed : (n : ℕ) → n ≡ length p → length p ≤ length o → q ≡ laid p o → Says p o false (Ok n) q
+  says_listed n e h f = record {
+    listed = λ m z. let k : m ≡ n = cc in (all_written p o h (record { count_is = k ∙ e; bytes = f }), refl);
+    long = λ z. cc;
+    refused = λ x z y. cc;
   }
 
-  says_long : n ≡ 26 * 4294967296 → length o < length p → q ≡ o → Says p o false n q
-  says_long e h f = record {
-    listed = λ z. absurd (omega arith);
+  says_long : length o < length p → q ≡ o → Says p o false (Err SliceTooShort) q
+  says_long h f = record {
+    listed = λ m z. cc;
     long = λ z. (subst (λ (x : List ℕ). Written (fitting p o) 0 o x) (sym f) (none_written p o h), refl);
-    refused = λ z y. absurd (y (omega arith));
+    refused = λ x z y. absurd (y (let k : x ≡ SliceTooShort = cc in k));
   }
 
-says_refused : {o q : List ℕ} {n : ℕ} (k : ℕ) → n ≡ k * 4294967296 → 1 ≤ k → (k ≡ 26 → ⊥) → q ≡ o → Says (x_line k) o (eqb k 2) n q
-says_refused {o} {q} {n} k e some other f =
-    let is : n / 4294967296 ≡ k = omega arith in
-    record {
-      listed = λ z. absurd (omega arith);
-      long = λ z. absurd (other (omega arith));
-      refused = λ z y. (ap x_line is, f, ap (λ (m : ℕ). eqb m 2) is);
-    }
+says_refused : {o q : List ℕ} (r : Refusal) → (refusal_number r ≡ 26 → ⊥) → q ≡ o → Says (x_line (refusal_number r)) o (eqb (refusal_number r) 2) (Err r) q
+says_refused r other f = record {
+  listed = λ m z. cc;
+  long = λ z. absurd (other (let k : r ≡ SliceTooShort = cc in ap refusal_number k));
+  refused = λ x z y. let k : x ≡ r = cc in (ap (λ (w : Refusal). x_line (refusal_number w)) k, f, ap (λ (w : Refusal). eqb (refusal_number w) 2) k);
+}
 
 -- asking a closed day for its listing
 module _ (d : Day) (o : List ℕ) (closed : d.closed ≡ true) where
-  asked_long : length o < length (printed_day d) → (run_result (Ok tt) d o ≡ 26 * 4294967296) × (lent_run (Ok tt) d o ≡ o)
+  asked_long : length o < length (printed_day d) → (list_of d o ≡ Err SliceTooShort) × (lent_after d o ≡ o)
   unfolding list_of lent_after list_answer
   asked_long h = (simp (closed, lt-ltb (length o) (length (printed_day d)) h), simp (closed, lt-ltb (length o) (length (printed_day d)) h))
 
-  asked_room : length (printed_day d) ≤ length o →
-      (run_result (Ok tt) d o ≡ length (printed_day d)) × (lent_run (Ok tt) d o ≡ laid (printed_day d) o)
+  asked_room : length (printed_day d) ≤ length o → (list_of d o ≡ Ok (length (printed_day d))) × (lent_after d o ≡ laid (printed_day d) o)
   unfolding list_of lent_after list_answer
   asked_room h = (simp (closed, le-ltb (length o) (length (printed_day d)) h), simp (closed, le-ltb (length o) (length (printed_day d)) h))
 
 -- of a run with this answer and this day
-says_run : (a : Answer) (d : Day) {o q : List ℕ} {n : ℕ} → Own 0 a → (a ≡ Ok tt → (d.closed ≡ true) × (length (printed_day d) ≤ suffices)) →
-    n ≡ run_result a d o → q ≡ lent_run a d o → Says (printed_run (record { answer = a; day = d })) o (eqb (number_of a) 2) n q
+says_run : (a : Answer) (d : Day) {o : List ℕ} → Own 0 a → (a ≡ Ok tt → d.closed ≡ true) →
+    Says (printed_run (record { answer = a; day = d })) o (eqb (number_of a) 2) (list_ran (record { answer = a; day = d }) o)
+    (lent_ran (record { answer = a; day = d }) o)
 unfolding printed_run
-says_run (Err r) d own fits e f = says_refused (refusal_number r) e own.0 own.2 f
-says_run (Ok tt) d {o} own fits e f =
-    let c : d.closed ≡ true = (fits refl).0 in
+says_run (Err r) d own closed = says_refused r own.2 refl
+says_run (Ok _) d {o} own closed =
+    let c : d.closed ≡ true = closed refl in
     by_bool (leb (length (printed_day d)) (length o))
-    (λ b. let h = asked_room d o c (leb-true (length (printed_day d)) (length o) b) in
-    says_listed (e ∙ h.0) (fits refl).1 (leb-true (length (printed_day d)) (length o) b) (f ∙ h.1))
-    (λ b. let h = asked_long d o c (leb-false (length (printed_day d)) (length o) b) in
-    says_long (e ∙ h.0) (leb-false (length (printed_day d)) (length o) b) (f ∙ h.1))
+    (λ b. let room = leb-true (length (printed_day d)) (length o) b in
+    let h = asked_room d o c room in
+    rw h.0 (says_listed (length (printed_day d)) refl room h.1))
+    (λ b. let short = leb-false (length (printed_day d)) (length o) b in
+    let h = asked_long d o c short in
+    rw h.0 (says_long short h.1))
 
 module _ (s o : List ℕ) where
-  pub says : {q : List ℕ} {n : ℕ} → n ≡ listed_result s o → q ≡ listed_lent s o → Says (program s) o (ends_early s) n q
-  unfolding program ends_early listed_result listed_lent
-  says e f = let r : Ran = ran_by (found_in paper) s in says_run r.answer r.day (ran_own (found_in paper) s) (run_fits s r refl) e f
+  pub says : {q : List ℕ} {r : Result ℕ Refusal} → r ≡ listed s o → q ≡ listed_lent s o → Says (program s) o (ends_early s) r q
+  unfolding program ends_early listed listed_lent
+  says e f =
+      let r : Ran = ran_by (found_in paper) s in
+      rw (e, f) (says_run r.answer r.day (ran_own (found_in paper) s) (λ a. (run_fits s r refl a).0))
 
   -- what is written is what is printed
   pub prints : {q : List ℕ} {n : ℕ} {more : Bool} → Written (fitting (program s) o) n o q × (more ≡ ends_early s) →
@@ -104,15 +108,15 @@ module _ (s o : List ℕ) where
   prints w = ((λ i. record { count = w.0.count_is i; more = w.1 i }), w.0.bytes)
 
   -- the line of a refusal is
-  pub prints_line : {q end : List ℕ} {n count : ℕ} → Says (program s) o (ends_early s) n q → (n / 4294967296 ≡ 0 → ⊥) → (n / 4294967296 ≡ 26 → ⊥) →
-      Written (fitting (x_line (n / 4294967296)) q) count q end →
-      (record { count = count; more = eqb (n / 4294967296) 2 } ≡ print_of s o) × (end ≡ print_lent s o)
-  prints_line {end = end} {n = n} {count = count} a some other w =
-      let f = a.refused some other in
+  pub prints_line : {q end : List ℕ} {count : ℕ} (x : Refusal) {more : Bool} → Says (program s) o (ends_early s) (Err x) q → (x ≡ SliceTooShort → ⊥) →
+      Written (fitting (x_line (refusal_number x)) q) count q end → more ≡ eqb (refusal_number x) 2 →
+      (record { count = count; more = more } ≡ print_of s o) × (end ≡ print_lent s o)
+  prints_line {end = end} {count = count} x a other w m =
+      let f = a.refused x refl other in
       prints (
         subst (λ (p : List ℕ). Written (fitting p o) count o end) f.0
-            (subst (λ (x : List ℕ). Written (fitting (x_line (n / 4294967296)) x) count x end) f.1 w),
-        f.2,
+            (subst (λ (v : List ℕ). Written (fitting (x_line (refusal_number x)) v) count v end) f.1 w),
+        m ∙ f.2,
       )
 
 -- ---- where the slice has room for any listing, what is printed stands at its front
