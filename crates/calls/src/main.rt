@@ -5,6 +5,7 @@
 #![tactic(auto)]
 
 use day::Day;
+use records::Refusal;
 use std::io::{Print, Write};
 use streams::Failure;
 
@@ -23,8 +24,15 @@ fn malformed(rt: &HostRuntime) -> Result<bool, Failure> {
 
 // `A answer number`
 #[tactic(auto, using(lines::proofs::Decimals::line_two, lines::proofs::Decimals::word_width))]
-fn put_answer(rt: &HostRuntime, answer: records::Answer, number: usize) -> Result<(), Failure> {
-    let n = records_bytes::answer_number(answer);
+fn put_answer(
+    rt: &HostRuntime,
+    answer: Result<(), Refusal>,
+    number: usize,
+) -> Result<(), Failure> {
+    let n = match answer {
+        Ok(()) => 0,
+        Err(refusal) => refusal.number(),
+    };
     let mut line = [0u8; 44];
     let vs = [n as u64, number as u64];
     let count = lines_text::put_line(&mut line, b'A', &vs);
@@ -65,9 +73,10 @@ fn list_day(rt: &HostRuntime, day: &Day, n: usize) -> Result<bool, Failure> {
     let Some(out) = buf.get_mut(..n) else {
         return malformed(rt);
     };
-    let l = listing_print::list(*day, out);
-    put_answer(rt, l.answer, l.count)?;
-    put(rt, out.get(..l.count).ok_or(Failure::Unwritten)?)?;
+    let listed = listing_print::list(*day, out);
+    let count = listed.unwrap_or(0);
+    put_answer(rt, listed.map(|_| ()), count)?;
+    put(rt, out.get(..count).ok_or(Failure::Unwritten)?)?;
     Ok(true)
 }
 
