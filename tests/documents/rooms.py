@@ -23,7 +23,7 @@ MOST = 1600
 CLAIMS = {"Demand1", "Demand2", "Demand3", "Demand3Whole", "Exported"}
 CLAIM_LINES = 60
 # The calls of the library and of the programs: what they promise rests on believed definitions alone.
-CALLS = {"day_step": ["step"], "day_take": ["take", "take_front"], "listing_print": ["list"], "gristpebble": ["gristpebble_listing"],
+CALLS = {"day_step": ["step"], "day_take": ["take", "take_front"], "listing_print": ["list"], "gristpebble": ["listing", "gristpebble_listing"],
          "gristpebble_c": ["gristpebble_listing"], "listing_program": ["print"], "day_close": ["find"]}
 USE = re.compile(r"^\s*(?:ghost )?use Rattle\.(\w+)\.(specs|proofs)\.([\w.-]+?)(?:\.\{([^}]*)\})?;?$")
 

@@ -157,8 +157,9 @@ def program_part(profiler, calls):
 
 
 def words_part():
-    source = "".join(path.read_text(encoding="utf-8") for path in (ROOT / "crates/records_bytes/src").glob("*.rt"))
-    numbers = sorted(int(number) for number in re.findall(r"Refusal::\w+ => (\d+),", source))
+    source = (ROOT / "crates/records/src/lib.rt").read_text(encoding="utf-8")
+    variants = re.search(r"pub enum Refusal \{(.*?)\}", source, re.S).group(1)
+    numbers = sorted(int(number) for number in re.findall(r"\w+ = (\d+),", variants))
     check("refusals of the code", numbers == NUMBERS, numbers)
     lines = (ROOT / "bindings/refusals.txt").read_text(encoding="utf-8").splitlines()
     table = [line.split(" ", 1) for line in lines]

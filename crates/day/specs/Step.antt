@@ -1,5 +1,5 @@
 -- Believed: document 01, Refusals. Taking a record: the refusals in the paper's order, and what an acceptance and a refusal return.
-use Rattle.std.specs.Prelude.{ℕ, ◌-◌, List, [], ◌∷◌, Bool, false, ◌&&◌, ◌||◌, not, leb, ltb, eqb, length, get_or, take, drop, Ok, Err}
+use Rattle.std.specs.Prelude.{ℕ, ◌-◌, List, [], ◌∷◌, Bool, false, ◌&&◌, ◌||◌, not, leb, ltb, eqb, length, get_or, take, drop, Ok}
 use Rattle.level.specs.Choice.{pick}
 use Rattle.level.specs.Level.{grains}
 use Rattle.level.specs.Lists.{some}

@@ -1,25 +1,19 @@
 -- A record by its front: the answer is the definition's, kind by kind.
 use mathlib.Core.Path.{◌≡◌, refl, ap, sym, ◌∙◌}
 use mathlib.Core.List.{List, [], ◌∷◌, ◌++◌}
-use mathlib.Core.Bool.{Bool, true, false, ◌&&◌, not}
-use Prim.Native.Nat.{ℕ, suc, ◌≤◌, ◌<◌}
-use native.Mathlib.Omega.{arith}
+use mathlib.Core.Bool.{Bool, not}
+use Prim.Native.Nat.{ℕ, ◌<◌}
 use lib.Dec.{leb, ltb}
-use lib.ListN.{length, get_or}
-use Rattle.std.specs.Prelude.{Result, Ok, Err}
+use lib.ListN.{length}
+use Rattle.std.specs.Prelude.{Ok, Err}
 use Rattle.level.specs.Numbers.{instruction_places}
 use Rattle.level.specs.Lists.{All}
-use Rattle.records.specs.declared.UnitData.{UnitData}
-use Rattle.records.specs.declared.Opening.{Opening}
-use Rattle.records.specs.declared.Instruction.{Instruction}
-use Rattle.records.specs.declared.Refusal.{Refusal}
-use Rattle.records.specs.declared.Refusal.TheVariants.{TooFewBytes, SecondOne, BeforeUnit, OpeningTooHigh, TooManyInstructions, AfterClose, NotReady}
-use Rattle.records.specs.Answers.{Answer, accepted, refusing, before, answered, first_refusal}
-use Rattle.records.specs.Records.{unit_size, opening_size, instruction_size, close_size, size_of, numbers, unit_of, opening_of, instruction_of}
+use Rattle.records.specs.declared.Refusal.TheVariants.{TooFewBytes, SecondOne, BeforeUnit, OpeningTooHigh, TooManyInstructions, AfterClose}
+use Rattle.records.specs.Answers.{Answer, refusing, before, answered, first_refusal}
+use Rattle.records.specs.Records.{unit_size, opening_size, instruction_size, size_of, numbers, unit_of, opening_of, instruction_of}
 use Rattle.records.specs.Fields.{unit_answer, opening_answer, instruction_answer}
 use Rattle.profile.specs.declared.Taken.{Taken}
-use Rattle.profile.specs.Profile.{paper}
-use Rattle.day.specs.Day.{day_seconds, found_in}
+use Rattle.day.specs.Day.{day_seconds}
 use Rattle.day.specs.Step.{too_high}
 use Rattle.day.specs.ByKind.{instruction_refusals, kind_refusals}
 use Rattle.day.proofs.Answers.{all_accepted}

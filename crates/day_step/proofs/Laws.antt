@@ -1,10 +1,10 @@
 -- A record taken where it is, by its front: what is returned and left is the definition's step.
-use Prim.Native.Nat.{ℕ, suc, ◌+◌, ◌≤◌, ◌<◌}
+use Prim.Native.Nat.{ℕ, ◌+◌, ◌≤◌, ◌<◌}
 use native.Mathlib.Omega.{arith}
 use mathlib.Core.Path.{◌≡◌, refl, ap, sym, ◌∙◌}
 use mathlib.Core.List.{List, [], ◌∷◌}
 use mathlib.Core.Bool.{Bool, true, false, not}
-use lib.Dec.{eqb, ltb}
+use lib.Dec.{eqb}
 use lib.ListN.{length, get_or, set}
 use borrow.Author.Tests.{le-ltb}
 use Rattle.std.specs.Prelude.{Result, Ok, Err}
@@ -17,7 +17,6 @@ use Rattle.records.specs.declared.Instruction.{Instruction}
 use Rattle.records.specs.declared.Refusal.{Refusal}
 use Rattle.records.specs.declared.Refusal.TheVariants.{TooFewBytes, AfterClose, NotReady, QuantityTooHigh}
 use Rattle.records.specs.declared.Kind.{Kind}
-use Rattle.records.specs.Kinds.{kind_by}
 use Rattle.records.proofs.ByKind.{kind_number, kind_is, kind_none}
 use Rattle.records.specs.Answers.{Answer, accepted, refusing, before, answered, first_refusal}
 use Rattle.records.specs.Records.{unit_size, opening_size, instruction_size, close_size, size_of, numbers, unit_of, opening_of, instruction_of}
@@ -32,7 +31,7 @@ use Rattle.day.specs.Day.{found_in, day_with}
 use Rattle.day.specs.Step.{a_kind, quantity_too_high, accept, settle, step_of}
 use Rattle.day.specs.ByKind.{close_refusals, kind_refusals}
 use Rattle.day.proofs.ByKind.{no_kinds, step_empty, no_kind, kind_step}
-use Rattle.day_enter.specs.Fronts.{early, body, unit_front, opening_front, instruction_front, close_front, front_answer}
+use Rattle.day_enter.specs.Fronts.{body, unit_front, opening_front, instruction_front, close_front, front_answer}
 use Rattle.day_enter.proofs.Laws.{first_append, last_is, unit_front_is, opening_front_is, instruction_front_is, instruction_room}
 use Rattle.day_close.specs.Closed.{close_read}
 use Rattle.day_step.specs.Taking.{kind_at, stepped, TakenBy, close_taken}
@@ -108,13 +107,13 @@ module _ (t : Taken) (closed : Bool) (s : List ℕ) where
 
     pub instruction_taken : TakenBy 3 t closed s (Ok instruction_size)
         (record {
-      hasUnit = t.hasUnit;
-      unit = t.unit;
-      hasStart = t.hasStart;
-      start = t.start;
-      count = t.count + 1;
-      instructions = set t.instructions t.count i;
-    })
+          hasUnit = t.hasUnit;
+          unit = t.unit;
+          hasStart = t.hasStart;
+          start = t.start;
+          count = t.count + 1;
+          instructions = set t.instructions t.count i;
+        })
     unfolding taken_with size_of
     instruction_taken =
         let q = of_ok (instruction_of (body instruction_size s)) (front_answer 3 t closed s) i (e ∙ instruction_front_is t closed s) in

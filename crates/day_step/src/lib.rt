@@ -26,8 +26,13 @@ fn take_unit(taken: &mut Taken, closed: bool, input: &[u8]) -> Result<usize, Ref
 fn take_opening(taken: &mut Taken, closed: bool, input: &[u8]) -> Result<usize, Refusal>
     ensures { TakenBy 2 taken.old closed input.now result taken.new }
 {
-    let opening =
-        day_enter::opening_front(taken.hasUnit, taken.hasStart, closed, &taken.unit, input)?;
+    let opening = day_enter::opening_front(
+        taken.hasUnit,
+        taken.hasStart,
+        closed,
+        &taken.unit,
+        input,
+    )?;
     taken.hasStart = true;
     taken.start = day_enter::start_of(opening);
     Ok(records::OPENING_SIZE)

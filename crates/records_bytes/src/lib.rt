@@ -2,7 +2,7 @@
 #![tactic(auto)]
 
 ghost use Rattle.std.specs.Prelude.{◌≡◌, ◌<◌, ◌^◌, get_or};
-ghost use Rattle.records.specs.Codes.{meaning_of, same};
+ghost use Rattle.records.specs.Codes.{meaning_of};
 ghost use Rattle.records.specs.Records.{number_at, no_instruction};
 
 use records::{Effect, Instruction, Meaning};
@@ -29,14 +29,8 @@ pub fn decode(code: u8) -> Option<Meaning>
     })
 }
 
-// Whether two are the same code.
-pub fn same_code(a: Effect, b: Effect) -> bool
-    ensures { result ≡ same a b }
-{
-    a == b
-}
-
 // What a place for an instruction holds that none has taken: zeros.
+// By hand, since no effect is the usual one and `Effect` has no `Default`.
 pub fn no_instruction() -> Instruction
     ensures { result ≡ no_instruction }
 {
@@ -71,5 +65,10 @@ pub fn number(body: &[u8], at: usize) -> u32
     if at + 4 <= body.len() {
         return u32::from_be_bytes([body[at], body[at + 1], body[at + 2], body[at + 3]]);
     }
-    u32::from_be_bytes([byte(body, at), byte(body, at + 1), byte(body, at + 2), byte(body, at + 3)])
+    u32::from_be_bytes([
+        byte(body, at),
+        byte(body, at + 1),
+        byte(body, at + 2),
+        byte(body, at + 3),
+    ])
 }

@@ -43,7 +43,10 @@ fn column_of(ns: [u32; 62], at: usize) -> Column
         block: ns[at],
         rates: [ns[at + 1], ns[at + 2], ns[at + 3]],
         breaks: [ns[at + 4], ns[at + 5]],
-        soaks: [trigger_of(ns, at + 6, at + 8), trigger_of(ns, at + 7, at + 9)],
+        soaks: [
+            trigger_of(ns, at + 6, at + 8),
+            trigger_of(ns, at + 7, at + 9),
+        ],
     }
 }
 
@@ -71,7 +74,11 @@ pub fn unit_of(ns: [u32; 62]) -> UnitData
         warm: ns[4],
         columns: [column_of(ns, 5), column_of(ns, 15), column_of(ns, 25)],
         up: ramp_at(ns, 35),
-        dwells: [trigger_of(ns, 44, 47), trigger_of(ns, 45, 48), trigger_of(ns, 46, 49)],
+        dwells: [
+            trigger_of(ns, 44, 47),
+            trigger_of(ns, 45, 48),
+            trigger_of(ns, 46, 49),
+        ],
         down: ramp_at(ns, 50),
         deload: Deload {
             rates: [ns[59], ns[60]],

@@ -1,4 +1,3 @@
-use Rattle.std.proofs.Common.{◌≡◌, []}
 use Rattle.records.specs.Records.{unit_of, column_of, trigger_of}
 use Rattle.day_enter.proofs.Zeros.{all_of}
 use Rattle.day_enter.proofs.no_unit.Goals as goal
