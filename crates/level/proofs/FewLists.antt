@@ -1,5 +1,5 @@
 -- The first few of some.
-use mathlib.Core.Path.{◌≡◌, refl, sym, ap, ◌∙◌}
+use mathlib.Core.Path.{◌≡◌, sym, ap, ◌∙◌}
 use mathlib.Core.List.{List, [], ◌∷◌, ◌++◌}
 use Prim.Native.Nat.{ℕ, ◌+◌, ◌-◌, ◌≤◌, min}
 use native.Mathlib.Decide.{dec_le}
@@ -19,7 +19,7 @@ module _ {T : Type 0} (items : List T) (count n : ℕ) (h : count ≤ length ite
         let low : n ≤ length (take count items) = omega (arith, length-take count items) in
         let a = sym (take-take n count items p) in
         let b : drop n items ≡ drop n (take count items) ++ drop count items =
-            ap (drop n) (sym (take-append-drop count items)) ∙ drop-append-le n (take count items) (drop count items) low in
+        ap (drop n) (sym (take-append-drop count items)) ∙ drop-append-le n (take count items) (drop count items) low in
         rw k ((λ i. record { these = a i; spare = b i }) ∙ ap (λ (u : Few T). first_few u n) q)
     | no p ↦
         let k : m ≡ count = omega arith in

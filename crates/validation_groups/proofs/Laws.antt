@@ -51,6 +51,11 @@ pub joined_count : (s : Few Numbered) (f : Option Numbered) → length (joined s
 joined_count s (Some o) = simp length-append (omega arith)
 joined_count s None = omega arith
 
+-- what is picked is none
+pub picked_none : (f : Option Numbered) → ((o : Numbered) → f ≡ Some o → ⊥) → f ≡ None
+picked_none None h = refl
+picked_none (Some o) h = absurd (h o refl)
+
 -- nothing is in it yet; all is in it
 pub begun_none : (whole : List Numbered) → Begun (sequence_of []) whole whole
 begun_none whole = record { xs = []; holds = refl; parts = refl }

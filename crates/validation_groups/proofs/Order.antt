@@ -1,18 +1,18 @@
 -- Those used, where they stand in time order: one time's group after another, from the place of its first.
 use mathlib.Core.Path.{◌≡◌, refl, sym, ap, ◌∙◌}
-use mathlib.Core.List.{List, [], ◌∷◌}
+use mathlib.Core.List.{List, [], ◌∷◌, ◌++◌}
 use mathlib.Core.Bool.{Bool, true, false, ◌&&◌, not, and-false, true≢false}
 use Prim.Native.Nat.{ℕ, zero, suc, ◌+◌, ◌-◌, ◌≤◌, ◌<◌, max}
 use native.Mathlib.Decide.{ℕ_discrete, dec_le}
 use native.Mathlib.Omega.{arith}
 use lib.Dec.{leb, ltb, eqb}
-use lib.ListN.{length, drop, get_or, length-drop}
+use lib.ListN.{length, drop, get_or, length-drop, length-append, get_or-append}
+use lib.Seq.{drop-append_seam, drop-drop}
 use borrow.Author.Tests.{ltb-true, leb-true, leb-false, eqb-true, not-true, lt-ltb, le-ltb, le-leb, lt-leb, eq-eqb, ne_eqb}
-use Rattle.std.specs.Prelude.{Option, Some, None, option_to_list, fold, take_while}
+use Rattle.std.specs.Prelude.{Option, Some, option_to_list, fold}
 use Rattle.std.specs.Ordering.{partial_le, nat_cmp}
-use Rattle.std.specs.List.{prefix_len, IsAllAdjacentAnswer}
+use Rattle.std.specs.List.{IsAllAdjacentAnswer, IsChunkByPrefix}
 use Rattle.std.proofs.lemmas.List.{get_or-drop}
-use Rattle.std.proofs.lemmas.List.Folds.{length-prefix_len}
 use Rattle.level.specs.Few.{Few}
 use Rattle.level.specs.Lists.{some, those}
 use Rattle.level.proofs.Lists.{by_bool, and_true}
@@ -20,7 +20,7 @@ use Rattle.records.specs.declared.Effect.TheVariants.{Mwof, Sync, Desy}
 use Rattle.records.specs.Codes.{code_number}
 use Rattle.validation.specs.declared.Numbered.{Numbered}
 use Rattle.validation.specs.Kept.{effective_of, effect_of, superseded, group, highest, present, merged, used_of, next_time, used_from, used}
-use Rattle.validation_groups.specs.Working.{no_numbered, sequence_of, issue_time_of, time_at, later_of, latest_at, rising_from, in_time_order, Rising, has_time_at, follows_time, alone_at, run_end}
+use Rattle.validation_groups.specs.Working.{no_numbered, sequence_of, issue_time_of, time_at, later_of, latest_at, rising_from, in_time_order, Rising, has_time_at, follows_time, alone_at, same_time}
 use Rattle.validation_groups.proofs.Laws.{Begun, begun_none, begun_group, joined, joined_count, used_stop}
 
 -- ---- the next time
@@ -103,39 +103,50 @@ pub record Run (os : List Numbered) (t from r : ℕ) : Type 0 where
   pub same : (j : ℕ) → from ≤ j → j < r → time_at os j ≡ t
   pub other : r < length os → time_at os r ≡ t → ⊥
 
--- so from the first place on
-record Front (t : ℕ) (os : List Numbered) (k : ℕ) : Type 0 where
-  ends : k ≤ length os
-  same : (j : ℕ) → j < k → time_at os j ≡ t
-  other : k < length os → time_at os k ≡ t → ⊥
+-- a run from the place i on, which is cut off what is left
+pub record NextRun (os x next : List Numbered) (i : ℕ) : Type 0 where
+  pub here : i < length os
+  pub first_is : get_or x 0 no_numbered ≡ get_or os i no_numbered
+  pub run : Run os (time_at os i) (i + 1) (i + length x)
+  pub left : next ≡ drop (i + length x) os
 
-front_is : (t : ℕ) (os : List Numbered) → Front t os (prefix_len (λ (o : Numbered). eqb (effective_of o) t) os)
-front_is t [] = record { ends = omega arith; same = λ j l. absurd (omega arith); other = λ l. absurd (omega arith) }
-front_is t (o ∷ os) = elim (ℕ_discrete (effective_of o) t) [
-  | no n ↦ rw (ne_eqb (effective_of o) t n) (record { ends = omega arith; same = λ j l. absurd (omega arith); other = λ l. n })
-  | yes e ↦
-      let r = front_is t os in
-      let k = prefix_len (λ (o : Numbered). eqb (effective_of o) t) os in
-      rw (eq-eqb (effective_of o) t e) (record { ends = omega (arith, r.ends); same = go e k r.same; other = λ l q. let z : 1 + k ≡ suc k = omega arith in r.other (omega arith) (rw z at q) })
-]
-  where
-    go : effective_of o ≡ t → (k : ℕ) → ((j : ℕ) → j < k → time_at os j ≡ t) → (j : ℕ) → j < 1 + k → time_at (o ∷ os) j ≡ t
-    go e k h zero l = e
-    go e k h (suc j) l = h j (omega arith)
+module _ (os rest x next : List Numbered) (i : ℕ) (e : rest ≡ drop i os) (parts : rest ≡ x ++ next) (some : 0 < length x)
+    (cut : IsChunkByPrefix same_time rest (length x)) where
+  lengths : length os - i ≡ length x + length next
+  lengths = sym (length-drop i os) ∙ (ap length (sym e) ∙ (ap length parts ∙ length-append x next))
 
-pub run_is : (os : List Numbered) (t from : ℕ) → from ≤ length os → Run os t from (run_end os t from)
-run_is os t from h =
-    let f : Numbered → Bool = λ (o : Numbered). eqb (effective_of o) t in
-    let k = prefix_len f (drop from os) in
-    let e : run_end os t from ≡ from + k = ap (λ (n : ℕ). from + n) (length-prefix_len f (drop from os)) in
-    let r = front_is t (drop from os) in
-    let at : (j : ℕ) → time_at (drop from os) j ≡ time_at os (from + j) = λ j. ap effective_of (get_or-drop from os j no_numbered) in
-    rw e (record {
+  at_rest : (k : ℕ) → time_at rest k ≡ time_at os (i + k)
+  at_rest k = ap (λ (l : List Numbered). time_at l k) e ∙ ap effective_of (get_or-drop i os k no_numbered)
+
+  one_time : (k : ℕ) → k < length x → time_at rest k ≡ time_at rest 0
+  one_time zero h = refl
+  one_time (suc k) h =
+      let z : k + 1 ≡ suc k = omega arith in
+      sym (rw z at (eqb-true (time_at rest k) (time_at rest (k + 1)) (cut.0 k no_numbered (omega arith)))) ∙ one_time k (omega arith)
+
+  one_run : (k : ℕ) → k < length x → time_at os (i + k) ≡ time_at os i
+  one_run k h = let z : i + 0 ≡ i = omega arith in sym (at_rest k) ∙ (one_time k h ∙ rw z at (at_rest 0))
+
+  pub next_run : NextRun os x next i
+  next_run = record {
+    here = omega (arith, lengths);
+    first_is =
+        let z : i + 0 ≡ i = omega arith in
+        sym (get_or-append x next no_numbered 0 some) ∙ (ap (λ (l : List Numbered). get_or l 0 no_numbered) (sym parts ∙ e)
+        ∙ (get_or-drop i os 0 no_numbered ∙ ap (λ (k : ℕ). get_or os k no_numbered) z));
+    run = record {
       starts = omega arith;
-      ends = omega (arith, r.ends, length-drop from os);
-      same = λ j p l. let q : from + (j - from) ≡ j = omega arith in rw q at (sym (at (j - from)) ∙ r.same (j - from) (omega arith));
-      other = λ l q. r.other (omega (arith, length-drop from os)) (at k ∙ q);
-    })
+      ends = omega (arith, lengths);
+      same = λ j p l. let q : i + (j - i) ≡ j = omega arith in rw q at (one_run (j - i) (omega arith));
+      other = λ l q.
+          let n = length x in
+          let past : n < length rest = omega (arith, lengths, ap length e, length-drop i os) in
+          let last : time_at rest (n - 1) ≡ time_at rest n =
+          at_rest (n - 1) ∙ (one_run (n - 1) (omega arith) ∙ (sym q ∙ sym (at_rest n))) in
+          true≢false (sym (eq-eqb (time_at rest (n - 1)) (time_at rest n) last) ∙ cut.1 past no_numbered);
+    };
+    left = sym (drop-append_seam x next) ∙ (ap (drop (length x)) (sym parts ∙ e) ∙ drop-drop (length x) i os);
+  }
 
 -- ---- in order
 -- the groups of the first i places are in; those of the others follow, from a time on
@@ -223,6 +234,34 @@ module _ {os : List Numbered} (rising : Rising os) where
           | yes p ↦ run.other (omega arith) (omega (arith, rising i (i + 1) (omega arith) (omega arith), rising (i + 1) j (omega arith) l))
           | no p ↦ absurd (omega (arith, r.before j (omega arith), r.after i (omega arith) h))
         ]
+
+-- the runs of the first places are in; the rest of them is still to come
+pub record RunsProgress (end : ℕ) (os rest : List Numbered) (out : Few Numbered) : Type 0 where
+  pub place : ℕ
+  pub rest_is : rest ≡ drop place os
+  pub progress : OrderProgress end os place out
+
+module _ {end : ℕ} {os rest : List Numbered} {out : Few Numbered} (rising : Rising os) (r : RunsProgress end os rest out) where
+  pub runs_all : length rest ≡ 0 → Begun out [] (used end os)
+  runs_all e = order_all rising r.progress (omega (arith, ap length r.rest_is, length-drop r.place os))
+
+  module _ {x next : List Numbered} (n : NextRun os x next r.place) where
+    pub runs_late : end ≤ time_at x 0 → Begun out [] (used end os)
+    runs_late late = order_late rising r.progress n.here (omega (arith, ap effective_of n.first_is))
+
+    -- one alone is used as it is
+    pub runs_alone : length x ≡ 1 → get_or x 0 no_numbered ∷ [] ≡ used_of (group os (time_at os r.place))
+    runs_alone one =
+        let e : r.place + length x ≡ r.place + 1 = omega arith in
+        ap (λ (o : Numbered). o ∷ []) n.first_is ∙ order_alone rising r.progress n.here (rw e at n.run)
+
+    pub runs_more : (f : Option Numbered) → time_at x 0 < end → option_to_list f ≡ used_of (group os (time_at os r.place)) →
+        RunsProgress end os next (joined out f)
+    runs_more f early e = record {
+      place = r.place + length x;
+      rest_is = n.left;
+      progress = order_more rising r.progress (r.place + length x) f n.here (omega (arith, ap effective_of n.first_is)) n.run e;
+    }
 
 -- ---- the times in order
 -- any two of them
@@ -350,7 +389,3 @@ sorted_is os false h =
     let k = h.0 in
     let e = sym (before_is (time_at os k) (time_at os (k + 1))) ∙ sym (h.2 no_numbered) in
     sym (one_falls 0 os k h.1 (leb-false (time_at os k) (time_at os (k + 1)) e))
-
-pub picked_none : (f : Option Numbered) → ((o : Numbered) → f ≡ Some o → ⊥) → f ≡ None
-picked_none None h = refl
-picked_none (Some o) h = absurd (h o refl)

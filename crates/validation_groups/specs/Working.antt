@@ -1,5 +1,5 @@
 -- Working. What the code of steps 1 and 2 works with, beside the definitions.
-use Rattle.std.specs.Prelude.{ℕ, ◌+◌, ◌-◌, ◌<◌, ◌≤◌, min, max, ◌≡◌, List, [], ◌∷◌, Bool, true, ◌&&◌, not, leb, ltb, eqb, length, get_or, drop, fold, take_while}
+use Rattle.std.specs.Prelude.{ℕ, ◌+◌, ◌-◌, ◌<◌, ◌≤◌, min, max, ◌≡◌, List, [], ◌∷◌, Bool, true, ◌&&◌, not, leb, ltb, eqb, length, get_or, fold}
 use Rattle.level.specs.Choice.{pick}
 use Rattle.level.specs.Few.{Few, few_of}
 use Rattle.level.specs.Numbers.{instruction_places}
@@ -73,10 +73,10 @@ pub record LatestAsked (os : List Numbered) (at : ℕ) (ordered : Bool) (before 
   pub told : ordered ≡ in_time_order os
   pub before_latest : 0 < at → before ≡ latest_at os (time_at os (at - 1))
 
--- the place after the run of the time t from a place on
-abbrev pub run_end : List Numbered → ℕ → ℕ → ℕ
-run_end os t from = from + length (take_while (λ o. eqb (effective_of o) t) (drop from os))
-
 -- the instruction at the place i, from 0, with its number
 abbrev pub numbered_at : ℕ → Instruction → Numbered
 numbered_at i x = record { number = i + 1; instruction = x }
+
+-- two have one effective time
+abbrev pub same_time : Numbered → Numbered → Bool
+same_time x y = eqb (effective_of x) (effective_of y)

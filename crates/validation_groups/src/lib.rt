@@ -1,10 +1,10 @@
 // Which instruction is used at each effective time, steps 1 and 2: over up to forty instructions with their numbers.
 #![tactic(auto)]
 
-ghost use Rattle.std.specs.Prelude.{◌≡◌, ◌+◌, ◌-◌, ◌<◌, ◌≤◌, ◌&&◌, [], length, take_while, nat_eq, option_to_list};
+ghost use Rattle.std.specs.Prelude.{◌≡◌, ◌+◌, ◌-◌, ◌<◌, ◌≤◌, ◌&&◌, [], length, option_to_list};
 ghost use Rattle.level.specs.Numbers.{instruction_places};
-ghost use Rattle.validation.specs.Kept.{effective_of, group, used_of, used};
-ghost use Rattle.validation_groups.specs.Working.{no_numbered, sequence_of, time_at, later_of, latest_at, has_time_at, follows_time, alone_at, in_time_order, earlier_of, next_time_from, Rising, run_end, LatestAsked, UsedAsked};
+ghost use Rattle.validation.specs.Kept.{group, used_of, used};
+ghost use Rattle.validation_groups.specs.Working.{no_numbered, sequence_of, time_at, later_of, latest_at, has_time_at, follows_time, alone_at, in_time_order, earlier_of, next_time_from, Rising, LatestAsked, UsedAsked};
 
 use level::{Few, INSTRUCTIONS};
 use records::{Effect, Instruction};
@@ -49,7 +49,11 @@ fn later(t: u32, best: u32, o: &Numbered) -> u32
     ensures { result ≡ later_of t best o.now }
 {
     let i = o.instruction;
-    if i.effective == t { best.max(i.issue) } else { best }
+    if i.effective == t {
+        best.max(i.issue)
+    } else {
+        best
+    }
 }
 
 // The latest issue time of those at the effective time t; 0 where there is none.
@@ -148,41 +152,26 @@ pub fn in_order(os: &[Numbered]) -> bool
     os.is_sorted_by_key(|o| o.instruction.effective)
 }
 
-// How many of the first ones have the time t.
-fn run_length(os: &[Numbered], t: u32) -> usize
-    ensures { result ≡ length (take_while (λ o. nat_eq (effective_of o) t) os.now) }
-{
-    os.iter().take_while(|o| o.instruction.effective == t).count()
-}
-
-// The place after the run of the time t from a place on.
-fn run_end(os: &[Numbered], t: u32, from: usize) -> usize
-    requires { from ≤ length os.now }
-    ensures { result ≡ run_end os.now t from }
-{
-    from + run_length(&os[from..], t)
-}
-
 // Those used, where they stand in time order: those at one time stand side by side, and one alone is used as it is.
 fn used_ordered(os: &[Numbered], end: u32) -> Sequence
     requires { (length os.now ≤ instruction_places) × Rising os.now }
     ensures { result ≡ sequence_of (used end os.now) }
 {
     let mut out = none();
-    let mut i = 0;
-    // from run to run
-    while i < os.len() {
-        let first = os[i];
+    for run in os.chunk_by(|a, b| a.instruction.effective == b.instruction.effective) {
+        let first = run[0];
         let t = first.instruction.effective;
         if end <= t {
             return out;
         }
-        let next = run_end(os, t, i + 1);
-        let used = if next == i + 1 { Some(first) } else { used_at(os, t) };
+        let used = if run.len() == 1 {
+            Some(first)
+        } else {
+            used_at(os, t)
+        };
         if let Some(o) = used {
             out.push(o);
         }
-        i = next;
     }
     out
 }
@@ -213,5 +202,9 @@ pub fn used_in(os: &[Numbered], end: u32, ordered: bool) -> Sequence
     ensures exactly { result ≡ sequence_of (used end os.now) }
     ensures few { length (used end os.now) ≤ instruction_places }
 {
-    if ordered { used_ordered(os, end) } else { used_any(os, end) }
+    if ordered {
+        used_ordered(os, end)
+    } else {
+        used_any(os, end)
+    }
 }

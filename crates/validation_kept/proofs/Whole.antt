@@ -18,7 +18,7 @@ use Rattle.validation.specs.declared.Numbered.{Numbered}
 use Rattle.validation.specs.Kept.{numbered, Mark, superseded, Checked, check, used_from, used, actors, late_marks, turned, kept_of, validated, fate_among, fates_of}
 use Rattle.validation.proofs.Few.{numbered_length, Fated, fated_append, checked_fated, late_fated}
 use Rattle.validation_kept.specs.declared.Validation.{Validation}
-use Rattle.validation_groups.specs.Working.{no_numbered, numbered_at, sequence_of}
+use Rattle.validation_groups.specs.Working.{no_numbered, sequence_of}
 use Rattle.validation_kept.specs.Outcome.{outcome_of, validation_of}
 use Rattle.validation_kept.specs.Late.{settle_fate, settled, fates_to}
 use Rattle.validation_sequence.specs.Working.{set_fate, marked, none_checked, Tracks}
@@ -202,7 +202,7 @@ outcome_is end is few ks fates t =
     let os = numbered 1 is in
     let later = settled fates (late_marks end ks) in
     let f : fates_to os later (length os) ≡ fates_of os (validated end os).marks os =
-        fates_all is few later (validated end os).marks (marks_are end os ks fates t) in
+    fates_all is few later (validated end os).marks (marks_are end os ks fates t) in
     let a : actors end ks ≡ (validated end os).acts = acts_are end os ks fates t in
     λ j. record { fates = filled instruction_places 0 (f j); acts = sequence_of (a j) }
 

@@ -134,11 +134,7 @@ fn fates_of(all: &[Numbered], ordered: bool, later: &[u8; INSTRUCTIONS]) -> [u8;
 
 // Which of the first `count` instructions are kept, in a day of `end` seconds. A count above forty reads like forty; where there
 // is none, nothing is looked at.
-pub fn validate(
-    instructions: [Instruction; INSTRUCTIONS],
-    count: usize,
-    end: u32,
-) -> Validation
+pub fn validate(instructions: [Instruction; INSTRUCTIONS], count: usize, end: u32) -> Validation
     ensures { result ≡ validation_of instructions count end }
 {
     if count == 0 {

@@ -7,7 +7,7 @@ use Rattle.std.specs.Prelude.{Option, Some, None, option_to_list}
 use Rattle.std.specs.Option.{option_or}
 use Rattle.records.specs.declared.Effect.TheVariants.{Sync, Desy}
 use Rattle.validation.specs.declared.Numbered.{Numbered}
-use Rattle.validation.specs.Kept.{highest, or_else, present, merged, used_of}
+use Rattle.validation.specs.Kept.{or_else, present, merged, used_of}
 use Rattle.validation_rank.specs.Best.{best_from}
 
 -- the first picked, else the other

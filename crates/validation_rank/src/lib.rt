@@ -20,10 +20,8 @@ fn goes_before(x: Numbered, o: Numbered) -> bool
 {
     let i = x.instruction;
     let j = o.instruction;
-    if i.meaning.rank < j.meaning.rank {
-        return true;
-    }
-    x.effect() == Effect::Mwof && o.effect() == Effect::Mwof && j.level < i.level
+    i.meaning.rank < j.meaning.rank
+        || x.effect() == Effect::Mwof && o.effect() == Effect::Mwof && j.level < i.level
 }
 
 // The one of two that goes before the other; o was entered first.
@@ -74,17 +72,18 @@ fn carry(m: Numbered, c: Numbered) -> Numbered
 fn merge(highest: Numbered, carrier: Option<Numbered>) -> Numbered
     ensures { (g : List Numbered) → option_to_list carrier ≡ or_else (present Sync g) (present Desy g) → result ∷ [] ≡ merged g highest }
 {
-    if highest.effect() != Effect::Mwof {
-        return highest;
-    }
     match carrier {
-        Some(c) => carry(highest, c),
-        None => highest,
+        Some(c) if highest.effect() == Effect::Mwof => carry(highest, c),
+        _ => highest,
     }
 }
 
 // The one that is used of a group: by its highest ranked, its earliest SYNC and its earliest DESY.
-pub fn used_of(best: Option<Numbered>, sync: Option<Numbered>, desy: Option<Numbered>) -> Option<Numbered>
+pub fn used_of(
+    best: Option<Numbered>,
+    sync: Option<Numbered>,
+    desy: Option<Numbered>,
+) -> Option<Numbered>
     ensures { (g : List Numbered) → option_to_list best ≡ best_from [] g → option_to_list sync ≡ present Sync g → option_to_list desy ≡ present Desy g → option_to_list result ≡ used_of g }
 {
     let highest = best?;

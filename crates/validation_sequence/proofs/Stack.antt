@@ -1,18 +1,15 @@
 -- The kept ones, latest first: the laws of step 3's lists.
 use mathlib.Core.Path.{◌≡◌, refl, sym, ap, ◌∙◌}
 use mathlib.Core.List.{List, [], ◌∷◌, ◌++◌, append-nil}
-use mathlib.Core.Bool.{true, false}
-use Prim.Native.Nat.{ℕ, zero, suc, ◌+◌, ◌-◌, ◌≤◌, ◌<◌}
+use Prim.Native.Nat.{ℕ, suc, ◌+◌, ◌-◌, ◌≤◌, ◌<◌}
 use native.Mathlib.Omega.{arith}
 use lib.Dec.{leb}
 use lib.ListN.{length, take, drop, get_or, length-drop, take-append-drop}
 use Rattle.std.specs.Prelude.{Some, option_to_list, slice_get}
 use Rattle.std.proofs.lemmas.List.{take_all, take_more, drop_more, get_or-drop}
 use Rattle.std.proofs.lemmas.Option.{slice_get-get_or}
-use Rattle.records.specs.declared.Effect.TheVariants.{Sync}
-use Rattle.records.specs.Codes.{same}
 use Rattle.validation.specs.declared.Numbered.{Numbered}
-use Rattle.validation.specs.Kept.{effective_of, effect_of, repeats, sync_within_hour, from_sync, before_sync, turned}
+use Rattle.validation.specs.Kept.{effective_of, repeats, sync_within_hour, from_sync, before_sync, turned}
 use Rattle.validation_groups.specs.Working.{no_numbered}
 use Rattle.validation_sequence.specs.Working.{NoSync, LatestSync}
 

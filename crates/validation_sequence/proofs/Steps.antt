@@ -13,7 +13,7 @@ use Rattle.level.specs.Numbers.{instruction_places}
 use Rattle.records.specs.declared.Effect.TheVariants.{Fail}
 use Rattle.records.specs.Codes.{same}
 use Rattle.validation.specs.declared.Numbered.{Numbered}
-use Rattle.validation.specs.Kept.{effective_of, effect_of, Mark, mark, repeats, sync_within_hour, from_sync, before_sync, turned, Checked, failed, check_one, check}
+use Rattle.validation.specs.Kept.{effect_of, Mark, mark, repeats, from_sync, before_sync, turned, Checked, failed, check_one, check}
 use Rattle.validation_groups.specs.Working.{no_numbered}
 use Rattle.validation_sequence.specs.Working.{set_fate, marked, none_checked, Tracks, NoneWithinHour, LatestWithinHour, FailedOne}
 use Rattle.validation_sequence.proofs.Stack.{turned_last, from_at, before_at}
@@ -40,7 +40,7 @@ unfolding marked
 voided_more ks i before fates next h e f =
     let k = get_or ks i no_numbered in
     let more : turned (take (i + 1) ks) [] ≡ k ∷ turned (take i ks) [] =
-        ap (λ (l : List Numbered). turned l []) (take_more ks i no_numbered h) ∙ turned_last (take i ks) k in
+    ap (λ (l : List Numbered). turned l []) (take_more ks i no_numbered h) ∙ turned_last (take i ks) k in
     rw more (e ∙ ap (λ (l : List ℕ). set_fate l k.number 4) f)
 
 -- ---- step 3
@@ -72,9 +72,9 @@ module _ (kept : List Numbered) (fates : List ℕ) (o : Numbered) where
         let f : from_sync m.kept ≡ turned (drop at kept) [] = rw t.stack at (from_at kept at w.latest) in
         let b : turned (take at kept) [] ≡ before_sync m.kept = sym (rw t.stack at (before_at kept at w.latest)) in
         let g : next ≡ marked (replicate instruction_places 2) (map (mark 4) (from_sync m.kept) ++ m.marks) =
-            rw (f, e, t.settled) (sym (marked_append (replicate instruction_places 2) (map (mark 4) (turned (drop at kept) [])) m.marks)) in
+        rw (f, e, t.settled) (sym (marked_append (replicate instruction_places 2) (map (mark 4) (turned (drop at kept) [])) m.marks)) in
         let q : failed m o ≡ record { kept = before_sync m.kept; marks = mark 5 o ∷ (map (mark 4) (from_sync m.kept) ++ m.marks) } =
-            rw (rw t.stack at w.near) in
+        rw (rw t.stack at w.near) in
         rw q (record { stack = b; settled = ap (λ (l : List ℕ). set_fate l o.number 5) g });
   }
 

@@ -60,7 +60,11 @@ fn sync_within_hour(kept: &[Numbered], o: &Numbered) -> Option<usize>
     let at = latest_sync(kept)?;
     let sync = kept[at].instruction;
     let own = o.instruction;
-    if own.effective as u64 <= sync.effective as u64 + 3600 { Some(at) } else { None }
+    if own.effective as u64 <= sync.effective as u64 + 3600 {
+        Some(at)
+    } else {
+        None
+    }
 }
 
 // Fate 4 for all of these.

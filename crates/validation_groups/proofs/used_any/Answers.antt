@@ -1,7 +1,6 @@
-use Rattle.std.proofs.Common.{◌≡◌, ◌+◌, ◌-◌, [], length, option_to_list, sym, ap, ◌∙◌, arith}
+use Rattle.std.proofs.Common.{◌≡◌, ◌+◌, ◌-◌, length, sym, ap, ◌∙◌, arith}
 use Rattle.validation.specs.Kept.{used, used_from}
-use Rattle.validation_groups.proofs.Laws.{joined, joined_count, begun_none, begun_group, begun_all, next_is, used_stop}
-use Rattle.validation_groups.proofs.Order.{picked_none}
+use Rattle.validation_groups.proofs.Laws.{joined, joined_count, begun_none, begun_group, begun_all, next_is, used_stop, picked_none}
 use Rattle.validation_groups.proofs.used_any.Goals as goal
 use Rattle.validation_groups.proofs.used_any.Goals.{in-Some, in_default}
 

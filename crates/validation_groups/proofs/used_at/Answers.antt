@@ -1,10 +1,10 @@
-use Rattle.std.proofs.Common.{◌<◌, List, length, drop, get_or, option_to_list, ap, ◌∙◌, arith}
+use Rattle.std.proofs.Common.{◌<◌, length, get_or, option_to_list, ap, ◌∙◌, arith}
 use Rattle.std.proofs.lemmas.List.{drop_all}
 use Rattle.level.specs.Lists.{those}
 use Rattle.validation.specs.Kept.{group, or_else}
 use Rattle.validation_rank.proofs.Ranks.{or_listed}
 use Rattle.validation_groups.specs.Working.{no_numbered}
-use Rattle.validation_groups.proofs.Laws.{in_group, walked_none, walked_more, walked_all, pass_other, pass_gone, look_at}
+use Rattle.validation_groups.proofs.Laws.{in_group, walked_more, walked_all, pass_other, pass_gone, look_at}
 use Rattle.validation_groups.proofs.used_at.Goals as goal
 use Rattle.validation_groups.proofs.used_at.Goals.{then-i-t-via-then-i-t, then-i-t-via-else-i-t+then-i-latest}
 

@@ -1,41 +1,63 @@
-use Rattle.std.proofs.Common.{◌≡◌, ◌<◌, ◌+◌, length, option_to_list, ap, ◌∙◌, arith}
-use Rattle.validation.specs.Kept.{group, used_of}
-use Rattle.validation_groups.specs.Working.{time_at}
-use Rattle.validation_groups.proofs.Laws.{begun_all}
-use Rattle.validation_groups.proofs.Order.{Run, run_is, order_none, order_late, order_all, order_more, order_alone, picked_none}
+use denote.Param.Always.{mut_total}
+use Rattle.std.proofs.Common.{rules, ◌≡◌, option_to_list, ap, ◌∙◌}
+use Rattle.std.proofs.lemmas.List.Sorted.{answers_always}
+use Rattle.validation.specs.declared.Numbered.{Numbered}
+use Rattle.validation.specs.Kept.{effective_of, group, used_of}
+use Rattle.validation_groups.specs.Working.{time_at, same_time}
+use Rattle.validation_groups.proofs.Laws.{begun_all, picked_none}
+use Rattle.validation_groups.proofs.Order.{next_run, order_none, runs_all, runs_late, runs_alone, runs_more}
 use Rattle.validation_groups.proofs.used_ordered.Goals as goal
-use Rattle.validation_groups.proofs.used_ordered.Goals.{then-next-i, else-next-i}
+use Rattle.validation_groups.proofs.used_ordered.Goals.{then-run-eq1, else-run-eq1}
 
-pub loop-i-init : goal.loop-i-init
-loop-i-init c = rw c.none-out.ensures (order_none c.requires.1 c.args.end)
+pub loop-run-init : goal.loop-run-init
+loop-run-init c = (
+  mut_total _ _ (λ s a. tt),
+  search rules,
+  record {
+    place = 0;
+    rest_is = search rules;
+    progress = rw c.none-out.ensures (order_none c.requires.1 c.args.end);
+  },
+)
 
 pub returns-then-end-t : goal.returns-then-end-t
-returns-then-end-t c = begun_all (order_late c.requires.1 c.loop-i.invariant (omega arith) c.if-end-t.true)
+returns-then-end-t c =
+    let r = c.loop-run.invariant.2 in
+    let s = c.in-Some.ensures.steps in
+    let cut = (s.2 same_time (answers_always _ _ _ (λ f a r g h. search rules))).1 in
+    begun_all (runs_late c.requires.1 r (next_run c.args.os.now _ c.in-Some.run'.now _ r.place r.rest_is s.0 s.1 cut) c.if-end-t.true)
 
-pub loop-i-preserved-in-Some : goal.loop-i-preserved-in-Some
-loop-i-preserved-in-Some c =
+pub loop-run-preserved-in-Some-used : goal.loop-run-preserved-in-Some-used
+loop-run-preserved-in-Some-used c =
     let os = c.args.os.now in
-    let l = c.loop-i in
-    let here : l.i < length os = omega arith in
-    let run : Run os (time_at os l.i) (l.i + 1) c.run_end-next.result = rw c.run_end-next.ensures (run_is os (time_at os l.i) (l.i + 1) (omega arith)) in
-    let e : option_to_list c.if-next-i.used ≡ used_of (group os (time_at os l.i)) = elim c.if-next-i.branch [
-      | then-next-i w ↦ ap option_to_list w.used-is ∙ order_alone c.requires.1 l.invariant here (rw w.if-next-i.true at run)
-      | else-next-i w ↦ ap option_to_list w.used-is ∙ w.used_at-used.ensures
+    let r = c.loop-run.invariant.2 in
+    let s = c.in-Some.ensures.steps in
+    let cut = (s.2 same_time (answers_always _ _ _ (λ f a r g h. search rules))).1 in
+    let n = next_run os _ c.in-Some.run'.now _ r.place r.rest_is s.0 s.1 cut in
+    let e : option_to_list c.if-run-eq1.used ≡ used_of (group os (time_at os r.place)) = elim c.if-run-eq1.branch [
+      | then-run-eq1 w ↦ ap option_to_list w.used-is ∙ runs_alone c.requires.1 r n w.if-run-eq1.true
+      | else-run-eq1 w ↦
+          ap option_to_list w.used-is ∙ (w.used_at-used.ensures ∙ ap (λ (o : Numbered). used_of (group os (effective_of o))) n.first_is)
     ] in
-    rw c.push.ensures (rw c.in-Some.is at (order_more c.requires.1 l.invariant c.run_end-next.result c.if-next-i.used here (omega arith) run e))
+    (search rules, search rules, rw c.push.ensures (rw c.in-Some-used.is at (runs_more c.requires.1 r n c.if-run-eq1.used c.if-end-t.false e)))
 
-pub loop-i-preserved : goal.loop-i-preserved
-loop-i-preserved c =
+pub loop-run-preserved : goal.loop-run-preserved
+loop-run-preserved c =
     let os = c.args.os.now in
-    let l = c.loop-i in
-    let here : l.i < length os = omega arith in
-    let run : Run os (time_at os l.i) (l.i + 1) c.run_end-next.result = rw c.run_end-next.ensures (run_is os (time_at os l.i) (l.i + 1) (omega arith)) in
-    let e : option_to_list c.if-next-i.used ≡ used_of (group os (time_at os l.i)) = elim c.if-next-i.branch [
-      | then-next-i w ↦ ap option_to_list w.used-is ∙ order_alone c.requires.1 l.invariant here (rw w.if-next-i.true at run)
-      | else-next-i w ↦ ap option_to_list w.used-is ∙ w.used_at-used.ensures
-    ] in
-    rw (picked_none c.if-next-i.used c.in_default.not-Some) at
-    (order_more c.requires.1 l.invariant c.run_end-next.result c.if-next-i.used here (omega arith) run e)
+    let r = c.loop-run.invariant.2 in
+    let s = c.in-Some.ensures.steps in
+    let cut = (s.2 same_time (answers_always _ _ _ (λ f a r g h. search rules))).1 in
+    let n = next_run os _ c.in-Some.run'.now _ r.place r.rest_is s.0 s.1 cut in
+    let e : option_to_list c.if-run-eq1.used ≡ used_of (group os (time_at os r.place)) = elim c.if-run-eq1.branch [
+      | then-run-eq1 w ↦ ap option_to_list w.used-is ∙ runs_alone c.requires.1 r n w.if-run-eq1.true
+      | else-run-eq1 w ↦
+          ap option_to_list w.used-is ∙ (w.used_at-used.ensures ∙ ap (λ (o : Numbered). used_of (group os (effective_of o))) n.first_is)
+    ] in (
+      search rules,
+      search rules,
+      rw (picked_none c.if-run-eq1.used c.in_default.not-Some) at
+          (runs_more c.requires.1 r n c.if-run-eq1.used c.if-end-t.false e),
+    )
 
 pub returns : goal.returns
-returns c = begun_all (order_all c.requires.1 c.loop-i.invariant (omega arith))
+returns c = begun_all (runs_all c.requires.1 c.loop-run.invariant.2 c.in-None.ensures.steps.0)

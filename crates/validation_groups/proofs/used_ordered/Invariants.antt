@@ -1,9 +1,8 @@
-use Rattle.std.proofs.Common.{length, ◌-◌}
-use Rattle.validation_groups.proofs.Order.{OrderProgress}
+use Rattle.std.specs.Slice.Iter.{chunk_by_rest}
+use Rattle.validation_groups.proofs.Order.{RunsProgress}
 use Rattle.validation_groups.proofs.used_ordered.Given as goal
 
-abbrev pub invariant-loop-i : goal.invariant-loop-i
-invariant-loop-i l = OrderProgress l.end l.os l.i l.out
-
-abbrev pub decreases-loop-i : goal.decreases-loop-i
-decreases-loop-i l = length l.os - l.i
+abbrev pub invariant-loop-run : goal.invariant-loop-run
+invariant-loop-run l =
+    (goal.iterator-loop-run).can_next l.run-iterator × (goal.iterator-loop-run).is_finite l.run-iterator
+    × RunsProgress l.end l.os (chunk_by_rest l.run-iterator) l.out

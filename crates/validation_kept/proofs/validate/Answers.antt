@@ -1,8 +1,7 @@
-use Rattle.std.proofs.Common.{◌≡◌, ◌-◌, List, [], length, take, sym, ap, ◌∙◌, arith}
+use Rattle.std.proofs.Common.{◌≡◌, length, take, ap, ◌∙◌, arith}
 use Rattle.level.specs.Few.{Few}
 use Rattle.level.specs.Numbers.{instruction_places}
 use Rattle.level.specs.Lists.{filled}
-use Rattle.records.specs.declared.Instruction.{Instruction}
 use Rattle.validation.specs.declared.Numbered.{Numbered}
 use Rattle.validation.specs.Kept.{numbered, check, used, actors, late_marks}
 use Rattle.validation_groups.specs.Working.{sequence_of}
@@ -24,12 +23,12 @@ returns c =
     let marks = c.check_all-kept.new.fates in
     let all : c.as_slice-all.result.now ≡ os = c.as_slice-all.ensures.value ∙ ap (λ (v : Few Numbered). v.these) c.number_all-entered.ensures in
     let tracks : Tracks kept marks (check none_checked (used end os)) =
-        rw (c.as_slice.ensures.value, c.used_in-used.ensures.exactly, all) at c.check_all-kept.ensures.tracks in
+    rw (c.as_slice.ensures.value, c.used_in-used.ensures.exactly, all) at c.check_all-kept.ensures.tracks in
     let late = c.late_fates-late.ensures in
     let later : c.settle_late-later.result ≡ settled marks (late_marks end kept) =
-        rw c.as_slice-3.ensures.value at (c.settle_late-later.ensures end (rw (c.as_slice-3.ensures.value, ← c.as_slice-2.ensures.value) late)) in
+    rw c.as_slice-3.ensures.value at (c.settle_late-later.ensures end (rw (c.as_slice-3.ensures.value, ← c.as_slice-2.ensures.value) late)) in
     let fates : c.fates_of-fates.result ≡ filled instruction_places 0 (fates_to os (settled marks (late_marks end kept)) (length os)) =
-        rw (all, later) at c.fates_of-fates.ensures in
+    rw (all, later) at c.fates_of-fates.ensures in
     let acts : c.acts_of-acts.result ≡ sequence_of (actors end kept) =
-        rw c.as_slice-4.ensures.value at (c.acts_of-acts.ensures end (rw (c.as_slice-4.ensures.value, ← c.as_slice-2.ensures.value) late)) in
+    rw c.as_slice-4.ensures.value at (c.acts_of-acts.ensures end (rw (c.as_slice-4.ensures.value, ← c.as_slice-2.ensures.value) late)) in
     (λ j. record { fates = fates j; acts = acts j }) ∙ validation_is a.instructions a.count n (omega arith) c.min.ensures end kept marks tracks

@@ -1,4 +1,4 @@
-use Rattle.std.proofs.Common.{◌∙◌, arith}
+use Rattle.std.proofs.Common.{arith}
 use Rattle.std.proofs.lemmas.List.{take_rest}
 use Rattle.std.proofs.lemmas.Option.{MatchOption-at_some}
 use Rattle.validation_sequence.specs.Working.{NoneWithinHour, LatestWithinHour}
