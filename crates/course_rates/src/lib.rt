@@ -91,7 +91,10 @@ fn has_passed(heading: course::Heading, v: u64, b: u32) -> bool
 fn passed(heading: course::Heading, v: u64, breaks: &[u32]) -> usize
     ensures { (result ≡ passed heading v (map grains breaks.now)) × (result ≤ length breaks.now) }
 {
-    breaks.iter().filter(|b| has_passed(heading, v, **b)).count()
+    breaks
+        .iter()
+        .filter(|b| has_passed(heading, v, **b))
+        .count()
 }
 
 // The rate at the level v by a list that has one rate more than breaks.

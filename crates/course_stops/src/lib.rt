@@ -23,7 +23,7 @@ fn held_by(g: records::Trigger, w: u64) -> u64
     0
 }
 
-// Added where triggers coincide.
+// Added where triggers coincide. Kept as a `for`: of `.map(..).sum()` no proof was found that it stays below the bound.
 fn held(w: u64, gs: &[records::Trigger]) -> u64
     requires { length gs.now ≤ 3 }
     ensures { (result ≡ holding w (map in_grains gs.now)) × (result ≤ 180 * 2 ^ 32) }
@@ -73,7 +73,10 @@ fn nearer(heading: course::Heading, v: u64, w: u64, n: u64) -> u64
 fn break_stop(heading: course::Heading, v: u64, bs: &[u32], n: u64) -> u64
     ensures { result ≡ nearest heading v n (map grains bs.now) }
 {
-    bs.iter().fold(n, |stop, b| nearer(heading, v, course_rates::grains_of(*b), stop))
+    bs.iter().fold(
+        n,
+        |stop, b| nearer(heading, v, course_rates::grains_of(*b), stop),
+    )
 }
 
 // The level of a trigger with minutes; without them v itself, which never counts: so no branch is needed.
@@ -87,7 +90,7 @@ fn trigger_level(v: u64, g: records::Trigger) -> u64
     w
 }
 
-// With some triggers, which count where they have minutes.
+// With some triggers, which count where they have minutes. Kept with a level for each: of a `fold` after a `filter` no proof was found.
 fn trigger_stop(heading: course::Heading, v: u64, gs: &[records::Trigger], n: u64) -> u64
     ensures { result ≡ nearest heading v n (timed_levels gs.now) }
 {

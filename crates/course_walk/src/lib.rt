@@ -127,7 +127,8 @@ fn run_seconds(p: Place, s: course::Segment, n: u32) -> u32
     full.min((n - p.second) as u64) as u32
 }
 
-// The straight piece that a segment begins with.
+// The straight piece that a segment begins with. Kept with heading, place and segment as parameters: a struct of them would be made
+// for this call and taken apart again.
 #[tactic(auto, using(crate::proofs::Onward::full_way), unfolding(crate::specs::Walk::along, crate::specs::Walk::rest_along))]
 fn along_segment(heading: course::Heading, p: Place, s: course::Segment, n: u32) -> Reached
     requires second_lt_n { p.second < n }
