@@ -86,6 +86,11 @@ module _ {A : Type 0} (level : A → ℕ) (h : Heading) (v : ℕ) where
       let w : ℕ = level x in
       near_each (nearest h v n (w ∷ [])) xs ∙ sym (near_swap h v n w (map level xs)) ∙ sym (near_append h v n (w ∷ []) (map level xs))
 
+-- the breaks (kW) of a list
+pub near_breaks : (h : Heading) (v n : ℕ) (bs : List ℕ) (r : ℕ) → r ≡ fold (λ (m b : ℕ). nearest h v m (grains b ∷ [])) n bs →
+    r ≡ nearest h v n (map grains bs)
+near_breaks h v n bs r e = e ∙ near_each grains h v n bs
+
 -- v itself never counts
 near_here : (h : Heading) (v n : ℕ) → nearest h v n (v ∷ []) ≡ n
 near_here Rising v n = sym (up_behind v n v (le_refl v))
@@ -108,3 +113,7 @@ module _ (h : Heading) (v n : ℕ) where
       go true e = near_append h v n (grains g.level ∷ []) (map timed gs) ∙ ap (λ (k : ℕ). nearest h v k (grains g.level ∷ [])) e
           ∙ sym (near_append h v n (grains g.level ∷ []) (timed_levels gs))
       go false e = near_append h v n (v ∷ []) (map timed gs) ∙ near_here h v (nearest h v n (map timed gs)) ∙ e
+
+  pub near_triggers : (gs : List Trigger) (r : ℕ) → r ≡ fold (λ m (g : Trigger). nearest h v m (pick (ltb 0 g.minutes) (grains g.level) v ∷ [])) n gs →
+      r ≡ nearest h v n (timed_levels gs)
+  near_triggers gs r e = e ∙ near_each timed h v n gs ∙ near_timed gs

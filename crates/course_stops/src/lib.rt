@@ -70,6 +70,7 @@ fn nearer(heading: course::Heading, v: u64, w: u64, n: u64) -> u64
 }
 
 // With some breaks.
+#[tactic(auto, using(crate::proofs::Nexts::near_breaks))]
 fn break_stop(heading: course::Heading, v: u64, bs: &[u32], n: u64) -> u64
     ensures { result ≡ nearest heading v n (map grains bs.now) }
 {
@@ -91,6 +92,7 @@ fn trigger_level(v: u64, g: records::Trigger) -> u64
 }
 
 // With some triggers, which count where they have minutes. Kept with a level for each: of a `fold` after a `filter` no proof was found.
+#[tactic(auto, using(crate::proofs::Nexts::near_triggers))]
 fn trigger_stop(heading: course::Heading, v: u64, gs: &[records::Trigger], n: u64) -> u64
     ensures { result ≡ nearest heading v n (timed_levels gs.now) }
 {

@@ -169,7 +169,7 @@ pub fn walk_on(r: &course_rates::Route, from: Reached, n: u32) -> Reached
 }
 
 // Where a course begins, with so many seconds left of a hold; the segment that lies ahead, unless it holds or is at its target.
-#[tactic(auto, using(crate::proofs::Rest::reached_none, crate::proofs::Rest::reached_found))]
+#[tactic(auto, unfolding(crate::specs::Walk::reached_at))]
 pub fn begin_at(r: &course_rates::Route, left: u64) -> Reached
     ensures { result ≡ reached_at r.now.heading (lists_by r.now) (target_of r.now) (record { second = r.now.course.begin; level = r.now.course.start.grains; left = left }) }
 {
