@@ -88,8 +88,8 @@ fn has_passed(heading: course::Heading, v: u64, b: u32) -> bool
 
 // The count of breaks that the level v has passed.
 #[tactic(auto, using(crate::proofs::Rates::counted))]
-fn passed(heading: course::Heading, v: u64, breaks: &[u32]) -> usize
-    ensures { (result ≡ passed heading v (map grains breaks.now)) × (result ≤ length breaks.now) }
+fn passed<const N: usize>(heading: course::Heading, v: u64, breaks: [u32; N]) -> usize
+    ensures { (result ≡ passed heading v (map grains breaks.entry)) × (result ≤ N) }
 {
     breaks
         .iter()
@@ -98,9 +98,14 @@ fn passed(heading: course::Heading, v: u64, breaks: &[u32]) -> usize
 }
 
 // The rate at the level v by a list that has one rate more than breaks.
-fn rate_by(heading: course::Heading, v: u64, rates: &[u32], breaks: &[u32]) -> u64
-    requires { length rates.now ≡ length breaks.now + 1 }
-    ensures { result ≡ get_or rates.now (passed heading v (map grains breaks.now)) 0 }
+fn rate_by<const M: usize, const N: usize>(
+    heading: course::Heading,
+    v: u64,
+    rates: [u32; M],
+    breaks: [u32; N],
+) -> u64
+    requires { N < M }
+    ensures { result ≡ get_or rates.entry (passed heading v (map grains breaks.entry)) 0 }
 {
     rates[passed(heading, v, breaks)] as u64
 }
@@ -132,7 +137,7 @@ impl Route {
     fn ramp_rate(&self, v: u64, r: u32) -> u64
         ensures { result ≡ get_or (replaced r self.now.ramp.rates) (passed self.now.heading v (map grains self.now.ramp.breaks)) 0 }
     {
-        let n = passed(self.heading, v, &self.ramp.breaks);
+        let n = passed(self.heading, v, self.ramp.breaks);
         if r == 0 {
             return self.ramp.rates[n] as u64;
         }
@@ -149,7 +154,7 @@ impl Route {
         match self.heading {
             course::Heading::Rising => {
                 if v < msg {
-                    return rate_by(self.heading, v, &self.column.rates, &self.column.breaks);
+                    return rate_by(self.heading, v, self.column.rates, self.column.breaks);
                 }
                 self.ramp_rate(v, self.course.up)
             }
@@ -157,7 +162,7 @@ impl Route {
                 if msg < v {
                     return self.ramp_rate(v, self.course.down);
                 }
-                rate_by(self.heading, v, &self.deload.rates, &self.deload.breaks)
+                rate_by(self.heading, v, self.deload.rates, self.deload.breaks)
             }
         }
     }

@@ -24,12 +24,12 @@ fn held_by(g: records::Trigger, w: u64) -> u64
 }
 
 // Added where triggers coincide. Kept as a `for`: of `.map(..).sum()` no proof was found that it stays below the bound.
-fn held(w: u64, gs: &[records::Trigger]) -> u64
-    requires { length gs.now ≤ 3 }
-    ensures { (result ≡ holding w (map in_grains gs.now)) × (result ≤ 180 * 2 ^ 32) }
+fn held<const N: usize>(w: u64, gs: [records::Trigger; N]) -> u64
+    requires { N ≤ 3 }
+    ensures { (result ≡ holding w (map in_grains gs.entry)) × (result ≤ 180 * 2 ^ 32) }
 {
     let mut seconds = 0;
-    for g in gs {
+    for g in &gs {
         seconds += held_by(*g, w);
     }
     seconds
@@ -44,10 +44,10 @@ pub fn hold_at(r: &course_rates::Route, w: u64) -> u64
         return 0;
     }
     if course_rates::grains_of(r.msg) <= w {
-        return held(w, &r.dwells);
+        return held(w, r.dwells);
     }
     match r.heading {
-        course::Heading::Rising => held(w, &r.column.soaks),
+        course::Heading::Rising => held(w, r.column.soaks),
         course::Heading::Falling => 0,
     }
 }
@@ -71,8 +71,8 @@ fn nearer(heading: course::Heading, v: u64, w: u64, n: u64) -> u64
 
 // With some breaks.
 #[tactic(auto, using(crate::proofs::Nexts::near_breaks))]
-fn break_stop(heading: course::Heading, v: u64, bs: &[u32], n: u64) -> u64
-    ensures { result ≡ nearest heading v n (map grains bs.now) }
+fn break_stop<const N: usize>(heading: course::Heading, v: u64, bs: [u32; N], n: u64) -> u64
+    ensures { result ≡ nearest heading v n (map grains bs.entry) }
 {
     bs.iter().fold(
         n,
@@ -93,8 +93,13 @@ fn trigger_level(v: u64, g: records::Trigger) -> u64
 
 // With some triggers, which count where they have minutes. Kept with a level for each: of a `fold` after a `filter` no proof was found.
 #[tactic(auto, using(crate::proofs::Nexts::near_triggers))]
-fn trigger_stop(heading: course::Heading, v: u64, gs: &[records::Trigger], n: u64) -> u64
-    ensures { result ≡ nearest heading v n (timed_levels gs.now) }
+fn trigger_stop<const N: usize>(
+    heading: course::Heading,
+    v: u64,
+    gs: [records::Trigger; N],
+    n: u64,
+) -> u64
+    ensures { result ≡ nearest heading v n (timed_levels gs.entry) }
 {
     gs.iter().fold(n, |stop, g| nearer(heading, v, trigger_level(v, *g), stop))
 }
@@ -109,12 +114,12 @@ fn stop_rising(r: &course_rates::Route, v: u64) -> u64
     let msg = course_rates::grains_of(r.msg);
     let heading = course::Heading::Rising;
     if msg <= v {
-        let d = trigger_stop(heading, v, &r.dwells, t);
-        return break_stop(heading, v, &r.ramp.breaks, d);
+        let d = trigger_stop(heading, v, r.dwells, t);
+        return break_stop(heading, v, r.ramp.breaks, d);
     }
     let m = nearer(heading, v, msg, t);
-    let s = trigger_stop(heading, v, &r.column.soaks, m);
-    break_stop(heading, v, &r.column.breaks, s)
+    let s = trigger_stop(heading, v, r.column.soaks, m);
+    break_stop(heading, v, r.column.breaks, s)
 }
 
 #[tactic(auto, using(crate::proofs::Sides::falling_above, crate::proofs::Sides::falling_below))]
@@ -125,11 +130,11 @@ fn stop_falling(r: &course_rates::Route, v: u64) -> u64
     let msg = course_rates::grains_of(r.msg);
     let heading = course::Heading::Falling;
     if v <= msg {
-        return break_stop(heading, v, &r.deload.breaks, t);
+        return break_stop(heading, v, r.deload.breaks, t);
     }
     let m = nearer(heading, v, msg, t);
-    let d = trigger_stop(heading, v, &r.dwells, m);
-    break_stop(heading, v, &r.ramp.breaks, d)
+    let d = trigger_stop(heading, v, r.dwells, m);
+    break_stop(heading, v, r.ramp.breaks, d)
 }
 
 // The next stop past the level v, and the target where nothing stops the course before.

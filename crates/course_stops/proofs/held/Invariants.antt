@@ -4,6 +4,6 @@ use Rattle.course.specs.Course.{holding}
 use Rattle.course_stops.proofs.held.Given as goal
 
 abbrev pub invariant-loop-g : goal.invariant-loop-g
-invariant-loop-g l =
-    (l.seconds + holding l.w (map in_grains (drop l.g-index l.gs)) ≡ holding l.w (map in_grains (drop 0 l.gs)))
+invariant-loop-g g l =
+    (l.seconds + holding l.w (map in_grains (drop l.g-index l.g-items)) ≡ holding l.w (map in_grains (drop 0 l.g-items)))
     × (l.seconds ≤ l.g-index * (60 * 2 ^ 32))
