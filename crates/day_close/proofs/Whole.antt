@@ -199,7 +199,7 @@ module _ (t : Taken) (n : ℕ) (long : n ≤ most_half_hours) where
   noted_quantity i h = ap rounded (noted_between i h)
 
   -- refusal 27: by the sums, and by the quantities
-  pub too_high_is : some_above t.unit.maximum sums 0 n ≡ some (λ q. ltb t.unit.maximum q) (found paper n t).quantities
+  pub too_high_is : some_above t.unit.maximum sums n ≡ some (λ q. ltb t.unit.maximum q) (found paper n t).quantities
   unfolding some_above
   too_high_is = ap (some (λ q. ltb t.unit.maximum q))
       (list_same (quantity_at sums) (λ i. rounded (recorded_in recorded i)) 0 n (λ i h. noted_quantity i (omega arith)) ∙ sym (found_quantities n t))

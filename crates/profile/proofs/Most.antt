@@ -26,11 +26,12 @@ use Rattle.profile.specs.declared.UnderWay.{UnderWay}
 use Rattle.profile.specs.declared.State.{State}
 use Rattle.profile.specs.State.{by_rule}
 use Rattle.profile.specs.declared.Setting.{Setting}
-use Rattle.profile.specs.declared.Outcome.TheVariants.{Sets}
+use Rattle.std.specs.Prelude.{Some}
+use Rattle.std.proofs.lemmas.Option.{none-some}
 use Rattle.profile.specs.declared.Start.{Start}
 use Rattle.profile.specs.Effects.{outcome_by, mwof_target, sync_target, stepped, course_from, under_way, start_course, begun, goes_on, replaces, state_at, follow}
 use Rattle.profile.specs.Profile.{Span, spans_of, in_force, level_starting, level_ending, recorded_twice, recorded_to, recorded_in, rounded, course_of}
-use Rattle.profile.proofs.Following.{unless_sets, ignored_sets, follow_ind}
+use Rattle.profile.proofs.Following.{unless_sets, follow_ind}
 use Rattle.profile.proofs.States.{rule_level}
 use Rattle.profile.proofs.Areas.{in_here, in_rest}
 
@@ -68,7 +69,7 @@ way_below u begin g off m b = record {
 module _ (u : UnitData) (m : ℕ) (capacity : u.capacity ≤ m) (maximum : u.maximum ≤ m) where
   -- whatever an instruction sets
   outcome_below : (now : UnderWay) (i : Instruction) (s : State) (e : Effect) (g : Setting) → now.ordered ≤ m → s.level ≤ grains m →
-      outcome_by u now i s e ≡ Sets g → SettingBelow m g
+      outcome_by u now i s e ≡ Some g → SettingBelow m g
   unfolding outcome_by mwof_target sync_target
   outcome_below now i s Trip g o v e =
       unless_sets (SettingBelow m) (eqb s.level 0) _ g e (record { from = omega arith; target = omega arith; ordered = o })
@@ -80,7 +81,7 @@ module _ (u : UnitData) (m : ℕ) (capacity : u.capacity ≤ m) (maximum : u.max
       unless_sets (SettingBelow m) (ltb 0 s.level) _ g e (record { from = v; target = omega arith; ordered = omega arith })
   outcome_below now i s Mxof g o v e = unless_sets (SettingBelow m) (not now.maximised) _ g e (record { from = v; target = o; ordered = o })
   outcome_below now i s Desy g o v e = unless_sets (SettingBelow m) (eqb s.level 0) _ g e (record { from = v; target = omega arith; ordered = o })
-  outcome_below now i s Fail g o v e = ignored_sets g e
+  outcome_below now i s Fail g o v e = absurd (none-some g e)
 
   -- the level just before lies below where the course does
   state_below : (now : UnderWay) (t : ℕ) → WayBelow m now → (state_at by_rule u now t).level ≤ grains m

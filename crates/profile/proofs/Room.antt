@@ -37,13 +37,14 @@ use Rattle.profile.specs.declared.Closing.{Closing}
 use Rattle.profile.specs.declared.State.{State}
 use Rattle.profile.specs.State.{held, watch, watch_next, by_rule}
 use Rattle.profile.specs.declared.Setting.{Setting}
-use Rattle.profile.specs.declared.Outcome.TheVariants.{Sets}
+use Rattle.std.specs.Prelude.{Some}
+use Rattle.std.proofs.lemmas.Option.{none-some}
 use Rattle.profile.specs.declared.Taken.{Taken}
 use Rattle.profile.specs.Bounds.{Low}
 use Rattle.profile.specs.Taken.{entered}
 use Rattle.profile.specs.Effects.{outcome_by, heat_by, course_from, under_way, start_course, begun, goes_on, replaces, state_at, follow}
 use Rattle.profile.specs.Profile.{Span, begin_of, spans_of, day_pieces, course_of, last_of, closing_by, found_by, found, paper, Chain}
-use Rattle.profile.proofs.Following.{unless_sets, ignored_sets, follow_ind}
+use Rattle.profile.proofs.Following.{unless_sets, follow_ind}
 use Rattle.profile.proofs.States.{rule_level}
 use Rattle.profile.proofs.Most.{Below, WayBelow, SpanBelow, courses_below, start_below}
 
@@ -172,7 +173,7 @@ abbrev HeatBelow : Setting → Type 0
 HeatBelow g = g.heat ≤ 3
 
 heat_below : (u : UnitData) (now : UnderWay) (i : Instruction) (s : State) (e : Effect) (g : Setting) → now.course.heat ≤ 3 →
-    outcome_by u now i s e ≡ Sets g → g.heat ≤ 3
+    outcome_by u now i s e ≡ Some g → g.heat ≤ 3
 unfolding outcome_by
 heat_below u now i s Trip g h e = unless_sets HeatBelow (eqb s.level 0) _ g e h
 heat_below u now i s Mwof g h e = unless_sets HeatBelow (eqb s.level 0 && eqb i.level 0) _ g e (go (eqb s.level 0))
@@ -184,7 +185,7 @@ heat_below u now i s Mxon g h e = unless_sets HeatBelow (eqb s.level 0 || now.ma
 heat_below u now i s Sync g h e = unless_sets HeatBelow (ltb 0 s.level) _ g e (hot_below u s.off)
 heat_below u now i s Mxof g h e = unless_sets HeatBelow (not now.maximised) _ g e h
 heat_below u now i s Desy g h e = unless_sets HeatBelow (eqb s.level 0) _ g e h
-heat_below u now i s Fail g h e = ignored_sets g e
+heat_below u now i s Fail g h e = absurd (none-some g e)
 
 abbrev Warm : List Course → Type 0
 Warm cs = All (λ (c : Course). c.heat ≤ 3) cs

@@ -24,7 +24,8 @@ use Rattle.validation.proofs.Acting.{Rises, acting_rise}
 use Rattle.profile.specs.declared.UnderWay.{UnderWay}
 use Rattle.profile.specs.declared.State.{State}
 use Rattle.profile.specs.declared.Setting.{Setting}
-use Rattle.profile.specs.declared.Outcome.TheVariants.{Sets}
+use Rattle.std.specs.Prelude.{Some}
+use Rattle.std.proofs.lemmas.Option.{none-some}
 use Rattle.profile.specs.declared.Start.{Start}
 use Rattle.profile.specs.declared.Taken.{Taken}
 use Rattle.profile.specs.State.{by_rule}
@@ -32,7 +33,7 @@ use Rattle.profile.specs.Taken.{entered}
 use Rattle.profile.specs.Effects.{outcome_by, stepped, under_way, course_from, begun, Followed, goes_on, replaces, start_course, state_at, follow}
 use Rattle.profile.specs.Profile.{course_of, found_by, found, paper}
 use Rattle.profile.specs.Starts.{trip_among, StartsFrom, StartsAfter, CoursesStart}
-use Rattle.profile.proofs.Following.{unless_sets, ignored_sets, comes_to, new_course, follow_ind}
+use Rattle.profile.proofs.Following.{unless_sets, comes_to, new_course, follow_ind}
 use Rattle.profile.proofs.States.{rule_level}
 
 -- ---- what an instruction sets out from
@@ -40,7 +41,7 @@ module _ (u : UnitData) (now : UnderWay) (i : Instruction) (s : State) (g : Sett
   abbrev From : Effect → Setting → Type 0
   From e x = x.from ≡ pick (same e Trip) 0 s.level
 
-  sets_out : (e : Effect) → outcome_by u now i s e ≡ Sets g → From e g
+  sets_out : (e : Effect) → outcome_by u now i s e ≡ Some g → From e g
   unfolding outcome_by
   sets_out Trip h = unless_sets (From Trip) (eqb s.level 0) _ g h refl
   sets_out Mwof h = unless_sets (From Mwof) (eqb s.level 0 && eqb i.level 0) _ g h refl
@@ -48,7 +49,7 @@ module _ (u : UnitData) (now : UnderWay) (i : Instruction) (s : State) (g : Sett
   sets_out Sync h = unless_sets (From Sync) (ltb 0 s.level) _ g h refl
   sets_out Mxof h = unless_sets (From Mxof) (not now.maximised) _ g h refl
   sets_out Desy h = unless_sets (From Desy) (eqb s.level 0) _ g h refl
-  sets_out Fail h = ignored_sets g h
+  sets_out Fail h = absurd (none-some g h)
 
 -- ---- the step from 0
 starts_from : (u : UnitData) (v : ℕ) (c : Course) → c.start.grains ≡ stepped (grains (column_for u c.heat).block) (grains c.target) v →
@@ -100,7 +101,7 @@ module _ (u : UnitData) (all : List Numbered) where
   Headed c (x ∷ xs) = (x.course ≡ c) × StartsAfter u all c (map course_of xs)
 
   -- the course that o begins starts from the level just before, or from 0
-  begins : (now : UnderWay) (o : Numbered) (g : Setting) → comes_to by_rule u now o ≡ Sets g → Told all o →
+  begins : (now : UnderWay) (o : Numbered) (g : Setting) → comes_to by_rule u now o ≡ Some g → Told all o →
       let c : Course = (new_course by_rule u now o g).course in
       StartsFrom u (pick (trip_among all c.begin) 0 (level_at (trajectory_of u now.course) (c.begin - now.course.begin))) c
   unfolding begun under_way course_from state_at

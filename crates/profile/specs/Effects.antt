@@ -1,5 +1,5 @@
 -- Believed: document 01, What each does at its acting second (Table 7). Its outcome, the course that it begins, and all that act, one after another.
-use Rattle.std.specs.Prelude.{ℕ, ◌*◌, ◌-◌, min, max, List, [], ◌∷◌, Bool, true, false, ◌&&◌, ◌||◌, not, leb, ltb, eqb, get_or}
+use Rattle.std.specs.Prelude.{ℕ, ◌*◌, ◌-◌, min, max, List, [], ◌∷◌, Bool, true, false, ◌&&◌, ◌||◌, not, leb, ltb, eqb, get_or, Option, Some, None}
 use Rattle.level.specs.Choice.{pick}
 use Rattle.level.specs.declared.Level.{Level}
 use Rattle.level.specs.Level.{grains}
@@ -15,18 +15,20 @@ use Rattle.validation.specs.Kept.{Mark, mark, acting}
 use Rattle.profile.specs.declared.UnderWay.{UnderWay}
 use Rattle.profile.specs.declared.State.{State}
 use Rattle.profile.specs.declared.Setting.{Setting}
-use Rattle.profile.specs.declared.Outcome.{Outcome}
-use Rattle.profile.specs.declared.Outcome.TheVariants.{Ignored, Sets}
 use Rattle.profile.specs.declared.Start.{Start}
 
 -- "column by seconds off: hot up to the hot boundary, else warm up to the warm one, else cold"
 unfoldable pub heat_by : UnitData → ℕ → ℕ
 heat_by u off = pick (leb off (60 * u.hot)) 1 (pick (leb off (60 * u.warm)) 2 3)
 
+-- what an instruction comes to: fate 7, and the course under way goes on (`None`); or fate 0, and what it sets
+abbrev pub Outcome : Type 0
+Outcome = Option Setting
+
 -- fate 7 where the test holds, else fate 0 and what is set
 abbrev pub unless : Bool → Setting → Outcome
-unless true g = Ignored
-unless false g = Sets g
+unless true g = None
+unless false g = Some g
 
 -- on the unit u, with the course now under way, of the instruction i, read with s
 module _ (u : UnitData) (now : UnderWay) (i : Instruction) (s : State) where
@@ -69,7 +71,7 @@ module _ (u : UnitData) (now : UnderWay) (i : Instruction) (s : State) where
       (record { from = s.level; target = now.ordered; heat = heat_now; up = i.up; down = mxof_rate; maximised = false; ordered = now.ordered })
   outcome_by Desy = unless (eqb s.level 0)
       (record { from = s.level; target = 0; heat = heat_now; up = i.up; down = i.down; maximised = false; ordered = now.ordered })
-  outcome_by Fail = Ignored
+  outcome_by Fail = None
 
   abbrev pub outcome : Outcome
   outcome = outcome_by i.meaning.effect
@@ -122,6 +124,6 @@ module _ (look : Trajectory → ℕ → ℕ → State) (u : UnitData) where
   follow now (o ∷ os) =
       let s : State = state_at now (acting o) in
       elim (outcome u now o.instruction s) [
-        | Ignored ↦ goes_on o (follow now os)
-        | Sets g ↦ replaces now o (follow (begun u o g s) os)
+        | None ↦ goes_on o (follow now os)
+        | Some g ↦ replaces now o (follow (begun u o g s) os)
       ]

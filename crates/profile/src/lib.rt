@@ -31,13 +31,6 @@ pub struct Setting {
     pub ordered: u32,
 }
 
-// What an instruction comes to at its acting second: fate 7, and the course under way goes on; or fate 0, and what it sets.
-#[derive(Clone, Copy)]
-pub enum Outcome {
-    Ignored,
-    Sets(Setting),
-}
-
 // What a day starts from at 06:00: the level (grains), the target (kW), the heat, the rates that replace all five of their kind (0
 // for none), whether the unit is maximised, the target that MXOF goes back to, and the seconds off. The level has the 32 bits of the
 // record, so that the sums of no day overflow.

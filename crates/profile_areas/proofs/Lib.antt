@@ -1,4 +1,3 @@
-pub mod Off
 pub mod Watching
 pub mod Adding
 pub mod Lines

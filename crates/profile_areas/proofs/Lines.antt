@@ -1,5 +1,5 @@
 -- A straight line, half-hour by half-hour.
-use Prim.Native.Nat.{ℕ, ◌+◌, ◌*◌, ◌-◌, ◌/◌, ◌^◌, min, ◌≤◌, ◌<◌}
+use Prim.Native.Nat.{ℕ, ◌+◌, ◌*◌, ◌-◌, ◌/◌, ◌^◌, min, max, ◌≤◌, ◌<◌}
 use mathlib.Core.Path.{◌≡◌, refl, ap, sym, ◌∙◌, subst}
 use mathlib.Core.List.{List}
 use native.Mathlib.Nat.{mul-le-mul_left, mul-le-mul_right, zero-mul, div-eq_of_eq-mul_right}
@@ -64,42 +64,38 @@ module _ (v r k m d : ℕ) (le : k + m ≤ d) where
 
 -- ---- along a line, half-hour by half-hour
 
--- up to `at` the line is added, and v is its level there; x is the boundary b, where the half-hour of `at` begins, unless `to` is reached
-pub record AlongLine (h : Heading) (level rate from to : ℕ) (a : Summed) (xs : List ℕ) (b x at v t : ℕ) : Type 0 where
-  pub boundary : x ≡ half_hour * b
-  pub begun : min x to ≤ at
-  pub within : at < x + half_hour
-  pub after : from ≤ at
-  pub before : at ≤ to
+-- the line is added up to `at`, where the half-hour after the boundary b begins, or the line does or ends; v is its level there
+pub record AlongLine (h : Heading) (level rate from to : ℕ) (a : Summed) (xs : List ℕ) (b at v t : ℕ) : Type 0 where
+  pub boundary : from / half_hour ≤ b
+  pub here : at ≡ max from (min (half_hour * b) to)
   pub noted : Noted (line_from h level rate from) a (summed at xs t)
   pub there : v ≡ toward h level ((at - from) * rate)
 
--- a step of it to n, where the half-hour ends, or the line: it lies in one half-hour, the levels stay low, and its area fits
-pub record LineStep (h : Heading) (rate to b at v t n : ℕ) : Type 0 where
+-- a step of it to n, where the half-hour ends, or the line, and to the level w: it lies in one half-hour, the levels stay low, and its
+-- area fits
+pub record LineStep (h : Heading) (rate to b at v t n w : ℕ) : Type 0 where
   pub in_half : InHalf b at n
   pub within : n ≤ to
   pub way : (n - at) * rate ≤ level_bound
   pub reaches : Reaches h v ((n - at) * rate)
   pub low : v < level_bound
-  pub low_too : toward h v ((n - at) * rate) < level_bound
-  pub area : (n - at) * (v + toward h v ((n - at) * rate)) ≤ (n - at) * twice_bound
-  pub fits : t + (n - at) * (v + toward h v ((n - at) * rate)) < 2 ^ 64
+  pub low_too : w < level_bound
+  pub area : (n - at) * (v + w) ≤ (n - at) * twice_bound
+  pub fits : t + (n - at) * (v + w) < 2 ^ 64
 
 module _ {h : Heading} {level rate from to : ℕ} where
   pub line_begun : {xs : List ℕ} {t half : ℕ} → LineAhead h level rate from to (summed from xs t) → half ≡ from / half_hour →
-      AlongLine h level rate from to (summed from xs t) xs half (half * half_hour) from level t
+      AlongLine h level rate from to (summed from xs t) xs half from level t
   line_begun p k = record {
     boundary = omega arith;
-    begun = omega arith;
-    within = omega arith;
-    after = omega arith;
-    before = p.later;
+    here = omega (arith, p.later);
     noted = noted_none (line_from h level rate from) (λ i j. line_none h level rate (i - from) (omega arith)) p.fits;
     there = line_start h level rate (from - from) (omega arith);
   }
 
-  module _ {a : Summed} {xs : List ℕ} {b x at v t n : ℕ} (p : LineAhead h level rate from to a)
-      (l : AlongLine h level rate from to a xs b x at v t) (left : at < to) (next : n ≡ min (x + half_hour) to) where
+  module _ {a : Summed} {xs : List ℕ} {b at v t n w : ℕ} (p : LineAhead h level rate from to a)
+      (l : AlongLine h level rate from to a xs b at v t) (left : half_hour * b < to) (next : n ≡ min to ((b + 1) * half_hour))
+      (moved : w ≡ toward h v ((n - at) * rate)) where
     abbrev k : ℕ
     k = at - from
 
@@ -109,19 +105,16 @@ module _ {h : Heading} {level rate from to : ℕ} where
     abbrev d : ℕ
     d = to - from
 
-    abbrev w : ℕ
-    w = toward h v (m * rate)
-
     half_step : InHalf b at n
-    half_step = omega (arith, p.within, l.boundary, l.begun, l.within)
+    half_step = omega (arith, p.within, p.later, l.boundary, l.here)
 
     on_line : k + m ≤ d
-    on_line = omega (arith, half_step.on, l.after)
+    on_line = omega (arith, half_step.on, l.here)
 
     moves : w ≡ toward h level ((k + m) * rate)
-    moves = ap (λ (y : ℕ). toward h y (m * rate)) l.there ∙ line_on level rate k m d on_line h p.low
+    moves = moved ∙ ap (λ (y : ℕ). toward h y (m * rate)) l.there ∙ line_on level rate k m d on_line h p.low
 
-    pub line_step : LineStep h rate to b at v t n
+    pub line_step : LineStep h rate to b at v t n w
     line_step =
         let lo : v < level_bound = omega (arith, line_low level rate k m d on_line h p.low, l.there) in
         let hi : w < level_bound = omega (arith, line_low level rate (k + m) 0 d (omega (arith, on_line)) h p.low, moves) in
@@ -140,17 +133,14 @@ module _ {h : Heading} {level rate from to : ℕ} where
     adds_up : line_from h level rate from at + m * (v + w) ≡ line_from h level rate from n
     adds_up = ap (λ (y : ℕ). line_twice h level rate k + m * (y + w)) l.there
         ∙ ap (λ (y : ℕ). line_twice h level rate k + m * (toward h level (k * rate) + y)) moves ∙ line_more level rate k m d on_line h p.low
-        ∙ ap (line_twice h level rate) {x = k + m} {y = n - from} (omega (arith, half_step.on, l.after))
+        ∙ ap (line_twice h level rate) {x = k + m} {y = n - from} (omega (arith, half_step.on, l.here))
 
-    pub line_further : AlongLine h level rate from to a (set xs (b + 1) (t + m * (v + w))) (b + 1) (x + half_hour) n w (t + m * (v + w))
+    pub line_further : AlongLine h level rate from to a (set xs (b + 1) (t + m * (v + w))) (b + 1) n w (t + m * (v + w))
     line_further = record {
       boundary = omega (arith, l.boundary);
-      begun = omega arith;
-      within = omega (arith, half_step.on, l.begun, l.within);
-      after = omega (arith, half_step.on, l.after);
-      before = omega arith;
+      here = omega (arith, p.later, l.boundary);
       noted = noted_on half_step l.noted.fits (m * (v + w)) (line_from h level rate from) adds_up line_step.area l.noted.adds;
-      there = moves ∙ ap (λ (y : ℕ). toward h level (y * rate)) {x = k + m} {y = n - from} (omega (arith, half_step.on, l.after));
+      there = moves ∙ ap (λ (y : ℕ). toward h level (y * rate)) {x = k + m} {y = n - from} (omega (arith, half_step.on, l.here));
     }
 
 -- ---- from one place to another

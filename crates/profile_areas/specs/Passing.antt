@@ -83,7 +83,7 @@ piece_from h p q = line_from h p.level (piece_rate p q) p.second
 
 -- along a line
 pub record LineAhead (h : Heading) (level rate from to : ℕ) (a : Summed) : Type 0 where
-  pub later : from ≤ to
+  pub later : from < to
   pub within : to ≤ most_seconds
   pub low : StaysLow h level ((to - from) * rate)
   pub fits : SumsFit a

@@ -4,47 +4,36 @@
 
 ghost use Rattle.std.specs.Prelude.{◌≡◌, ◌+◌, ◌≤◌};
 ghost use Rattle.profile_areas.specs.Passing.{summed, Noted, line_from, piece_from, LineAhead, PieceAhead, CourseAhead, Passing};
-ghost use Rattle.profile.specs.State.{held};
 ghost use Rattle.profile_areas.specs.Watching.{off_starting, off_between};
 
 // ---- the seconds off
 
 // The most seconds off that are counted.
-const MOST_OFF: u64 = 10000000;
-
-// So many seconds off and so many more, held.
-#[tactic(auto, unfolding(profile::specs::State::held))]
-fn held_off(off: u32, more: u32) -> u32
-    ensures { result ≡ held (off + more) }
-{
-    (off as u64 + more as u64).min(MOST_OFF) as u32
-}
+const MOST_OFF: u32 = 10000000;
 
 // The seconds off where a course begins.
-#[tactic(auto, using(crate::proofs::Off::starting_off, crate::proofs::Off::starting_on))]
+#[tactic(auto, unfolding(profile::specs::State::held, crate::specs::Watching::off_starting))]
 pub fn off_starting(c: course::Course, off: u32) -> u32
     ensures { result ≡ off_starting c off }
 {
-    let start = c.start;
-    if start.grains == 0 {
-        return held_off(off, 0);
+    if c.start.grains == 0 {
+        off.min(MOST_OFF)
+    } else {
+        0
     }
-    0
 }
 
 // The seconds off at q, by those at p.
-#[tactic(auto, using(crate::proofs::Off::between_from, crate::proofs::Off::between_to, crate::proofs::Off::between_off))]
+#[tactic(auto, unfolding(profile::specs::State::held, crate::specs::Watching::off_between))]
 pub fn off_between(p: course_walk::Place, q: course_walk::Place, off: u32) -> u32
     requires { p.second ≤ q.second }
     ensures { result ≡ off_between p q off }
 {
-    if p.level != 0 {
-        return 0;
+    if p.level == 0 && q.level == 0 {
+        off.saturating_add(q.second - p.second).min(MOST_OFF)
+    } else {
+        0
     }
-    if q.level != 0 {
-        return 0;
-    }
-    held_off(off, q.second - p.second)
 }
 
 // ---- areas
@@ -63,20 +52,15 @@ fn note_line(
     requires { LineAhead heading level rate from to (summed from sums.old total) }
     ensures { Noted (line_from heading level rate from) (summed from sums.old total) (summed to sums.new result) }
 {
-    let half = from / level::HALF_HOUR;
-    let mut b = half as usize;
-    let mut x = half * level::HALF_HOUR;
     let mut at = from;
     let mut v = level;
     let mut sum = total;
-    while at < to {
-        b += 1;
-        x += level::HALF_HOUR;
-        let n = x.min(to);
+    for half in from / level::HALF_HOUR..to.div_ceil(level::HALF_HOUR) {
+        let n = to.min((half + 1) * level::HALF_HOUR);
         let time = (n - at) as u64;
         let w = course_walk::moved(heading, v, time * rate);
-        sum = sum + time * (v + w);
-        sums[b] = sum;
+        sum += time * (v + w);
+        sums[half as usize + 1] = sum;
         at = n;
         v = w;
     }
@@ -104,9 +88,8 @@ pub fn note_piece(
         let way = p.level.abs_diff(q.level);
         return note_line(sums, total, heading, p.level, way / time, p.second, q.second);
     }
-    let b = half as usize;
     let sum = total + time * (p.level + q.level);
-    sums[b] = sum;
+    sums[half as usize] = sum;
     sum
 }
 

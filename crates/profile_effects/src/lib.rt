@@ -2,241 +2,139 @@
 #![tactic(auto)]
 
 ghost use Rattle.std.specs.Prelude.{◌≡◌, ◌+◌, ◌<◌, ◌^◌, eqb};
-ghost use Rattle.level.specs.Choice.{pick};
-ghost use Rattle.records.specs.declared.UnitData.{UnitData};
-ghost use Rattle.records.specs.declared.Effect.TheVariants.{Trip, Mwof, Mxon, Sync, Mxof, Desy};
+ghost use Rattle.records.specs.declared.Effect.TheVariants.{Mwof, Sync};
 ghost use Rattle.validation.specs.Kept.{acting};
-ghost use Rattle.profile.specs.Effects.{heat_by, unless, outcome_by, outcome, stepped, course_from, under_way, start_course, begun};
+ghost use Rattle.profile.specs.Effects.{heat_by, outcome_by, outcome, stepped, course_from, under_way, start_course, begun};
+ghost use Rattle.profile_effects.specs.Kept.{kept};
+
+use course::Course;
+use level::Level;
+use profile::{Setting, Start, State, UnderWay};
+use records::{Effect, Instruction, UnitData};
+use validation::Numbered;
 
 // ---- what each instruction comes to at its acting second
 
-// Fate 7 where the test holds, else fate 0 and what is set.
-fn unless(idle: bool, g: profile::Setting) -> profile::Outcome
-    ensures { result ≡ unless idle g }
+// What an instruction would set that goes on as before: from the level just before to the same target, by the same heat, with its own
+// rates. Only MXON turns maximised on.
+fn kept(now: UnderWay, i: Instruction, s: State) -> Setting
+    ensures { result ≡ kept now i s }
 {
-    if idle {
-        return profile::Outcome::Ignored;
-    }
-    profile::Outcome::Sets(g)
-}
-
-// TRIP: level 0 at that second, target 0.
-#[tactic(auto, unfolding(profile::specs::Effects::outcome_by))]
-fn trip(now: profile::UnderWay, i: records::Instruction, s: profile::State) -> profile::Outcome
-    ensures { (u : UnitData) → result ≡ outcome_by u now i s Trip }
-{
-    let c = now.course;
-    let g = profile::Setting {
-        from: 0,
-        target: 0,
-        heat: c.heat,
+    Setting {
+        from: s.level,
+        target: now.course.target,
+        heat: now.course.heat,
         up: i.up,
         down: i.down,
         maximised: false,
         ordered: now.ordered,
-    };
-    unless(s.level == 0, g)
+    }
 }
 
-// The heat of a course that an MWOF starts: cold from 0, else as it was.
-fn mwof_heat(v: u64, before: u32) -> u32
-    ensures { result ≡ pick (eqb v 0) 3 before }
+// The heat of a start after so many seconds off.
+#[tactic(auto, unfolding(profile::specs::Effects::heat_by))]
+fn heat_by(u: UnitData, off: u32) -> u32
+    ensures { result ≡ heat_by u off }
 {
-    if v == 0 {
-        return 3;
+    let seconds = u64::from(off);
+    if seconds <= 60 * u64::from(u.hot) {
+        1
+    } else if seconds <= 60 * u64::from(u.warm) {
+        2
+    } else {
+        3
     }
-    before
 }
 
 // MWOF(x): target the smaller of x and capacity; from 0 with the cold column.
 #[tactic(auto, unfolding(profile::specs::Effects::outcome_by, profile::specs::Effects::mwof_target))]
-fn mwof(
-    u: records::UnitData,
-    now: profile::UnderWay,
-    i: records::Instruction,
-    s: profile::State,
-) -> profile::Outcome
+fn mwof(u: UnitData, now: UnderWay, i: Instruction, s: State) -> Option<Setting>
     ensures { result ≡ outcome_by u now i s Mwof }
 {
-    let c = now.course;
-    let target = level::smaller(i.level, u.capacity);
-    let heat = mwof_heat(s.level, c.heat);
-    let g = profile::Setting {
-        from: s.level,
+    let target = i.level.min(u.capacity);
+    let heat = if s.level == 0 { 3 } else { now.course.heat };
+    let set = Setting {
         target,
         heat,
-        up: i.up,
-        down: i.down,
-        maximised: false,
         ordered: target,
+        ..kept(now, i, s)
     };
-    unless((s.level == 0) & (i.level == 0), g)
-}
-
-// MXON: target the short-term maximum, ramp-up rate 5 for all five.
-#[tactic(auto, unfolding(profile::specs::Effects::outcome_by))]
-fn mxon(
-    u: records::UnitData,
-    now: profile::UnderWay,
-    i: records::Instruction,
-    s: profile::State,
-) -> profile::Outcome
-    ensures { result ≡ outcome_by u now i s Mxon }
-{
-    let c = now.course;
-    let ramp = u.up;
-    let g = profile::Setting {
-        from: s.level,
-        target: u.maximum,
-        heat: c.heat,
-        up: ramp.rates[4],
-        down: i.down,
-        maximised: true,
-        ordered: now.ordered,
-    };
-    unless((s.level == 0) | now.maximised, g)
-}
-
-// The heat of a start after so many seconds off.
-#[tactic(auto, using(crate::proofs::Laws::heat_hot, crate::proofs::Laws::heat_warm, crate::proofs::Laws::heat_cold))]
-fn heat_by(u: records::UnitData, off: u32) -> u32
-    ensures { result ≡ heat_by u off }
-{
-    let hot = 60 * (u.hot as u64);
-    let warm = 60 * (u.warm as u64);
-    let seconds = off as u64;
-    if seconds <= hot {
-        return 1;
-    }
-    if seconds <= warm {
-        return 2;
-    }
-    3
+    (s.level != 0 || i.level != 0).then_some(set)
 }
 
 // SYNC: target the larger of its x and MSG, at most capacity; column by seconds off.
 #[tactic(auto, unfolding(profile::specs::Effects::outcome_by, profile::specs::Effects::sync_target))]
-fn sync(
-    u: records::UnitData,
-    now: profile::UnderWay,
-    i: records::Instruction,
-    s: profile::State,
-) -> profile::Outcome
+fn sync(u: UnitData, now: UnderWay, i: Instruction, s: State) -> Option<Setting>
     ensures { result ≡ outcome_by u now i s Sync }
 {
-    let raised = level::larger(i.level, u.msg);
-    let target = level::smaller(raised, u.capacity);
+    let target = i.level.max(u.msg).min(u.capacity);
     let heat = heat_by(u, s.off);
-    let g = profile::Setting {
-        from: s.level,
+    let set = Setting {
         target,
         heat,
-        up: i.up,
-        down: i.down,
-        maximised: false,
         ordered: target,
+        ..kept(now, i, s)
     };
-    unless(0 < s.level, g)
-}
-
-// MXOF: target that of the last MWOF or SYNC with fate 0, or the opening's; ramp-down rate 1 for all five.
-#[tactic(auto, unfolding(profile::specs::Effects::outcome_by))]
-fn mxof(
-    u: records::UnitData,
-    now: profile::UnderWay,
-    i: records::Instruction,
-    s: profile::State,
-) -> profile::Outcome
-    ensures { result ≡ outcome_by u now i s Mxof }
-{
-    let c = now.course;
-    let ramp = u.down;
-    let g = profile::Setting {
-        from: s.level,
-        target: now.ordered,
-        heat: c.heat,
-        up: i.up,
-        down: ramp.rates[0],
-        maximised: false,
-        ordered: now.ordered,
-    };
-    unless(!now.maximised, g)
-}
-
-// DESY: target 0.
-#[tactic(auto, unfolding(profile::specs::Effects::outcome_by))]
-fn desy(now: profile::UnderWay, i: records::Instruction, s: profile::State) -> profile::Outcome
-    ensures { (u : UnitData) → result ≡ outcome_by u now i s Desy }
-{
-    let c = now.course;
-    let g = profile::Setting {
-        from: s.level,
-        target: 0,
-        heat: c.heat,
-        up: i.up,
-        down: i.down,
-        maximised: false,
-        ordered: now.ordered,
-    };
-    unless(s.level == 0, g)
+    (s.level == 0).then_some(set)
 }
 
 // What an instruction comes to, read with the state just before.
 #[tactic(auto, unfolding(profile::specs::Effects::outcome_by))]
-pub fn outcome_of(
-    u: records::UnitData,
-    now: profile::UnderWay,
-    o: validation::Numbered,
-    s: profile::State,
-) -> profile::Outcome
+pub fn outcome_of(u: UnitData, now: UnderWay, o: Numbered, s: State) -> Option<Setting>
     ensures { result ≡ outcome u now o.instruction s }
 {
     let i = o.instruction;
-    let m = i.meaning;
-    let effect = m.effect;
-    match effect {
-        records::Effect::Trip => trip(now, i, s),
-        records::Effect::Mwof => mwof(u, now, i, s),
-        records::Effect::Mxon => mxon(u, now, i, s),
-        records::Effect::Sync => sync(u, now, i, s),
-        records::Effect::Mxof => mxof(u, now, i, s),
-        records::Effect::Desy => desy(now, i, s),
-        records::Effect::Fail => profile::Outcome::Ignored,
+    let above = s.level != 0;
+    let same = kept(now, i, s);
+    match i.meaning.effect {
+        Effect::Trip => above.then_some(Setting {
+            from: 0,
+            target: 0,
+            ..same
+        }),
+        Effect::Mwof => mwof(u, now, i, s),
+        Effect::Mxon => (above && !now.maximised).then_some(Setting {
+            target: u.maximum,
+            up: u.up.rates[4],
+            maximised: true,
+            ..same
+        }),
+        Effect::Sync => sync(u, now, i, s),
+        Effect::Mxof => now.maximised.then_some(Setting {
+            target: now.ordered,
+            down: u.down.rates[0],
+            ..same
+        }),
+        Effect::Desy => above.then_some(Setting { target: 0, ..same }),
+        Effect::Fail => None,
     }
 }
 
 // ---- the course that it starts
 
 // "At level 0 with a target above 0 the level goes at once to the smaller of block load and target."
-#[tactic(auto, using(crate::proofs::Laws::step_stays, crate::proofs::Laws::step_no_target, crate::proofs::Laws::step_block, crate::proofs::Laws::step_target))]
+#[tactic(auto, unfolding(profile::specs::Effects::stepped))]
 fn step_up(block: u64, target: u64, v: u64) -> u64
     ensures { result ≡ stepped block target v }
 {
-    if v != 0 {
-        return v;
+    if v == 0 && 0 < target {
+        block.min(target)
+    } else {
+        v
     }
-    if target == 0 {
-        return v;
-    }
-    if block <= target {
-        return block;
-    }
-    target
 }
 
 // The course (document 01's own term) that a setting makes at a second.
 #[tactic(auto, unfolding(profile::specs::Effects::course_from, level::specs::Level::from_kw))]
-fn course_from(u: records::UnitData, begin: u32, g: profile::Setting) -> course::Course
+fn course_from(u: UnitData, begin: u32, g: Setting) -> Course
     ensures { result ≡ course_from u begin g }
 {
-    let column = course_rates::column_for(u, g.heat);
-    let block = level::Level::from_kw(column.block);
-    let target = level::Level::from_kw(g.target);
+    let block = Level::from_kw(course_rates::column_for(u, g.heat).block);
+    let target = Level::from_kw(g.target);
     let grains = step_up(block.grains, target.grains, g.from);
-    let start = level::Level { grains };
-    course::Course {
+    Course {
         begin,
-        start,
+        start: Level { grains },
         target: g.target,
         heat: g.heat,
         up: g.up,
@@ -246,12 +144,11 @@ fn course_from(u: records::UnitData, begin: u32, g: profile::Setting) -> course:
 
 // It under way, the unit having been off so many seconds where it began.
 #[tactic(auto, unfolding(profile::specs::Effects::under_way))]
-fn under_way(u: records::UnitData, begin: u32, g: profile::Setting, off: u32) -> profile::UnderWay
+fn under_way(u: UnitData, begin: u32, g: Setting, off: u32) -> UnderWay
     ensures { result ≡ under_way u begin g off }
 {
-    let course = course_from(u, begin, g);
-    profile::UnderWay {
-        course,
+    UnderWay {
+        course: course_from(u, begin, g),
         maximised: g.maximised,
         ordered: g.ordered,
         off,
@@ -260,11 +157,11 @@ fn under_way(u: records::UnitData, begin: u32, g: profile::Setting, off: u32) ->
 
 // The course that the start of a day sets going at 06:00.
 #[tactic(auto, unfolding(profile::specs::Effects::start_course))]
-pub fn start_course(u: records::UnitData, s: profile::Start) -> profile::UnderWay
+pub fn start_course(u: UnitData, s: Start) -> UnderWay
     ensures { result ≡ start_course u s }
 {
-    let g = profile::Setting {
-        from: s.level as u64,
+    let g = Setting {
+        from: u64::from(s.level),
         target: s.target,
         heat: s.heat,
         up: s.up,
@@ -277,26 +174,19 @@ pub fn start_course(u: records::UnitData, s: profile::Start) -> profile::UnderWa
 
 // The second at which an instruction acts, where it fits.
 #[tactic(auto, unfolding(validation::specs::Kept::acting))]
-pub fn acting_second(o: validation::Numbered) -> u32
+pub fn acting_second(o: Numbered) -> u32
     requires { acting o < 2 ^ 32 }
     ensures { result ≡ acting o }
 {
     let i = o.instruction;
-    let m = i.meaning;
-    i.effective + m.lag
+    i.effective + i.meaning.lag
 }
 
 // The course that an instruction of fate 0 begins at its acting second with what it sets.
 #[tactic(auto, unfolding(profile::specs::Effects::begun))]
-pub fn begin_course(
-    u: records::UnitData,
-    o: validation::Numbered,
-    g: profile::Setting,
-    s: profile::State,
-) -> profile::UnderWay
+pub fn begin_course(u: UnitData, o: Numbered, g: Setting, s: State) -> UnderWay
     requires { acting o < 2 ^ 32 }
     ensures { result ≡ begun u o g s }
 {
-    let at = acting_second(o);
-    under_way(u, at, g, s.off)
+    under_way(u, acting_second(o), g, s.off)
 }

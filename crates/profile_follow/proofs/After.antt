@@ -1,12 +1,9 @@
 -- What is to come of a day: the courses after the one under way, and their areas.
 use Prim.Native.Nat.{ℕ, ◌+◌, ◌*◌, ◌-◌, min, ◌≤◌}
 use mathlib.Core.Path.{◌≡◌, refl, ap, sym, ◌∙◌}
-use mathlib.Core.Bool.{Bool}
 use mathlib.Core.List.{List, [], ◌∷◌, map}
 use native.Mathlib.Omega.{arith}
-use lib.Dec.{ltb}
 use lib.ListN.{drop}
-use Rattle.level.specs.Level.{grains}
 use Rattle.level.specs.Numbers.{half_hour}
 use Rattle.course.specs.Recorded.{area, twice_area}
 use Rattle.records.specs.declared.UnitData.{UnitData}
@@ -18,7 +15,7 @@ use Rattle.validation.specs.declared.Numbered.{Numbered}
 use Rattle.validation.specs.Kept.{acting}
 use Rattle.profile.specs.declared.UnderWay.{UnderWay}
 use Rattle.profile.specs.declared.Setting.{Setting}
-use Rattle.profile.specs.declared.Outcome.TheVariants.{Ignored, Sets}
+use Rattle.std.specs.Prelude.{Some, None}
 use Rattle.profile.specs.State.{by_rule}
 use Rattle.profile.specs.Effects.{Followed, begun, under_way, course_from, goes_on, replaces, follow}
 use Rattle.profile.specs.Profile.{begin_of, spans_of, course_of}
@@ -47,11 +44,11 @@ module _ (u : UnitData) where
   after_none now = refl
 
   module _ (now : UnderWay) (o : Numbered) (os : List Numbered) where
-    pub after_on : comes_to by_rule u now o ≡ Ignored → courses_after u now (o ∷ os) ≡ courses_after u now os
+    pub after_on : comes_to by_rule u now o ≡ None → courses_after u now (o ∷ os) ≡ courses_after u now os
     unfolding courses_from courses_after goes_on
     after_on e = rw (follow_on by_rule u now o os e) refl
 
-    pub after_new : (g : Setting) → comes_to by_rule u now o ≡ Sets g → courses_after u now (o ∷ os) ≡ courses_from u (new_course by_rule u now o g) os
+    pub after_new : (g : Setting) → comes_to by_rule u now o ≡ Some g → courses_after u now (o ∷ os) ≡ courses_from u (new_course by_rule u now o g) os
     unfolding courses_from courses_after replaces
     after_new g e = rw (follow_new by_rule u now o os g e) refl
 
@@ -81,7 +78,7 @@ module _ (u : UnitData) where
   unfolding courses_from courses_after
   from_head now os = (course_first 0 now os).head
 
-  pub end_new : (end : ℕ) (now : UnderWay) (o : Numbered) (os : List Numbered) (g : Setting) → comes_to by_rule u now o ≡ Sets g →
+  pub end_new : (end : ℕ) (now : UnderWay) (o : Numbered) (os : List Numbered) (g : Setting) → comes_to by_rule u now o ≡ Some g →
       end_of u end now (o ∷ os) ≡ acting o
   unfolding begin_of
   end_new end now o os g e = ap (begin_of end) (after_new now o os g e ∙ from_head (new_course by_rule u now o g) os) ∙ begins_there now o g

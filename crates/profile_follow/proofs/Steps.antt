@@ -1,19 +1,13 @@
 -- From one instruction that acts to the next, and to the day's end.
 use Prim.Native.Nat.{ℕ, zero, suc, ◌+◌, ◌*◌, min, ◌≤◌, ◌<◌}
 use mathlib.Core.Path.{◌≡◌, refl, ap, sym, ◌∙◌, subst}
-use mathlib.Core.Bool.{Bool}
 use mathlib.Core.List.{List, [], ◌∷◌}
 use native.Mathlib.Decide.{dec_le}
 use native.Mathlib.Omega.{arith}
-use lib.Dec.{ltb}
-use lib.ListN.{length, get_or, take, drop, replicate}
+use lib.ListN.{length, get_or, take, replicate}
 use lib.Seq.{get_or-take, length-take-le}
-use borrow.Author.Tests.{lt-ltb, le-ltb}
-use Rattle.level.specs.Choice.{pick}
-use Rattle.level.specs.Level.{grains}
 use Rattle.level.specs.Lists.{All, list_from, filled}
 use Rattle.level.specs.Numbers.{half_hour, most_half_hours, boundary_places, instruction_places}
-use Rattle.level.proofs.Lists.{left_cons, left_none}
 use Rattle.records.specs.declared.UnitData.{UnitData}
 use Rattle.course.specs.declared.Course.{Course}
 use Rattle.course.specs.Lists.{Lists}
@@ -21,11 +15,10 @@ use Rattle.course.specs.declared.Heading.{Heading}
 use Rattle.course.specs.Headings.{Short}
 use Rattle.validation.specs.declared.Numbered.{Numbered}
 use Rattle.validation.specs.Kept.{acting}
-use Rattle.validation_groups.specs.Working.{no_numbered}
 use Rattle.profile.specs.declared.UnderWay.{UnderWay}
 use Rattle.profile.specs.declared.Setting.{Setting}
 use Rattle.profile.specs.declared.State.{State}
-use Rattle.profile.specs.declared.Outcome.TheVariants.{Ignored, Sets}
+use Rattle.std.specs.Prelude.{Some, None}
 use Rattle.profile.specs.State.{by_rule}
 use Rattle.profile.specs.Effects.{Followed, follow, state_at}
 use Rattle.profile.specs.Profile.{Span, begin_of, spans_of}
@@ -35,7 +28,7 @@ use Rattle.level.proofs.Arrays.{places_same}
 use Rattle.profile.proofs.Found.{list_length, list_at}
 use Rattle.course_walk.specs.declared.Place.{Place}
 use Rattle.course_rates.specs.Ways.{target_of, lists_by}
-use Rattle.course_walk.specs.Walk.{reached_at, beginning, onward, twice_to}
+use Rattle.course_walk.specs.Walk.{reached_at, beginning, onward}
 use Rattle.course_walk.proofs.PieceStep.{PieceStep, onward_step}
 use Rattle.profile_areas.specs.declared.Passed.{Passed}
 use Rattle.profile_areas.specs.Passing.{summed, noted_to, SumsFit, Noted, piece_from, Passing}
@@ -45,7 +38,7 @@ use Rattle.profile_follow.specs.declared.Walk.{Walk}
 use Rattle.profile_follow.specs.declared.OnCourse.{OnCourse}
 use Rattle.profile_follow.specs.declared.FollowedDay.{FollowedDay}
 use Rattle.profile_follow.specs.Walk.{walk_of, walk_all, went_on, replaced_by}
-use Rattle.profile_follow.specs.Following.{set_out, went_to, place_in, second_of, Ordered, LowStart, courses_from, courses_after, end_of, OnIt, sums_at, twice_on, sum_after, last_in, ended, FollowedBy}
+use Rattle.profile_follow.specs.Following.{set_out, went_to, second_of, Ordered, LowStart, courses_from, courses_after, end_of, OnIt, sums_at, twice_on, sum_after, last_in, ended, FollowedBy}
 use Rattle.profile_follow.proofs.Walking.{WalkProgress, walked_start, walked_on, walked_new, walked_end}
 use Rattle.profile_follow.proofs.After.{begins_there, from_head, after_none, after_on, after_new, end_none, end_new, end_after, ordered_less, NextActs, ordered_next, set_out_sum, out_on}
 
@@ -77,16 +70,6 @@ pub record FollowProgress (u : UnitData) (end : ℕ) (first : UnderWay) (all lef
   pub sums : (j : ℕ) → j ≤ most_half_hours →
       noted_to (sums_at g ys) j + sum_after u end w.now g left j ≡ pieces_to (spans_of u end (courses_from u first all)) (half_hour * j)
   pub fits : SumsFit (sums_at g ys)
-
--- where the next of those that act does so, else the day's end
-pub second_is : (end : ℕ) (acts : List Numbered) (n i : ℕ) → n ≤ instruction_places → length acts ≡ instruction_places →
-    pick (ltb i n) (acting (get_or acts (place_in i) no_numbered)) end ≡ second_of end (drop i (take n acts))
-second_is end acts n i few forty = elim (dec_le (suc i) n) [
-  | yes lt ↦
-      rw (lt-ltb i n lt) (ap (λ (k : ℕ). acting (get_or acts k no_numbered)) {x = place_in i} {y = i} (omega arith))
-      ∙ ap (second_of end) (sym (left_cons acts n i no_numbered lt (omega arith)))
-  | no ge ↦ rw (le-ltb i n (omega arith)) refl ∙ ap (second_of end) (sym (left_none acts n i (omega arith)))
-]
 
 -- ---- at 06:00
 
@@ -166,7 +149,7 @@ module _ {u : UnitData} {end : ℕ} {first : UnderWay} {all : List Numbered} {ac
   p = g.reached.place
 
   -- without effect: the course goes on
-  pub progress_on : comes_to by_rule u w.now act ≡ Ignored → FollowProgress u end first all left (went_on w) g ys
+  pub progress_on : comes_to by_rule u w.now act ≡ None → FollowProgress u end first all left (went_on w) g ys
   unfolding sum_after went_on
   progress_on e =
       let same : courses_after u w.now (act ∷ left) ≡ courses_after u w.now left = after_on u w.now act left e in
@@ -184,7 +167,7 @@ module _ {u : UnitData} {end : ℕ} {first : UnderWay} {all : List Numbered} {ac
       }
 
   -- with effect: it ends at the place q, and the next one begins
-  module _ {set : Setting} (new : comes_to by_rule u w.now act ≡ Sets set) {q : Place} (cut : CutAt g q (acting act)) where
+  module _ {set : Setting} (new : comes_to by_rule u w.now act ≡ Some set) {q : Place} (cut : CutAt g q (acting act)) where
     abbrev then : UnderWay
     then = new_course by_rule u w.now act set
 
@@ -224,8 +207,8 @@ module _ {u : UnitData} {end : ℕ} {first : UnderWay} {all : List Numbered} {ac
         })
 
 -- ---- the day's end
-module _ {u : UnitData} {halves : ℕ} {first : UnderWay} {all left : List Numbered} {w : Walk} {g : OnCourse} {ys : List ℕ}
-    {q : Place} (f : FollowProgress u (half_hour * halves) first all left w g ys) (none : left ≡ []) (long : halves ≤ most_half_hours)
+module _ {u : UnitData} {halves : ℕ} {first : UnderWay} {all : List Numbered} {w : Walk} {g : OnCourse} {ys : List ℕ}
+    {q : Place} (v : FollowProgress u (half_hour * halves) first all [] w g ys) (long : halves ≤ most_half_hours)
     (cut : CutAt g q (half_hour * halves)) where
   abbrev end : ℕ
   end = half_hour * halves
@@ -235,9 +218,6 @@ module _ {u : UnitData} {halves : ℕ} {first : UnderWay} {all left : List Numbe
 
   abbrev twice_there : ℕ → ℕ
   twice_there n = twice_on g.route n g.reached.place
-
-  v : FollowProgress u end first all [] w g ys
-  v = subst (λ (os : List Numbered). FollowProgress u end first all os w g ys) none f
 
   sum_last : (j : ℕ) → sum_after u end w.now g [] j ≡ twice_there (min q.second (half_hour * j))
   unfolding sum_after spans_of pieces_to

@@ -1,9 +1,9 @@
--- One turn of following: the instruction read, the course followed to where it acts, and what comes of it.
-use Rattle.std.proofs.Common.{◌≡◌, ℕ, ◌+◌, ◌*◌, ◌≤◌, ◌<◌, ltb, List, [], ◌∷◌, length, get_or, take, drop, ap, ◌∙◌, subst, arith}
-use Rattle.level.specs.Choice.{pick}
-use Rattle.level.specs.Numbers.{half_hour, instruction_places}
+-- One turn of following: the course followed to where an instruction acts, or to the day's end, and what comes of it.
+use Rattle.std.proofs.Common.{◌≡◌, ℕ, ◌+◌, ◌*◌, ◌≤◌, ◌<◌, List, [], ◌∷◌, length, get_or, drop, drop-cons, ap, sym, ◌∙◌, subst, arith}
+use Rattle.std.proofs.lemmas.List.{drop_all}
+use native.Mathlib.Numerals.{add-one}
+use Rattle.level.specs.Numbers.{half_hour, most_half_hours}
 use Rattle.level.specs.Bounds.{most_seconds}
-use Rattle.level.proofs.Lists.{left_cons, left_none}
 use Rattle.records.specs.declared.UnitData.{UnitData}
 use Rattle.validation.specs.declared.Numbered.{Numbered}
 use Rattle.validation.specs.Kept.{acting}
@@ -11,9 +11,8 @@ use Rattle.validation_groups.specs.Working.{no_numbered}
 use Rattle.profile.specs.declared.UnderWay.{UnderWay}
 use Rattle.profile.specs.declared.Setting.{Setting}
 use Rattle.profile.specs.declared.State.{State}
-use Rattle.profile.specs.declared.Outcome.{Outcome}
 use Rattle.profile.specs.State.{by_rule}
-use Rattle.profile.specs.Effects.{outcome, begun, state_at}
+use Rattle.profile.specs.Effects.{Outcome, outcome, begun, state_at}
 use Rattle.profile.proofs.Following.{comes_to, new_course}
 use Rattle.profile_areas.specs.declared.Passed.{Passed}
 use Rattle.profile_areas.specs.Passing.{CourseAhead, PieceAhead, Passing}
@@ -21,79 +20,57 @@ use Rattle.profile_areas.proofs.Areas.{step_straight}
 use Rattle.profile_areas.proofs.Watch.{watching_at}
 use Rattle.profile_follow.specs.declared.Walk.{Walk}
 use Rattle.profile_follow.specs.declared.OnCourse.{OnCourse}
-use Rattle.profile_follow.specs.Following.{Followable, went_to, place_in, second_of, sums_at}
-use Rattle.profile_follow.proofs.Steps.{CutAt, FollowProgress, second_is, last_step, order, progress_pass}
+use Rattle.profile_follow.specs.Following.{went_to, second_of, sums_at}
+use Rattle.profile_follow.proofs.Steps.{CutAt, FollowProgress, last_step, order, progress_pass}
 
--- as a turn of the loop begins
-pub record FollowTurn (n : ℕ) (u : UnitData) (end : ℕ) (first : UnderWay) (all : List Numbered) (w : Walk) (g : OnCourse)
+-- as a turn begins, i of all having acted
+pub record FollowTurn (i : ℕ) (u : UnitData) (end : ℕ) (first : UnderWay) (all : List Numbered) (w : Walk) (g : OnCourse)
     (ys : List ℕ) : Type 0 where
-  pub within : w.acted ≤ n
-  pub progress : FollowProgress u end first all (drop w.acted all) w g ys
+  pub acted : w.acted ≡ i
+  pub progress : FollowProgress u end first all (drop i all) w g ys
 
-module _ {u : UnitData} {first : UnderWay} {acts : List Numbered} {n halves : ℕ} {w : Walk} {g : OnCourse} {ys : List ℕ}
-    (can : Followable u first acts n halves) (forty : length acts ≡ instruction_places)
-    (v : FollowTurn n u (half_hour * halves) first (take n acts) w g ys) {i : ℕ} (at : i ≡ place_in w.acted) where
+module _ {i : ℕ} {u : UnitData} {end : ℕ} {first : UnderWay} {all : List Numbered} {w : Walk} {g : OnCourse} {ys : List ℕ}
+    (v : FollowTurn i u end first all w g ys) where
+  pub one_acts : i < length all → FollowProgress u end first all (get_or all i no_numbered ∷ drop (i + 1) all) w g ys
+  one_acts h = subst (λ (os : List Numbered). FollowProgress u end first all os w g ys)
+      (drop-cons all i no_numbered h ∙ ap (λ (k : ℕ). get_or all i no_numbered ∷ drop k all) (sym (add-one i))) v.progress
+
+  pub none_left : length all ≤ i → FollowProgress u end first all [] w g ys
+  none_left h = subst (λ (os : List Numbered). FollowProgress u end first all os w g ys) (drop_all i all h) v.progress
+
+-- some left, the course under way followed to where the first of them acts, or to the day's end
+module _ {u : UnitData} {halves : ℕ} {first : UnderWay} {all left : List Numbered} {w : Walk} {g : OnCourse} {ys : List ℕ}
+    (long : halves ≤ most_half_hours) (f : FollowProgress u (half_hour * halves) first all left w g ys) where
   abbrev end : ℕ
   end = half_hour * halves
 
-  abbrev all : List Numbered
-  all = take n acts
+  pub within_day : second_of end left ≤ most_seconds
+  within_day = omega (arith, (order f).soon)
 
-  abbrev left : List Numbered
-  left = drop w.acted all
-
-  -- the second to which the course is followed
-  abbrev goal : ℕ
-  goal = second_of end left
-
-  -- the instruction that acts next, if one does, as the code reads it, and those left after it
-  abbrev act : Numbered
-  act = get_or acts i no_numbered
-
-  abbrev later : List Numbered
-  later = drop (w.acted + 1) all
-
-  left_is : w.acted < n → left ≡ act ∷ later
-  left_is lt = left_cons acts n w.acted no_numbered lt (omega (arith, forty, can.few))
-      ∙ ap (λ (k : ℕ). get_or acts k no_numbered ∷ later) {x = w.acted} {y = i} (omega (arith, at, lt, can.few))
-
-  within : goal ≤ most_seconds
-  within = omega (arith, (order v.progress).soon, can.long)
-
-  pub acts_soon : w.acted < n → acting act ≤ most_seconds
-  acts_soon lt = omega (arith, within, ap (second_of end) (left_is lt))
-
-  pub fate_room : w.acted < n → w.acted < instruction_places
-  fate_room lt = omega (arith, lt, can.few)
-
-  module _ {t : ℕ} (e : t ≡ pick (ltb w.acted n) (acting act) end) where
-    second_there : t ≡ goal
-    second_there = e ∙ ap (λ (k : ℕ). pick (ltb w.acted n) (acting (get_or acts k no_numbered)) end) at ∙ second_is end acts n w.acted can.few forty
-
+  module _ {t : ℕ} (at : t ≡ second_of end left) where
     pub course_ahead : CourseAhead g.route g.reached t (sums_at g ys)
-    course_ahead = let f = v.progress in record {
-      later = omega (arith, second_there, (order f).later);
-      within = omega (arith, second_there, within);
+    course_ahead = record {
+      later = omega (arith, (order f).later);
+      within = omega (arith, within_day);
       low = f.on.low;
       short = f.on.watching.short;
       known = f.on.known;
       fits = f.fits;
     }
 
-    -- followed to that second
     module _ {zs : List ℕ} {s : Passed} (passing : Passing g.route g.reached.place g.off t (sums_at g ys) zs s) where
-      past : Passing g.route g.reached.place g.off goal (sums_at g ys) zs s
-      past = subst (λ (k : ℕ). Passing g.route g.reached.place g.off k (sums_at g ys) zs s) second_there passing
+      past : Passing g.route g.reached.place g.off (second_of end left) (sums_at g ys) zs s
+      past = subst (λ (k : ℕ). Passing g.route g.reached.place g.off k (sums_at g ys) zs s) at passing
 
       -- the course further on
       abbrev further : OnCourse
       further = went_to g s
 
-      gone_on : FollowProgress u end first all left w further zs
-      gone_on = progress_pass v.progress past
+      pub gone_on : FollowProgress u end first all left w further zs
+      gone_on = progress_pass f past
 
       -- where the second cuts it
-      cut_at : CutAt further s.ahead goal
+      pub cut_at : CutAt further s.ahead (second_of end left)
       cut_at = record { there = past.there; runs = past.runs }
 
       -- the piece that it cuts, where that is added
@@ -101,50 +78,35 @@ module _ {u : UnitData} {first : UnderWay} {acts : List Numbered} {n halves : �
       piece_ahead = let p = past.progress in record {
         straight = λ lt. step_straight (last_step cut_at p.short lt);
         later = omega (arith, p.within, past.there);
-        within = omega (arith, past.there, within);
+        within = omega (arith, past.there, within_day);
         low = p.low;
         low_too = past.ahead_low;
         fits = p.fits;
       }
 
       -- the state there
-      module _ {state : State} (is : state ≡ record { level = s.ahead.level; off = s.later }) where
-        state_there : state ≡ state_at by_rule u w.now goal
-        state_there = is ∙ watching_at u w.now g.route s.ahead s.later goal v.progress.on.course (past.watched u w.now.off v.progress.on.watching) past.there
+      pub state_there : record { level = s.ahead.level; off = s.later } ≡ state_at by_rule u w.now (second_of end left)
+      state_there = watching_at u w.now g.route s.ahead s.later (second_of end left) f.on.course (past.watched u w.now.off f.on.watching) past.there
 
-        -- none is left
-        pub record AtEnd : Type 0 where
-          pub none : left ≡ []
-          pub progress : FollowProgress u end first all left w further zs
-          pub cut : CutAt further s.ahead end
-          pub there : state ≡ state_at by_rule u w.now end
+-- the first of some left acts: the course is followed to there, what it comes to, and the course that it begins
+module _ {u : UnitData} {halves : ℕ} {first : UnderWay} {all : List Numbered} {act : Numbered} {later : List Numbered} {w : Walk} {g : OnCourse}
+    {ys : List ℕ} (long : halves ≤ most_half_hours) (f : FollowProgress u (half_hour * halves) first all (act ∷ later) w g ys)
+    {t : ℕ} (at : t ≡ acting act) {zs : List ℕ} {s : Passed}
+    (passing : Passing g.route g.reached.place g.off t (sums_at g ys) zs s)
+    {state : State} (is : state ≡ record { level = s.ahead.level; off = s.later }) where
+  there : state ≡ state_at by_rule u w.now (acting act)
+  there = is ∙ state_there long f at passing
 
-        pub at_end : n ≤ w.acted → AtEnd
-        at_end le =
-            let none : left ≡ [] = left_none acts n w.acted le in
-            let last : goal ≡ end = ap (second_of end) none in
-            record {
-              none = none;
-              progress = gone_on;
-              cut = subst (CutAt further s.ahead) last cut_at;
-              there = state_there ∙ ap (state_at by_rule u w.now) last;
-            }
+  pub record ActsNow : Type 0 where
+    pub progress : FollowProgress u (half_hour * halves) first all (act ∷ later) w (went_to g s) zs
+    pub cut : CutAt (went_to g s) s.ahead (acting act)
+    pub comes : {x y : Outcome} → x ≡ outcome u w.now act.instruction state → x ≡ y → comes_to by_rule u w.now act ≡ y
+    pub begins : {d : UnderWay} (set : Setting) → d ≡ begun u act set state → d ≡ new_course by_rule u w.now act set
 
-        -- one acts: what it comes to, and the course that it begins
-        pub record ActsNow : Type 0 where
-          pub progress : FollowProgress u end first all (act ∷ later) w further zs
-          pub cut : CutAt further s.ahead (acting act)
-          pub comes : {x : Outcome} → x ≡ outcome u w.now act.instruction state → x ≡ comes_to by_rule u w.now act
-          pub begins : {d : UnderWay} (set : Setting) → d ≡ begun u act set state → d ≡ new_course by_rule u w.now act set
-
-        pub acts_now : w.acted < n → ActsNow
-        acts_now lt =
-            let next : left ≡ act ∷ later = left_is lt in
-            let then : goal ≡ acting act = ap (second_of end) next in
-            let before : state ≡ state_at by_rule u w.now (acting act) = state_there ∙ ap (state_at by_rule u w.now) then in
-            record {
-              progress = subst (λ (os : List Numbered). FollowProgress u end first all os w further zs) next gone_on;
-              cut = subst (CutAt further s.ahead) then cut_at;
-              comes = λ e. e ∙ ap (outcome u w.now act.instruction) before;
-              begins = λ set e. e ∙ ap (begun u act set) before;
-            }
+  pub acts_now : ActsNow
+  acts_now = record {
+    progress = gone_on long f at passing;
+    cut = cut_at long f at passing;
+    comes = λ e same. sym (e ∙ ap (outcome u w.now act.instruction) there) ∙ same;
+    begins = λ set e. e ∙ ap (begun u act set) there;
+  }

@@ -12,7 +12,7 @@ use Rattle.validation.specs.Kept.{Mark, mark}
 use Rattle.level.proofs.Arrays.{filled_push}
 use Rattle.profile.specs.declared.UnderWay.{UnderWay}
 use Rattle.profile.specs.declared.Setting.{Setting}
-use Rattle.profile.specs.declared.Outcome.TheVariants.{Ignored, Sets}
+use Rattle.std.specs.Prelude.{Some, None}
 use Rattle.profile.specs.State.{by_rule}
 use Rattle.profile.specs.Effects.{Followed, goes_on, replaces, follow}
 use Rattle.profile.specs.Profile.{course_of, last_of}
@@ -94,7 +94,7 @@ module _ (u : UnitData) where
   -- one more: ignored, or with effect
   module _ (w : Walk) (o : Numbered) (os : List Numbered) (whole : Followed) (h : w.acted < instruction_places) (g : WalkProgress w (o ∷ os) whole)
     where
-      pub walked_on : comes_to by_rule u w.now o ≡ Ignored → WalkProgress (went_on w) os whole
+      pub walked_on : comes_to by_rule u w.now o ≡ None → WalkProgress (went_on w) os whole
       unfolding goes_on went_on
       walked_on e =
           let step = follow_on by_rule u w.now o os e in
@@ -107,7 +107,7 @@ module _ (u : UnitData) where
             holds = held_on w o g.us g.ms g.holds h;
           }
 
-      pub walked_new : (set : Setting) → w.started < course_places → comes_to by_rule u w.now o ≡ Sets set →
+      pub walked_new : (set : Setting) → w.started < course_places → comes_to by_rule u w.now o ≡ Some set →
           WalkProgress (replaced_by w (new_course by_rule u w.now o set)) os whole
       unfolding replaces replaced_by
       walked_new set k e =

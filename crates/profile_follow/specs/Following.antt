@@ -1,6 +1,5 @@
 -- Working. The instructions that act, followed from one course to the next along the day.
-use Rattle.std.specs.Prelude.{ℕ, suc, ◌+◌, ◌*◌, ◌-◌, min, ◌≤◌, ◌<◌, ◌≡◌, Bool, List, [], ◌∷◌, map, take, drop}
-use Rattle.level.specs.Level.{grains}
+use Rattle.std.specs.Prelude.{ℕ, suc, ◌+◌, ◌*◌, min, ◌≤◌, ◌<◌, ◌≡◌, List, [], ◌∷◌, map, take, drop}
 use Rattle.level.specs.Lists.{All, list_from, filled}
 use Rattle.level.specs.Numbers.{half_hour, most_half_hours, boundary_places, instruction_places}
 use Rattle.level.specs.Bounds.{level_bound}
@@ -44,10 +43,6 @@ went_to g s = record { route = g.route; reached = s.reached; off = s.off; total 
 -- the day summed up to where it is reached
 abbrev pub sums_at : OnCourse → List ℕ → Summed
 sums_at g ys = summed g.reached.place.second ys g.total
-
--- the place of an instruction; past the last one the last
-abbrev pub place_in : ℕ → ℕ
-place_in at = min at (instruction_places - 1)
 
 -- where the first of those left acts, else the day's end
 abbrev pub second_of : ℕ → List Numbered → ℕ

@@ -2,12 +2,15 @@
 // boundary, and the state at its end.
 #![tactic(auto)]
 
-ghost use Rattle.std.specs.Prelude.{◌≡◌, true, [], ◌∷◌, ◌<◌, ◌≤◌, ◌^◌, take};
-ghost use Rattle.level.specs.Choice.{pick};
-ghost use Rattle.level.specs.Numbers.{most_half_hours};
-ghost use Rattle.validation.specs.Kept.{acting};
-ghost use Rattle.profile_follow.specs.Walk.{walk_of};
-ghost use Rattle.profile_follow.specs.Following.{set_out, went_to, place_in, Followable, ended, FollowedBy};
+ghost use Rattle.std.specs.Prelude.{◌≡◌, [], ◌∷◌, ◌<◌, ◌≤◌, take};
+ghost use Rattle.level.specs.Numbers.{most_half_hours, instruction_places, course_places};
+ghost use Rattle.profile_follow.specs.Walk.{walk_of, went_on, replaced_by};
+ghost use Rattle.profile_follow.specs.Following.{set_out, went_to, Followable, ended, FollowedBy};
+
+use course::Course;
+use profile::{State, UnderWay};
+use records::UnitData;
+use validation::Numbered;
 
 // ---- what is kept on the way
 
@@ -15,29 +18,51 @@ ghost use Rattle.profile_follow.specs.Following.{set_out, went_to, place_in, Fol
 // and the fates, in acting order, of those that have acted.
 #[derive(Clone, Copy)]
 pub struct Walk {
-    pub now: profile::UnderWay,
-    pub courses: [course::Course; level::COURSES],
+    pub now: UnderWay,
+    pub courses: [Course; level::COURSES],
     pub started: usize,
     pub fates: [u8; level::INSTRUCTIONS],
     pub acted: usize,
 }
 
-// None has acted yet.
-#[tactic(auto, unfolding(crate::specs::Walk::walk_of, level::specs::Lists::filled))]
-fn begin_walk(now: profile::UnderWay) -> Walk
-    ensures { result ≡ walk_of now (record { marks = []; courses = now ∷ [] }) }
-{
-    let none = course::Course::default();
-    let first = now.course;
-    let mut courses = [none; level::COURSES];
-    courses[0] = first;
-    let fates = [0u8; level::INSTRUCTIONS];
-    Walk {
-        now,
-        courses,
-        started: 1,
-        fates,
-        acted: 0,
+impl Walk {
+    // None has acted yet.
+    #[tactic(auto, unfolding(crate::specs::Walk::walk_of, level::specs::Lists::filled))]
+    fn begin(now: UnderWay) -> Walk
+        ensures { result ≡ walk_of now (record { marks = []; courses = now ∷ [] }) }
+    {
+        let mut courses = [Course::default(); level::COURSES];
+        courses[0] = now.course;
+        Walk {
+            now,
+            courses,
+            started: 1,
+            fates: [0; level::INSTRUCTIONS],
+            acted: 0,
+        }
+    }
+
+    // One more acts, with fate 7: the course under way goes on.
+    #[tactic(auto, unfolding(crate::specs::Walk::went_on))]
+    fn go_on(&mut self)
+        requires { self.old.acted < instruction_places }
+        ensures { self.new ≡ went_on self.old }
+    {
+        self.fates[self.acted] = 7;
+        self.acted += 1;
+    }
+
+    // One more acts, with fate 0: another course begins.
+    #[tactic(auto, unfolding(crate::specs::Walk::replaced_by))]
+    fn replace(&mut self, next: UnderWay)
+        requires { (self.old.acted < instruction_places) × (self.old.started < course_places) }
+        ensures { self.new ≡ replaced_by self.old next }
+    {
+        self.now = next;
+        self.courses[self.started] = next.course;
+        self.started += 1;
+        self.fates[self.acted] = 0;
+        self.acted += 1;
     }
 }
 
@@ -51,62 +76,44 @@ pub struct OnCourse {
     pub total: u64,
 }
 
-// A course at its beginning, with the total up to there.
-#[tactic(auto, unfolding(crate::specs::Following::set_out, course_rates::specs::Ways::route_of, course_walk::specs::Walk::beginning))]
-fn set_out(u: records::UnitData, now: profile::UnderWay, total: u64) -> OnCourse
-    ensures { result ≡ set_out u now total }
-{
-    let route = course_rates::Route::new(u, now.course);
-    let reached = course_walk::begin_at(&route, 0);
-    let off = profile_areas::off_starting(now.course, now.off);
-    OnCourse {
-        route,
-        reached,
-        off,
-        total,
+impl OnCourse {
+    // A course at its beginning, with the total up to there.
+    #[tactic(auto, unfolding(crate::specs::Following::set_out, course_rates::specs::Ways::route_of, course_walk::specs::Walk::beginning))]
+    fn set_out(u: UnitData, now: UnderWay, total: u64) -> OnCourse
+        ensures { result ≡ set_out u now total }
+    {
+        let route = course_rates::Route::new(u, now.course);
+        let reached = course_walk::begin_at(&route, 0);
+        let off = profile_areas::off_starting(now.course, now.off);
+        OnCourse {
+            route,
+            reached,
+            off,
+            total,
+        }
     }
-}
 
-// The same course further on.
-fn went_to(g: OnCourse, s: profile_areas::Passed) -> OnCourse
-    ensures { result ≡ went_to g s }
-{
-    OnCourse {
-        reached: s.reached,
-        off: s.off,
-        total: s.total,
-        ..g
+    // The same course further on.
+    fn further(self, s: profile_areas::Passed) -> OnCourse
+        ensures { result ≡ went_to self s }
+    {
+        OnCourse {
+            reached: s.reached,
+            off: s.off,
+            total: s.total,
+            ..self
+        }
     }
-}
-
-// ---- one instruction after another
-
-// The second to which a course is followed next: that at which an instruction acts, or the day's end.
-fn next_second(more: bool, o: validation::Numbered, end: u32) -> u32
-    requires { more ≡ true → acting o < 2 ^ 32 }
-    ensures { result ≡ pick more (acting o) end }
-{
-    if more {
-        return profile_effects::acting_second(o);
-    }
-    end
 }
 
 // The state at the place q, with so many seconds off.
-fn state_at(q: course_walk::Place, off: u32) -> profile::State
+fn state_at(q: course_walk::Place, off: u32) -> State
     ensures { result ≡ record { level = q.level; off = off } }
 {
-    profile::State {
+    State {
         level: q.level,
         off,
     }
-}
-
-// The place of an instruction; past the last one the last.
-fn place_in(at: usize) -> usize
-    ensures { result ≡ place_in at }
-{
-    at.min(level::INSTRUCTIONS - 1)
 }
 
 // What following comes to: the walk, twice the recorded area from 06:00 to each half-hour boundary, and the state at the day's end.
@@ -114,20 +121,16 @@ fn place_in(at: usize) -> usize
 pub struct FollowedDay {
     pub walk: Walk,
     pub sums: [u64; level::BOUNDARIES],
-    pub end: profile::State,
+    pub end: State,
 }
 
 // At the end of a day of so many half-hours: the places past its last boundary hold 0.
-fn end_day(w: Walk, sums: [u64; level::BOUNDARIES], end: profile::State, halves: u32) -> FollowedDay
+fn end_day(w: Walk, sums: [u64; level::BOUNDARIES], end: State, halves: u32) -> FollowedDay
     requires { halves ≤ most_half_hours }
     ensures { result ≡ ended w sums end halves }
 {
     let mut kept = sums;
-    let mut b = halves as usize + 1;
-    while b < level::BOUNDARIES {
-        kept[b] = 0;
-        b += 1;
-    }
+    kept[halves as usize + 1..].fill(0);
     FollowedDay {
         walk: w,
         sums: kept,
@@ -135,54 +138,50 @@ fn end_day(w: Walk, sums: [u64; level::BOUNDARIES], end: profile::State, halves:
     }
 }
 
+// ---- one instruction after another
+
 // The first n of those that act, from the course `first` on, once along a day of so many half-hours; each read with the state just
 // before. Fate 7: the course under way goes on. Fate 0: it ends there, and a new one begins.
 pub fn follow_day(
-    u: records::UnitData,
-    first: profile::UnderWay,
-    acts: [validation::Numbered; level::INSTRUCTIONS],
+    u: UnitData,
+    first: UnderWay,
+    acts: [Numbered; level::INSTRUCTIONS],
     n: usize,
     halves: u32,
 ) -> FollowedDay
     requires { Followable u first acts n halves }
     ensures { FollowedBy u first (take n acts) halves result }
 {
-    let mut w = begin_walk(first);
-    let mut g = set_out(u, first, 0);
+    let mut w = Walk::begin(first);
+    let mut g = OnCourse::set_out(u, first, 0);
     let mut sums = [0u64; level::BOUNDARIES];
-    let end = level::HALF_HOUR * halves;
-    loop {
-        let at = w.acted;
-        let o = acts[place_in(at)];
-        let now = w.now;
-        let t = next_second(at < n, o, end);
-        let s = profile_areas::pass_to(
-            &mut sums, g.total, &g.route, g.reached, g.off, t,
-        );
-        let p = s.reached.place;
-        let q = s.ahead;
-        let state = state_at(q, s.later);
-        if n <= at {
-            let whole = profile_areas::note_piece(&mut sums, s.total, g.route.heading, p, q);
-            return end_day(w, sums, state, halves);
-        }
-        w.acted = at + 1;
-        let out = profile_effects::outcome_of(u, now, o, state);
-        match out {
-            profile::Outcome::Ignored => {
-                w.fates[at] = 7;
-                g = went_to(g, s);
+    for o in &acts[..n] {
+        let t = profile_effects::acting_second(*o);
+        let s = profile_areas::pass_to(&mut sums, g.total, &g.route, g.reached, g.off, t);
+        let state = state_at(s.ahead, s.later);
+        match profile_effects::outcome_of(u, w.now, *o, state) {
+            None => {
+                w.go_on();
+                g = g.further(s);
             }
-            profile::Outcome::Sets(set) => {
-                let total = profile_areas::note_piece(&mut sums, s.total, g.route.heading, p, q);
-                let next = profile_effects::begin_course(u, o, set, state);
-                let top = w.started;
-                w.now = next;
-                w.courses[top] = next.course;
-                w.started = top + 1;
-                w.fates[at] = 0;
-                g = set_out(u, next, total);
+            Some(set) => {
+                let p = s.reached.place;
+                let total = profile_areas::note_piece(
+                    &mut sums,
+                    s.total,
+                    g.route.heading,
+                    p,
+                    s.ahead,
+                );
+                let next = profile_effects::begin_course(u, *o, set, state);
+                w.replace(next);
+                g = OnCourse::set_out(u, next, total);
             }
         }
     }
+    let end = level::HALF_HOUR * halves;
+    let s = profile_areas::pass_to(&mut sums, g.total, &g.route, g.reached, g.off, end);
+    let p = s.reached.place;
+    profile_areas::note_piece(&mut sums, s.total, g.route.heading, p, s.ahead);
+    end_day(w, sums, state_at(s.ahead, s.later), halves)
 }

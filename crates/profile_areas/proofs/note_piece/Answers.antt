@@ -19,7 +19,7 @@ note_line-requires c =
     let a = c.args in
     let d = a.q.second - a.p.second in
     record {
-      later = c.requires.later;
+      later = c.if-q-p.false;
       within = c.requires.within;
       low = subst (λ (w : ℕ). StaysLow a.heading a.p.level (d * (w / d))) (sym c.abs_diff-way.ensures)
           (piece_low c.requires c.if-q-p.false);

@@ -1,66 +1,58 @@
-use Rattle.std.proofs.Common.{◌≡◌, ℕ, ◌*◌, take, drop, ap, sym, ◌∙◌, subst, arith}
-use Rattle.std.proofs.lemmas.Bool.{ltb-true}
-use Rattle.level.specs.Numbers.{half_hour}
+use Rattle.std.proofs.Common.{◌<◌, ◌∙◌, refl, ap, arith}
+use Rattle.std.proofs.lemmas.List.{length-take}
+use Rattle.level.specs.Numbers.{instruction_places}
 use Rattle.profile_follow.specs.declared.Walk.{Walk}
 use Rattle.profile_follow.specs.Walk.{walk_of, went_on, replaced_by}
-use Rattle.profile_follow.proofs.Steps.{FollowProgress, progress_start, progress_on, progress_new, progress_end}
-use Rattle.profile_follow.proofs.Turn.{acts_soon, fate_room, course_ahead, piece_ahead, at_end, acts_now}
+use Rattle.profile_follow.proofs.Steps.{progress_start, progress_on, progress_new, progress_end}
+use Rattle.profile_follow.proofs.Turn.{one_acts, none_left, within_day, course_ahead, gone_on, cut_at, piece_ahead, state_there, acts_now}
 use Rattle.profile_follow.proofs.follow_day.Goals as goal
+use Rattle.profile_follow.proofs.follow_day.Goals.{in-None, in-Some}
 
-pub loop-u-init : goal.loop-u-init
+pub loop-o-init : goal.loop-o-init
 unfolding walk_of
-loop-u-init c =
-    let none : c.begin_walk-w.result.acted ≡ 0 = ap (λ (x : Walk). x.acted) c.begin_walk-w.ensures in
-    let begins = progress_start {u = c.args.u} c.begin_walk-w.ensures c.set_out-g.ensures c.requires.ordered c.requires.starts in
-    record {
-      within = omega (arith, none);
-      progress = subst (λ (i : ℕ). FollowProgress c.args.u (half_hour * c.args.halves) c.args.first (take c.args.n c.args.acts)
-          (drop i (take c.args.n c.args.acts)) c.begin_walk-w.result c.set_out-g.result _) (sym none) begins;
-    }
+loop-o-init c = record {
+  acted = ap (λ (x : Walk). x.acted) c.begin-w.ensures;
+  progress = progress_start {u = c.args.u} c.begin-w.ensures c.set_out-g.ensures
+      c.requires.ordered c.requires.starts;
+}
 
-pub next_second-t-requires : goal.next_second-t-requires
-next_second-t-requires c = λ e.
-    let soon = acts_soon c.requires c.well_formed.1.1.0.1.0.1 c.loop-u.invariant c.place_in.ensures (ltb-true _ _ e) in
-    omega (arith, soon)
+pub acting_second-t-requires : goal.acting_second-t-requires
+acting_second-t-requires c =
+    let soon = within_day c.requires.long (one_acts c.loop-o.invariant c.loop-o-test.true) in
+    omega arith
 
 pub pass_to-s-requires : goal.pass_to-s-requires
-pass_to-s-requires c = course_ahead c.requires c.well_formed.1.1.0.1.0.1 c.loop-u.invariant c.place_in.ensures c.next_second-t.ensures
-
-pub note_piece-whole-requires : goal.note_piece-whole-requires
-note_piece-whole-requires c =
-    piece_ahead c.requires c.well_formed.1.1.0.1.0.1 c.loop-u.invariant c.place_in.ensures c.next_second-t.ensures c.pass_to-s.ensures
-
-pub returns-then-n-at : goal.returns-then-n-at
-returns-then-n-at c =
-    let x = at_end c.requires c.well_formed.1.1.0.1.0.1 c.loop-u.invariant c.place_in.ensures c.next_second-t.ensures c.pass_to-s.ensures
-    c.state_at-state.ensures c.if-n-at.true in
-    progress_end x.progress x.none c.requires.long x.cut c.note_piece-whole.ensures x.there c.end_day.ensures
+pass_to-s-requires c = course_ahead c.requires.long (one_acts c.loop-o.invariant c.loop-o-test.true) c.acting_second-t.ensures
 
 pub note_piece-total-requires : goal.note_piece-total-requires
 note_piece-total-requires c =
-    piece_ahead c.requires c.well_formed.1.1.0.1.0.1 c.loop-u.invariant c.place_in.ensures c.next_second-t.ensures c.pass_to-s.ensures
+    piece_ahead c.requires.long (one_acts c.loop-o.invariant c.loop-o-test.true) c.acting_second-t.ensures c.pass_to-s.ensures
 
-pub loop-u-preserved-in-Ignored : goal.loop-u-preserved-in-Ignored
-unfolding went_on
-loop-u-preserved-in-Ignored c =
-    let turn = c.loop-u.invariant in
-    let x = acts_now c.requires c.well_formed.1.1.0.1.0.1 turn c.place_in.ensures c.next_second-t.ensures c.pass_to-s.ensures
-    c.state_at-state.ensures c.if-n-at.false in
-    let room = fate_room c.requires c.well_formed.1.1.0.1.0.1 turn c.place_in.ensures c.if-n-at.false in
-    record {
-      within = omega (arith, c.if-n-at.false);
-      progress = rw c.went_to-g.ensures (progress_on x.progress room (sym (x.comes c.outcome_of-out.ensures) ∙ c.in-Ignored.is));
-    }
+pub loop-o-preserved : goal.loop-o-preserved
+unfolding went_on replaced_by
+loop-o-preserved c =
+    let x = acts_now c.requires.long (one_acts c.loop-o.invariant c.loop-o-test.true) c.acting_second-t.ensures c.pass_to-s.ensures
+    c.state_at-state.ensures in
+    let room : c.loop-o.w.acted < instruction_places = omega (arith, c.loop-o.invariant.acted, length-take c.args.n c.args.acts) in
+    elim c.match-outcome_of.branch [
+      | in-None w ↦ rw (w.w-is, w.g-is, w.sums-is, w.further-g.ensures, w.go_on.ensures) (record {
+        acted = omega (arith, c.loop-o.invariant.acted);
+        progress = progress_on x.progress room (x.comes c.outcome_of.ensures w.in-None.is);
+      })
+      | in-Some w ↦
+          rw (w.w-is, w.g-is, w.sums-is, w.replace.ensures) (record {
+            acted = omega (arith, c.loop-o.invariant.acted);
+            progress = progress_new x.progress room (x.comes c.outcome_of.ensures w.in-Some.is) x.cut
+                (x.begins w.in-Some.set w.begin_course-next.ensures) w.set_out-g-in-Some.ensures w.note_piece-total.ensures;
+          })
+    ]
 
-pub loop-u-preserved : goal.loop-u-preserved
-unfolding replaced_by
-loop-u-preserved c =
-    let turn = c.loop-u.invariant in
-    let x = acts_now c.requires c.well_formed.1.1.0.1.0.1 turn c.place_in.ensures c.next_second-t.ensures c.pass_to-s.ensures
-    c.state_at-state.ensures c.if-n-at.false in
-    let room = fate_room c.requires c.well_formed.1.1.0.1.0.1 turn c.place_in.ensures c.if-n-at.false in
-    record {
-      within = omega (arith, c.if-n-at.false);
-      progress = progress_new x.progress room (sym (x.comes c.outcome_of-out.ensures) ∙ c.in-Sets.is) x.cut
-          (x.begins c.in-Sets.set c.begin_course-next.ensures) c.set_out-g-in-Sets.ensures c.note_piece-total.ensures;
-    }
+pub note_piece-requires : goal.note_piece-requires
+note_piece-requires c = piece_ahead c.requires.long (none_left c.loop-o.invariant c.loop-o-test.false) refl c.pass_to-s-2.ensures
+
+pub returns : goal.returns
+returns c =
+    let f = none_left c.loop-o.invariant c.loop-o-test.false in
+    progress_end (gone_on c.requires.long f refl c.pass_to-s-2.ensures) c.requires.long
+    (cut_at c.requires.long f refl c.pass_to-s-2.ensures) c.note_piece.ensures (c.state_at.ensures ∙ state_there c.requires.long f refl c.pass_to-s-2.ensures)
+    c.end_day.ensures

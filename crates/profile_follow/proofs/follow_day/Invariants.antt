@@ -1,9 +1,7 @@
-use Rattle.std.proofs.Common.{◌-◌, take}
+use Rattle.std.proofs.Common.{◌*◌, take}
+use Rattle.level.specs.Numbers.{half_hour}
 use Rattle.profile_follow.proofs.Turn.{FollowTurn}
 use Rattle.profile_follow.proofs.follow_day.Given as goal
 
-abbrev pub invariant-loop-u : goal.invariant-loop-u
-invariant-loop-u l = FollowTurn l.n l.u l.end l.fn.first (take l.n l.acts) l.w l.g l.sums
-
-abbrev pub decreases-loop-u : goal.decreases-loop-u
-decreases-loop-u l = l.n - l.w.acted
+abbrev pub invariant-loop-o : goal.invariant-loop-o
+invariant-loop-o l = FollowTurn l.o-index l.u (half_hour * l.halves) l.fn.first (take l.n l.fn.acts) l.w l.g l.sums

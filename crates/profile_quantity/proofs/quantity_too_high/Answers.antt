@@ -1,29 +1,15 @@
-use Rattle.std.proofs.Common.{◌-◌, ap, sym, ◌∙◌, arith}
-use Rattle.profile_quantity.specs.Summing.{some_above}
-use Rattle.profile_quantity.proofs.Above.{above_here, above_next, above_none}
+use Rattle.std.proofs.Common.{ap, Iter, ℕ, ◌≡◌, ◌∙◌, arith, take, drop, rules, tests}
+use Rattle.std.proofs.lemmas.List.{take_all, length-drop}
+use Rattle.std.proofs.lemmas.Iterator.{YieldsList-from_slice, YieldsList-from_zip}
+use Rattle.std.proofs.lemmas.Iterator.Search.{any_from_yields_List}
+use Rattle.profile_quantity.proofs.Above.{above, above_all}
 use Rattle.profile_quantity.proofs.quantity_too_high.Goals as goal
 
-pub loop-i-init : goal.loop-i-init
-loop-i-init c = record {
-  within = omega arith;
-  same = ap (some_above c.args.u.maximum c.args.sums 0) {x = c.args.halves - 0} {y = c.args.halves} (omega arith);
-}
-
-pub loop-i-preserved-then-after-before : goal.loop-i-preserved-then-after-before
-loop-i-preserved-then-after-before c = record {
-  within = omega arith;
-  same = sym (above_next c.args.u.maximum c.args.sums c.args.halves c.loop-i.i (omega arith) (omega arith)) ∙ c.loop-i.invariant.same;
-}
-
-pub returns-then-limit-after : goal.returns-then-limit-after
-returns-then-limit-after c =
-    sym (above_here c.args.u.maximum c.args.sums c.args.halves c.loop-i.i (omega arith) (omega arith)) ∙ c.loop-i.invariant.same
-
-pub loop-i-preserved : goal.loop-i-preserved
-loop-i-preserved c = record {
-  within = omega arith;
-  same = sym (above_next c.args.u.maximum c.args.sums c.args.halves c.loop-i.i (omega arith) (omega arith)) ∙ c.loop-i.invariant.same;
-}
-
 pub returns : goal.returns
-returns c = sym (above_none c.args.u.maximum c.args.sums c.args.halves c.loop-i.i (omega arith)) ∙ c.loop-i.invariant.same
+returns c =
+    let next : c.zip.result.b.rest.now ≡ drop 1 c.args.sums =
+    c.zip.ensures.second.0 ∙ take_all 48 (drop 1 c.args.sums) (omega (arith, length-drop 1 c.args.sums, c.well_formed)) in
+    let here : c.zip.result.a.rest.now ≡ take c.args.halves c.args.sums = ap (λ (i : Iter ℕ). i.rest.now) c.zip.ensures.first ∙ c.iter.ensures.rest in
+    any_from_yields_List (above c.args.u.maximum) c.any.new.self _ c.any.result c.any.ensures.ran
+    (YieldsList-from_zip (YieldsList-from_slice _ here) (YieldsList-from_slice _ next)) (λ x b q k. (search rules, search (rules, tests)))
+    ∙ above_all c.args.u.maximum c.args.sums c.args.halves (omega (arith, c.well_formed))
