@@ -1,31 +1,23 @@
--- How many digits a number between two powers of ten has.
-use Rattle.std.proofs.Common.{ℕ, ◌≤◌, ◌<◌, arith}
+-- The digits of a number are those that the library writes, and how many there are by its logarithm.
+use Rattle.std.proofs.Common.{ℕ, ◌*◌, ◌+◌, ◌%◌, ◌^◌, ◌≤◌, ◌<◌, ◌≡◌, [], ◌∷◌, ◌++◌, length, ap, sym, ◌∙◌, add_comm, arith}
+use Rattle.std.specs.Fmt.{decimal as printed}
+use Rattle.std.proofs.lemmas.Fmt.{decimal_by_steps}
 use Rattle.lines.specs.Text.{decimal}
 use Rattle.lines.specs.Writing.{Measured}
-use Rattle.lines.proofs.Decimals.{low_length, width_between}
+use Rattle.lines.proofs.Decimals.{low_length, decimal_low, decimal_high, width_between, word_width}
 
-pub of_two : (v : ℕ) → 10 ≤ v → v < 100 → Measured (decimal v) 20 2
-of_two v l h = record { count_is = width_between 1 v l h; few = omega arith }
+-- what the library prints
+pub as_printed : (v : ℕ) → v < 2 ^ 64 → printed v ≡ decimal v
+as_printed v h =
+    decimal_by_steps (λ n ds. ds ≡ decimal n) (λ n l. ap (λ (d : ℕ). d ∷ []) (omega arith) ∙ sym (decimal_low n l))
+    (λ n ds l e. (λ i. e i ++ (add_comm 48 (n % 10) i ∷ [])) ∙ sym (decimal_high n l)) v h
 
-pub of_three : (v : ℕ) → 100 ≤ v → v < 1000 → Measured (decimal v) 20 3
-of_three v l h = record { count_is = width_between 2 v l h; few = omega arith }
+pub of_log : (v k : ℕ) → v < 2 ^ 64 → 10 ^ k ≤ v → v < 10 * 10 ^ k → Measured (decimal v) 20 (k + 1)
+of_log v k b l h =
+    let is : k + 1 ≡ length (decimal v) = width_between k v l h in
+    record { count_is = is; few = omega (arith, is, word_width v b) }
 
-pub of_four : (v : ℕ) → 1000 ≤ v → v < 10000 → Measured (decimal v) 20 4
-of_four v l h = record { count_is = width_between 3 v l h; few = omega arith }
+pub of_nought : (v : ℕ) → v ≡ 0 → Measured (decimal v) 20 1
+of_nought v z = record { count_is = omega (arith, low_length v (omega arith)); few = omega arith }
 
-pub of_five : (v : ℕ) → 10000 ≤ v → v < 100000 → Measured (decimal v) 20 5
-of_five v l h = record { count_is = width_between 4 v l h; few = omega arith }
-
-pub of_six : (v : ℕ) → 100000 ≤ v → v < 1000000 → Measured (decimal v) 20 6
-of_six v l h = record { count_is = width_between 5 v l h; few = omega arith }
-
-pub of_seven : (v : ℕ) → 1000000 ≤ v → v < 10000000 → Measured (decimal v) 20 7
-of_seven v l h = record { count_is = width_between 6 v l h; few = omega arith }
-
-pub of_eight : (v : ℕ) → 10000000 ≤ v → v < 100000000 → Measured (decimal v) 20 8
-of_eight v l h = record { count_is = width_between 7 v l h; few = omega arith }
-
-pub of_nine : (v : ℕ) → 100000000 ≤ v → v < 1000000000 → Measured (decimal v) 20 9
-of_nine v l h = record { count_is = width_between 8 v l h; few = omega arith }
-
-pub ruleset widths = (low_length, of_two, of_three, of_four, of_five, of_six, of_seven, of_eight, of_nine)
+pub ruleset widths = (of_log, of_nought)

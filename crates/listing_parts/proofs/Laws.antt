@@ -2,29 +2,25 @@
 use Prim.Native.Nat.{ℕ, zero, suc, ◌+◌, ◌-◌, min, ◌≤◌, ◌<◌}
 use mathlib.Core.Path.{◌≡◌, refl, sym, ap, ◌∙◌}
 use mathlib.Core.List.{List, [], ◌∷◌, ◌++◌, append_assoc, append-nil}
-use mathlib.Core.Bool.{Bool}
-use native.Mathlib.Decide.{dec_le}
 use native.Mathlib.Omega.{arith}
 use native.Mathlib.Numerals.{add-one}
-use lib.ListN.{length, get_or, take, drop, length-take, drop_of_length-le}
-use lib.Seq.{drop-cons, get_or-take}
-use lib.Dec.{ltb, eqb}
-use borrow.Author.Tests.{lt-ltb, le-ltb, eq-eqb, ne_eqb}
-use Rattle.std.proofs.Common.{Option, Some, None, is_some, slice_get, unwrap_or, take_all, true≢false, length-drop}
+use lib.ListN.{length, get_or, take, drop, drop_of_length-le}
+use lib.Seq.{drop-cons}
+use lib.Dec.{eqb}
+use borrow.Author.Tests.{eq-eqb, ne_eqb}
+use Rattle.std.proofs.Common.{Option, Some, None, is_some, slice_get, unwrap_or, true≢false, length-drop}
+use Rattle.std.proofs.lemmas.List.{take_min}
 use Rattle.std.proofs.lemmas.Option.{slice_get_within}
 use Rattle.std.proofs.Math.Seq.{take-length}
-use Rattle.level.specs.Choice.{pick}
-use Rattle.level.specs.Level.{grains}
 use Rattle.level.specs.Lists.{list_from}
-use Rattle.level.specs.Numbers.{instruction_places, course_places}
+use Rattle.level.specs.Numbers.{course_places}
 use Rattle.level.proofs.Lists.{by_bool}
-use Rattle.records.specs.declared.Ramp.{Ramp}
 use Rattle.records.specs.declared.UnitData.{UnitData}
 use Rattle.course.specs.declared.Course.{Course}
 use Rattle.course.specs.declared.Piece.{Piece}
-use Rattle.course.specs.Lists.{Lists, place_of}
+use Rattle.course.specs.Lists.{Lists}
 use Rattle.course.specs.declared.Heading.{Heading}
-use Rattle.course.specs.Course.{trajectory_of, no_course}
+use Rattle.course.specs.Course.{trajectory_of}
 use Rattle.course.specs.Pieces.{pieces_in}
 use Rattle.course.specs.Headings.{Short}
 use Rattle.profile.specs.Profile.{begin_of, spans_of, day_pieces, rounded}
@@ -45,35 +41,23 @@ use Rattle.lines.proofs.Laying.{Next}
 use Rattle.listing.specs.Listing.{f_lines, s_lines, run_lines, q_lines}
 use Rattle.listing_parts.specs.Rest.{piece_line, lines_left, course_lines, courses_lines, runs_from, run_end, RunEnds}
 
--- what is left of the first n from the place i on: the next element, or nothing
-module _ {A : Type 0} (xs : List A) (n i : ℕ) where
-  left_first : (d : A) → i < min n (length xs) → drop i (take n xs) ≡ get_or xs i d ∷ drop (i + 1) (take n xs)
-  left_first d h =
-      let l : i < length (take n xs) = omega (arith, length-take n xs) in
-      let k : i < n = omega arith in
-      rw (add-one, drop-cons (take n xs) i d l, get_or-take n xs i d k)
-
-  left_over : min n (length xs) ≤ i → drop i (take n xs) ≡ []
-  left_over h = drop_of_length-le (take n xs) {i = i} (omega (arith, length-take n xs))
-
 -- ---- F lines
 
--- those of the fates from the place i on, of the first n
-abbrev pub fates_left : List ℕ → ℕ → ℕ → List ℕ
-fates_left fs n i = f_lines (i + 1) (drop i (take n fs))
-
-module _ (fs : List ℕ) (n i : ℕ) where
-  pub fates_more : i < min n (length fs) → Next (fates_left fs n i) (f_line (i + 1) (get_or fs i 0)) (fates_left fs n (i + 1))
+-- the fate at the place i, which is of the instruction i + 1, comes next
+module _ (fs : List ℕ) (i : ℕ) where
+  pub fates_next : i < length fs → Next (f_lines (i + 1) (drop i fs)) (f_line (i + 1) (get_or fs i 0)) (f_lines (i + 1 + 1) (drop (i + 1) fs))
   unfolding f_lines
-  fates_more h = record {
-    parts =
-        ap (f_lines (i + 1)) (left_first fs n i 0 h)
-        ∙ ap (λ (k : ℕ). f_line (i + 1) (get_or fs i 0) ++ f_lines k (drop (i + 1) (take n fs))) {x = suc (i + 1)} {y = i + 1 + 1} (omega arith);
-  }
+  fates_next h =
+      let left : drop i fs ≡ get_or fs i 0 ∷ drop (i + 1) fs = rw add-one (drop-cons fs i 0 h) in
+      record {
+        parts =
+            ap (f_lines (i + 1)) left
+            ∙ ap (λ (k : ℕ). f_line (i + 1) (get_or fs i 0) ++ f_lines k (drop (i + 1) fs)) {x = suc (i + 1)} {y = i + 1 + 1} (omega arith);
+      }
 
-  pub fates_none : min n (length fs) ≤ i → fates_left fs n i ≡ []
+  pub fates_none : length fs ≤ i → f_lines (i + 1) (drop i fs) ≡ []
   unfolding f_lines
-  fates_none h = ap (f_lines (i + 1)) (left_over fs n i h)
+  fates_none h = ap (f_lines (i + 1)) (drop_of_length-le fs {i = i} h)
 
 -- ---- S lines of a course
 
@@ -189,10 +173,7 @@ module _ (u : UnitData) (end : ℕ) (cs : List Course) where
 
 -- the first `started` of an array of courses, as many as there are
 pub take_few : (cs : List Course) (n started : ℕ) → length cs ≡ course_places → n ≡ min started course_places → take n cs ≡ take started cs
-take_few cs n started all e = elim (dec_le started course_places) [
-  | yes le ↦ ap (λ (k : ℕ). take k cs) (omega arith)
-  | no more ↦ ap (λ (k : ℕ). take k cs) {x = n} {y = length cs} (omega arith) ∙ take-length cs ∙ sym (take_all started cs (omega arith))
-]
+take_few cs n started all e = ap (λ (k : ℕ). take k cs) (omega arith) ∙ take_min started cs
 
 -- ---- Q lines
 

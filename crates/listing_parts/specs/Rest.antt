@@ -1,7 +1,6 @@
 -- Working. The lines of a day, kind by kind, and what is left of each kind to print.
-use Rattle.std.specs.Prelude.{ℕ, zero, suc, ◌-◌, ◌≤◌, ◌≡◌, Bool, List, [], eqb, take}
+use Rattle.std.specs.Prelude.{ℕ, zero, suc, ◌-◌, ◌≤◌, ◌≡◌, List, [], eqb, take}
 use Rattle.level.specs.Choice.{pick}
-use Rattle.level.specs.Level.{grains}
 use Rattle.level.specs.Lists.{list_from}
 use Rattle.level.specs.Numbers.{most_half_hours}
 use Rattle.records.specs.declared.UnitData.{UnitData}

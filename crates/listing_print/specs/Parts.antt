@@ -1,5 +1,6 @@
 -- Working. The parts of a listing.
-use Rattle.std.specs.Prelude.{ℕ, List, take}
+use Rattle.std.specs.Prelude.{ℕ, ◌+◌, ◌*◌, List, take}
+use Rattle.level.specs.Numbers.{most_half_hours, instruction_places, course_places}
 use Rattle.day.specs.declared.Day.{Day}
 use Rattle.day.specs.Day.{half_hours, day_seconds, closing_in}
 use Rattle.listing_parts.specs.Rest.{fate_lines, courses_lines, quantity_lines, closing_line}
@@ -16,3 +17,19 @@ lines_q d = quantity_lines half_hours d.found.sums
 
 abbrev pub line_e : Day → List ℕ
 line_e d = closing_line (closing_in d)
+
+-- more bytes than they ever have: 44 an F line, 86 an S line of each second of each course, 65 a Q line, 86 the E line
+abbrev pub most_f : ℕ
+most_f = 44 * instruction_places
+
+abbrev pub most_s : ℕ
+most_s = 369367187370 * course_places
+
+abbrev pub most_q : ℕ
+most_q = 65 * most_half_hours
+
+abbrev pub most_e : ℕ
+most_e = 86
+
+abbrev pub most_bytes : ℕ
+most_bytes = most_f + (most_s + (most_q + most_e))

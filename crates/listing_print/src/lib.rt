@@ -4,45 +4,50 @@
 ghost use Rattle.std.specs.Prelude.{◌≡◌, true, ◌+◌, ◌-◌, ◌<◌, ◌≤◌, length};
 ghost use Rattle.lines.specs.Writing.{Written};
 ghost use Rattle.listing.specs.Listing.{printed_day, list_of, lent_after};
+ghost use Rattle.listing_print.specs.Parts.{most_bytes};
 
 use day::Day;
+use lines_kinds::{Measure, Sink, Writer};
 use records::Refusal;
 
-// ---- the whole listing, each part after the parts already written
+// ---- the whole listing, each part after the parts already put
+
+// The lines of a day: F, S, Q, E.
+fn put_lines<S: Sink>(sink: &mut S, day: &Day)
+    requires { S.has_room sink.old (printed_day day.now) most_bytes }
+    ensures { S.takes sink.old (printed_day day.now) most_bytes sink.new }
+{
+    let found = &day.found;
+    listing_parts::put_fates(sink, &found.fates, day.taken.count);
+    let unit = day.taken.unit;
+    listing_parts::put_courses(
+        sink,
+        unit,
+        &found.courses,
+        found.started,
+        level::MOST_SECONDS,
+    );
+    listing_parts::put_quantities(sink, &found.sums, level::MOST_HALF_HOURS);
+    listing_parts::put_closing(sink, listing_parts::closing_of(found.last, found.end));
+}
 
 // The width of the listing of a day.
 pub fn day_width(day: &Day) -> usize
     ensures { result ≡ length (printed_day day.now) }
 {
-    let closing = listing_parts::closing_of(day.found.last, day.found.end);
-    listing_parts::fates_width(day.found.fates, day.taken.count)
-        + listing_parts::courses_width(
-            day.taken.unit,
-            day.found.courses,
-            day.found.started,
-            level::MOST_SECONDS,
-        )
-        + listing_parts::quantities_width(&day.found.sums, level::MOST_HALF_HOURS)
-        + listing_parts::closing_width(closing)
+    let mut measure = Measure::default();
+    put_lines(&mut measure, day);
+    measure.width
 }
 
-// The whole listing where there is room for it: the F lines, then S, Q and E lines, each after the lines already written.
+// The whole listing where there is room for it.
 fn put_day(out: &mut [u8], day: &Day) -> usize
     requires { length (printed_day day.now) ≤ length out.old }
     ensures { Written (printed_day day.now) result out.old out.new }
 {
-    let mut at = listing_parts::put_fates(out, day.found.fates, day.taken.count);
-    at += listing_parts::put_courses(
-        &mut out[at..],
-        day.taken.unit,
-        day.found.courses,
-        day.found.started,
-        level::MOST_SECONDS,
-    );
-    at += listing_parts::put_quantities(&mut out[at..], &day.found.sums, level::MOST_HALF_HOURS);
-    let closing = listing_parts::closing_of(day.found.last, day.found.end);
-    at += listing_parts::put_closing(&mut out[at..], closing);
-    at
+    let mut writer = Writer { out, at: 0 };
+    put_lines(&mut writer, day);
+    writer.at
 }
 
 // ---- asking for it

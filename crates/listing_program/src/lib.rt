@@ -7,6 +7,7 @@ ghost use Rattle.lines.specs.Lines.{x_line};
 ghost use Rattle.lines.specs.Writing.{Written};
 ghost use Rattle.listing.specs.Program.{fitting, print_of, print_lent};
 
+use lines_kinds::{Measure, Writer};
 use listing::Printed;
 use records::Refusal;
 
@@ -15,10 +16,14 @@ fn put_refusal(out: &mut [u8], refusal: Refusal) -> usize
     ensures { Written (fitting (x_line (refusal_number refusal)) out.old) result out.old out.new }
 {
     let number = refusal.number() as u64;
-    if out.len() < lines_text::decimal_width(number) + 3 {
+    let mut measure = Measure::default();
+    lines_kinds::put_x(&mut measure, number);
+    if out.len() < measure.width {
         return 0;
     }
-    lines_kinds::put_x(out, number)
+    let mut writer = Writer { out, at: 0 };
+    lines_kinds::put_x(&mut writer, number);
+    writer.at
 }
 
 // What the listing program prints for the input, at the front of the lent slice: the listing, or the line of the first refusal.

@@ -1,12 +1,7 @@
-use Rattle.std.proofs.Common.{◌≤◌, refl, List, ℕ, length, set, arith, length-set, length-take, length-drop}
-use Rattle.lines.specs.Text.{decimal, field}
-use Rattle.lines.proofs.Laying.{Laying, lay_none, lay_byte, lay_more, lay_all, next_last}
+use Rattle.std.proofs.Common.{arith, length-set, length-take, length-drop}
+use Rattle.lines.specs.Text.{field}
+use Rattle.lines.proofs.Sinks.{filled_byte, filled_more, filled_tail, filled_front}
 use Rattle.lines_text.proofs.put_field.Goals as goal
-
--- the blank is laid
-blank : (out : List ℕ) (v : ℕ) → length (field v) ≤ length out → Laying (field v) (decimal v) out (set out 0 32) 1
-unfolding field
-blank out v h = lay_byte 32 (record { parts = refl }) (lay_none h)
 
 pub bounds-out-0 : goal.bounds-out-0
 unfolding field
@@ -25,6 +20,8 @@ unfolding field
 put_decimal-n-requires c = simp (length-take, length-drop, length-set) (omega arith)
 
 pub returns : goal.returns
+unfolding field
 returns c =
-    let w = lay_all refl (lay_more (next_last _) (blank c.args.out.now c.args.v c.requires) c.put_decimal-n.ensures) in
+    let blank = filled_byte c.args.out.now 0 32 (omega arith) in
+    let w = filled_front (filled_more blank (filled_tail (simp length-set (omega arith)) c.put_decimal-n.ensures)) in
     record { count_is = omega (arith, w.count_is); bytes = w.bytes }

@@ -1,43 +1,56 @@
-use Rattle.std.proofs.Common.{◌<◌, refl, List, ℕ, length, get_or, arith, rules, length-set}
+use Rattle.std.proofs.Common.{◌<◌, ◌≤◌, ◌+◌, refl, List, ℕ, length, get_or, arith, length-set, length-take, length-drop}
 use Rattle.lines.specs.Text.{field, line}
-use Rattle.lines.proofs.Laying.{Laying, Room, lay_letter, over_letter, lay_byte, lay_next, lay_more, lay_all, room_tail, line_left, number_next, feed_next}
+use Rattle.lines.proofs.Laying.{line_left, number_next, feed_next}
+use Rattle.lines.proofs.Sinks.{Putting, slice, fits, fills, filling, put_none, put_next, put_more, put_all, filled_byte, filled_tail, filled_front}
 use Rattle.lines_text.proofs.put_line.Goals as goal
 
--- the next number has room
-room : (vs : List ℕ) (letter i at : ℕ) (o out : List ℕ) → i < length vs →
-    Laying (line letter vs) (line_left vs i) o out at → Room (field (get_or vs i 0)) o out at
-room vs letter i at o out h l = lay_next (number_next vs i h) l
+-- what comes next of a line has room from the byte `at` on
+number_room : (vs : List ℕ) (letter i at : ℕ) (o out : List ℕ) → i < length vs →
+    Putting fits fills (slice o 0) (line letter vs) (line_left vs i) 0 0 (slice out at) → at + length (field (get_or vs i 0)) ≤ length out
+number_room vs letter i at o out h p = put_next filling {j = 0} (number_next vs i h) p (omega arith)
+
+feed_room : (vs : List ℕ) (letter i at : ℕ) (o out : List ℕ) → length vs ≤ i →
+    Putting fits fills (slice o 0) (line letter vs) (line_left vs i) 0 0 (slice out at) → at < length out
+feed_room vs letter i at o out h p =
+    let r : at + 1 ≤ length out = put_next filling {j = 0} (feed_next vs i h) p (omega arith) in
+    omega arith
 
 pub bounds-out-0 : goal.bounds-out-0
 unfolding line
 bounds-out-0 c = omega arith
 
-pub loop-i-init : goal.loop-i-init
+pub loop-v-init : goal.loop-v-init
 unfolding line
-loop-i-init c = record { within = search rules; lines = lay_letter c.args.out.now c.args.letter c.requires }
+loop-v-init c =
+    let o = c.args.out.now in
+    record {
+      within = omega arith;
+      lines = put_more filling {j = 0} {l = 0} (record { parts = refl }) (put_none filling (omega arith) (omega arith)) (omega arith) (filled_byte o 0 c.args.letter (omega arith));
+    }
 
 pub slice_bounds-put_field-count : goal.slice_bounds-put_field-count
-slice_bounds-put_field-count c = omega (arith, room _ _ _ _ _ _ c.loop-i-test.true c.loop-i.invariant.lines)
+slice_bounds-put_field-count c = omega (arith, number_room _ _ _ _ _ _ c.loop-v-test.true c.loop-v.invariant.lines)
 
 pub slice_bounds-put_field-start : goal.slice_bounds-put_field-start
-slice_bounds-put_field-start c = omega (arith, room _ _ _ _ _ _ c.loop-i-test.true c.loop-i.invariant.lines)
+slice_bounds-put_field-start c = omega (arith, number_room _ _ _ _ _ _ c.loop-v-test.true c.loop-v.invariant.lines)
 
-pub put_field-w-requires : goal.put_field-w-requires
-put_field-w-requires c = room_tail (room _ _ _ _ _ _ c.loop-i-test.true c.loop-i.invariant.lines)
+pub put_field-at-requires : goal.put_field-at-requires
+put_field-at-requires c = simp (length-take, length-drop) (omega (arith, number_room _ _ _ _ _ _ c.loop-v-test.true c.loop-v.invariant.lines))
 
-pub loop-i-preserved : goal.loop-i-preserved
-loop-i-preserved c = record {
-  within = omega arith;
-  lines = lay_more (number_next c.args.vs.now c.loop-i.i c.loop-i-test.true) c.loop-i.invariant.lines c.put_field-w.ensures;
-}
+pub loop-v-preserved : goal.loop-v-preserved
+loop-v-preserved c =
+    let p = c.loop-v.invariant.lines in
+    let number = filled_tail (number_room _ _ _ _ _ _ c.loop-v-test.true p) c.put_field-at.ensures in
+    record { within = omega arith; lines = put_more filling {j = 0} (number_next c.args.vs.now c.loop-v.v-index c.loop-v-test.true) p (omega arith) number }
 
 pub bounds-out-at : goal.bounds-out-at
-bounds-out-at c = omega (arith, lay_next (feed_next c.args.vs.now c.loop-i.i (omega arith)) c.loop-i.invariant.lines)
+bounds-out-at c = feed_room c.args.vs.now c.args.letter c.loop-v.v-index _ _ _ (omega arith) c.loop-v.invariant.lines
 
 pub overflow_add-result : goal.overflow_add-result
-overflow_add-result c = omega (arith, length-set {A = ℕ}, lay_next (feed_next c.args.vs.now c.loop-i.i (omega arith)) c.loop-i.invariant.lines)
+overflow_add-result c = omega (arith, length-set {A = ℕ}, feed_room c.args.vs.now c.args.letter c.loop-v.v-index _ _ _ (omega arith) c.loop-v.invariant.lines)
 
 pub returns : goal.returns
-unfolding line
 returns c =
-    over_letter c.args.out.now c.args.letter (lay_all refl (lay_byte 10 (feed_next c.args.vs.now c.loop-i.i (omega arith)) c.loop-i.invariant.lines))
+    let p = c.loop-v.invariant.lines in
+    let feed = filled_byte c.loop-v.out c.loop-v.at 10 (feed_room c.args.vs.now c.args.letter c.loop-v.v-index _ _ _ (omega arith) p) in
+    filled_front (put_all filling refl (put_more filling {j = 0} {k = 0} (feed_next c.args.vs.now c.loop-v.v-index (omega arith)) p (omega arith) feed))

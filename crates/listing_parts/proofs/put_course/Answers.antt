@@ -1,30 +1,36 @@
 use Rattle.std.proofs.Common.{arith}
 use Rattle.course_walk.specs.Walk.{beginning, reached_at}
-use Rattle.lines.proofs.Laying.{lay_none, lay_next, lay_more, lay_all, room_tail}
+use Rattle.lines.proofs.Sinks.{put_none, put_next, put_more, put_all}
 use Rattle.listing_parts.proofs.Laws.{along_begins, piece_on, pieces_none}
 use Rattle.listing_parts.proofs.put_course.Goals as goal
 
 pub loop-from-init : goal.loop-from-init
 unfolding beginning reached_at
-loop-from-init c =
+loop-from-init g c =
     rw c.begin_at-from.ensures
-    (record { along = along_begins c.args.r.now c.requires.short; lines = lay_none c.requires.begin_in_bounds })
+    (record {
+      along = along_begins c.args.r.now c.requires.short;
+      lines = put_none g.met.S.Sink.laws (omega arith) c.requires.room;
+    })
 
-pub put_piece-at-requires : goal.put_piece-at-requires
-put_piece-at-requires c =
-    let g = piece_on c.args.r.now c.args.n c.loop-from-test.true c.loop-from.invariant.along c.walk_on-to.ensures.onward c.walk_on-to.ensures.known in
-    room_tail (lay_next g.line c.loop-from.invariant.lines)
+pub put_piece-requires : goal.put_piece-requires
+put_piece-requires g c =
+    let p = piece_on c.args.r.now c.args.n c.loop-from-test.true c.loop-from.invariant.along c.walk_on-to.ensures.onward c.walk_on-to.ensures.known in
+    put_next g.met.S.Sink.laws p.line c.loop-from.invariant.lines (omega (arith, p.later, p.within))
 
 pub loop-from-smaller : goal.loop-from-smaller
-loop-from-smaller c =
-    let g = piece_on c.args.r.now c.args.n c.loop-from-test.true c.loop-from.invariant.along c.walk_on-to.ensures.onward c.walk_on-to.ensures.known in
+loop-from-smaller g c =
+    let p = piece_on c.args.r.now c.args.n c.loop-from-test.true c.loop-from.invariant.along c.walk_on-to.ensures.onward c.walk_on-to.ensures.known in
     omega arith
 
 pub loop-from-preserved : goal.loop-from-preserved
-loop-from-preserved c =
-    let inv = c.loop-from.invariant in
-    let g = piece_on c.args.r.now c.args.n c.loop-from-test.true inv.along c.walk_on-to.ensures.onward c.walk_on-to.ensures.known in
-    record { along = g.along; lines = lay_more g.line inv.lines c.put_piece-at.ensures }
+loop-from-preserved g c =
+    let p = piece_on c.args.r.now c.args.n c.loop-from-test.true c.loop-from.invariant.along c.walk_on-to.ensures.onward c.walk_on-to.ensures.known in
+    record {
+      along = p.along;
+      lines = put_more g.met.S.Sink.laws p.line c.loop-from.invariant.lines (omega (arith, p.later, p.within)) c.put_piece.ensures;
+    }
 
 pub returns : goal.returns
-returns c = lay_all (pieces_none c.args.r.now c.args.n c.loop-from.from.place (omega arith)) c.loop-from.invariant.lines
+returns g c =
+    put_all g.met.S.Sink.laws (pieces_none c.args.r.now c.args.n c.loop-from.from.place (omega arith)) c.loop-from.invariant.lines

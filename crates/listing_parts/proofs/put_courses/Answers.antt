@@ -1,28 +1,29 @@
-use Rattle.std.proofs.Common.{List, length, ◌≤◌, sym, subst, arith}
-use Rattle.course.specs.declared.Course.{Course}
-use Rattle.lines.specs.Writing.{Written}
-use Rattle.lines.proofs.Laying.{lay_none, lay_next, lay_more, lay_all, room_tail}
-use Rattle.listing_parts.specs.Rest.{courses_lines}
+use Rattle.std.proofs.Common.{arith, length-take}
+use Rattle.lines.proofs.Sinks.{put_none, put_next, put_more, put_all}
 use Rattle.listing_parts.proofs.Laws.{take_few, courses_none, course_next}
 use Rattle.listing_parts.proofs.put_courses.Goals as goal
 
 pub loop-i-init : goal.loop-i-init
-loop-i-init c =
-    let cs = take_few c.args.cs c.min.result c.args.started (omega arith) c.min.ensures in
-    lay_none (subst (λ (cs : List Course). length (courses_lines c.args.u c.args.end cs) ≤ length c.args.out.now) (sym cs) c.requires)
+loop-i-init g c =
+    let cs = take_few c.args.cs.now c.min.result c.args.started (omega arith) c.min.ensures in
+    record { within = omega arith; lines = rw cs (put_none g.met.S.Sink.laws (omega arith) c.requires) }
 
-pub put_course-at-requires : goal.put_course-at-requires
-put_course-at-requires c =
-    let g = course_next c.args.u c.args.end _ _ c.loop-i-test.true c.new-route.ensures c.end_of.ensures in
-    record { short = g.short; begin_in_bounds = room_tail (lay_next g.lines c.loop-i.invariant) }
+pub put_course-requires : goal.put_course-requires
+put_course-requires g c =
+    let next = course_next c.args.u c.args.end _ _ c.loop-i-test.true c.new-route.ensures c.end_of.ensures in
+    record {
+      short = next.short;
+      room = put_next g.met.S.Sink.laws next.lines c.loop-i.invariant.lines (omega (arith, length-take c.min.result c.args.cs.now));
+    }
 
 pub loop-i-preserved : goal.loop-i-preserved
-loop-i-preserved c =
-    let g = course_next c.args.u c.args.end _ _ c.loop-i-test.true c.new-route.ensures c.end_of.ensures in
-    lay_more g.lines c.loop-i.invariant c.put_course-at.ensures
+loop-i-preserved g c =
+    let next = course_next c.args.u c.args.end _ _ c.loop-i-test.true c.new-route.ensures c.end_of.ensures in
+    record {
+      within = omega arith;
+      lines =
+          put_more g.met.S.Sink.laws next.lines c.loop-i.invariant.lines (omega (arith, length-take c.min.result c.args.cs.now)) c.put_course.ensures;
+    }
 
 pub returns : goal.returns
-returns c =
-    let cs = take_few c.args.cs c.min.result c.args.started (omega arith) c.min.ensures in
-    subst (λ (cs : List Course). Written (courses_lines c.args.u c.args.end cs) c.loop-i.at c.args.out.now c.loop-i.out) cs
-    (lay_all (courses_none c.args.u c.args.end _ c.loop-i.i (omega arith)) c.loop-i.invariant)
+returns g c = put_all g.met.S.Sink.laws (courses_none c.args.u c.args.end _ c.loop-i.i (omega arith)) c.loop-i.invariant.lines

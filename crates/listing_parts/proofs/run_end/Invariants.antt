@@ -11,6 +11,3 @@ pub record Progress (sums : List ℕ) (kw from end i : ℕ) : Type 0 where
 
 abbrev pub invariant-loop-i : goal.invariant-loop-i
 invariant-loop-i l = Progress l.sums l.kw l.from l.end l.i
-
-abbrev pub decreases-loop-i : goal.decreases-loop-i
-decreases-loop-i l = l.end - l.i
