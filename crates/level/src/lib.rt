@@ -1,7 +1,7 @@
 // Levels in grains.
 #![tactic(auto)]
 
-ghost use Rattle.std.specs.Prelude.{◌≡◌, min, max};
+ghost use Rattle.std.specs.Prelude.{◌≡◌};
 ghost use Rattle.level.specs.Level.{from_kw};
 
 mod few;
@@ -45,43 +45,4 @@ impl Level {
             grains: Level::GRAINS_IN_A_KW * wide,
         }
     }
-}
-
-// The smaller of two figures.
-pub fn smaller(a: u32, b: u32) -> u32
-    ensures { result ≡ min a b }
-{
-    if a <= b {
-        return a;
-    }
-    b
-}
-
-// The smaller of two numbers of 64 bits; of two counts of places.
-pub fn smaller_long(x: u64, y: u64) -> u64
-    ensures { result ≡ min x y }
-{
-    if x <= y {
-        return x;
-    }
-    y
-}
-
-pub fn smaller_count(m: usize, n: usize) -> usize
-    ensures { result ≡ min m n }
-{
-    if m <= n {
-        return m;
-    }
-    n
-}
-
-// The larger of two figures.
-pub fn larger(a: u32, b: u32) -> u32
-    ensures { result ≡ max a b }
-{
-    if a <= b {
-        return b;
-    }
-    a
 }
