@@ -1,8 +1,7 @@
 -- The first refusal of several conditions: what an acceptance says of each of them.
-use mathlib.Core.Path.{◌≡◌, refl, ap, sym, ◌∙◌}
+use mathlib.Core.Path.{◌≡◌, refl, ap, sym}
 use mathlib.Core.List.{List, [], ◌∷◌}
 use mathlib.Core.Bool.{Bool, true, false, not, true≢false}
-use borrow.Author.Tests.{not-true, not-false}
 use Rattle.level.specs.Lists.{All}
 use Rattle.std.specs.Prelude.{Ok, Err}
 use Rattle.records.specs.declared.Refusal.{Refusal}
@@ -43,15 +42,6 @@ module _ {A : Type 0} (x : A) where
   accepted_same (Ok _) = refl
   accepted_same (Err r) = refl
 
--- ---- by the answer, and by what its test says
-pub is_refused : (a : Answer) (ok : Bool) → ok ≡ accepted a → not ok ≡ true → accepted a ≡ false
-is_refused a ok e t = sym e ∙ not-true ok t
-
-pub is_taken : (a : Answer) (ok : Bool) → ok ≡ accepted a → not ok ≡ false → accepted a ≡ true
-is_taken a ok e t = sym e ∙ not-false ok t
-
+-- ---- a step, by its answer
 pub settle_refused : (a : Answer) (d : Day) (x : Stepped) → accepted a ≡ false → record { answer = a; day = d; used = 0 } ≡ settle a d x
 settle_refused a d x e = rw e
-
-pub settle_taken : (a : Answer) (d : Day) (x : Stepped) → accepted a ≡ true → x ≡ settle a d x
-settle_taken a d x e = rw e

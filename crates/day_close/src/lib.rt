@@ -27,18 +27,14 @@ fn lay_fate(s: Fates, number: u32, fate: u8) -> Fates
     requires { s.count ≤ instruction_places }
     ensures { result ≡ overlaid s number fate }
 {
+    let mut next = s;
     if number == 0 {
-        return s;
+        return next;
     }
     let at = (number - 1) as usize;
-    if s.count <= at {
-        return s;
+    if at < s.count && s.fates[at] != 1 {
+        next.fates[at] = fate;
     }
-    if s.fates[at] == 1 {
-        return s;
-    }
-    let mut next = s;
-    next.fates[at] = fate;
     next
 }
 
@@ -53,12 +49,8 @@ fn lay_fates(
     ensures { result ≡ overlaid_all s (marks_from acts own 0 n) }
 {
     let mut out = s;
-    let mut i = n;
-    while 0 < i {
-        let o = acts[i - 1];
-        let fate = own[i - 1];
-        out = lay_fate(out, o.number, fate);
-        i -= 1;
+    for i in (0..n).rev() {
+        out = lay_fate(out, acts[i].number, own[i]);
     }
     out
 }

@@ -49,7 +49,7 @@ pub fn start_of(o: Opening) -> Start
     }
 }
 
-// Nothing let in.
+// Nothing let in. By hand, since an instruction has no `Default` (`records_bytes::no_instruction`).
 #[tactic(auto, unfolding(profile::specs::Taken::no_taken))]
 pub fn no_taken() -> Taken
     ensures { result ≡ no_taken }
@@ -64,7 +64,7 @@ pub fn no_taken() -> Taken
     }
 }
 
-// Nothing found.
+// Nothing found. By hand, since a course has no `Default` (`course_rates::no_course`).
 #[tactic(auto, unfolding(profile::specs::Finding::no_finding))]
 fn no_finding() -> Finding
     ensures { result ≡ no_finding }

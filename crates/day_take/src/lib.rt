@@ -3,7 +3,7 @@
 
 ghost use Rattle.std.specs.Prelude.{◌≡◌, drop};
 ghost use Rattle.day.specs.Step.{step_of};
-ghost use Rattle.day_take.specs.Rest.{rest_after, counted_by};
+ghost use Rattle.day_take.specs.Rest.{rest_after};
 
 use day::{Day, Stepped};
 
@@ -30,41 +30,21 @@ pub fn rest_after<'a>(s: Stepped, input: &'a [u8]) -> &'a [u8]
 pub fn take<'a>(day: Day, input: &'a [u8]) -> TakenRest<'a>
     ensures { (result.stepped ≡ step_of day input.now) × (result.rest.now ≡ drop (step_of day input.now).used input.now) }
 {
-    let s = day_step::step(day, input);
-    let rest = rest_after(s, input);
-    TakenRest { stepped: s, rest }
+    let stepped = day_step::step(day, input);
+    let rest = rest_after(stepped, input);
+    TakenRest { stepped, rest }
 }
 
-// The step, with the bytes used as the rest shows them: so many as the input has more.
-fn counted<'a>(s: Stepped, rest: &'a [u8], input: &'a [u8]) -> Stepped
-    ensures { result ≡ counted_by s rest.now input.now }
-{
-    let answer = s.answer;
-    let day = s.day;
-    let left = rest.len();
-    let all = input.len();
-    if all < left {
-        return Stepped {
-            answer,
-            day,
-            used: 0,
-        };
-    }
-    let used = all - left;
-    Stepped { answer, day, used }
-}
-
-// What was taken of the input, without the rest of it.
-fn apart<'a>(t: TakenRest<'a>, input: &'a [u8]) -> Stepped
-    ensures { result ≡ counted_by t.entry.stepped t.entry.rest.now input.now }
-{
-    counted(t.stepped, t.rest, input)
-}
-
-// `take` for a caller that cuts its slice itself: plain parameters, and what is handed back holds no reference.
+// `take` for a caller that cuts its slice itself: plain parameters, and what is handed back holds no reference. The bytes used are
+// as the rest shows them: so many as the input has more.
 #[tactic(auto, using(crate::proofs::Laws::counted_is))]
 pub fn take_front(day: Day, input: &[u8]) -> Stepped
     ensures { result ≡ step_of day input.now }
 {
-    apart(take(day, input), input)
+    let taken = take(day, input);
+    Stepped {
+        answer: taken.stepped.answer,
+        day: taken.stepped.day,
+        used: input.len().saturating_sub(taken.rest.len()),
+    }
 }

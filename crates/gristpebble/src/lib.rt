@@ -9,7 +9,8 @@ use records::Refusal;
 
 // The records of `input` up to close are taken, and the listing of the day is written to the front of `out`. The result is the
 // count of bytes written, or the first refusal; then `out` is as it was. Where the slice suffices for any day that records
-// make, the listing is not measured first.
+// make, the listing is not measured first. The loop is a `while`: each turn goes on by as many bytes as its record used, which no
+// iterator gives.
 pub fn listing(input: &[u8], out: &mut [u8]) -> Result<usize, Refusal>
     ensures { (result ≡ listed input.now out.old) × (out.new ≡ listed_lent input.now out.old) }
 {

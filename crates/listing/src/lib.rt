@@ -2,7 +2,7 @@
 #![tactic(auto)]
 
 // What printing for an input gives: how many bytes of the lent slice were written, and whether the input ends too early to be
-// answered.
+// answered. Not an `Option`: a line is printed where it ends too early, too.
 #[derive(Clone, Copy)]
 pub struct Printed {
     pub count: usize,

@@ -3,6 +3,3 @@ use Rattle.day_close.proofs.lay_fates.Given as goal
 
 abbrev pub invariant-loop-i : goal.invariant-loop-i
 invariant-loop-i l = LaidFrom l.n l.acts l.own l.fn.s l.out l.i
-
-abbrev pub decreases-loop-i : goal.decreases-loop-i
-decreases-loop-i l = l.i
