@@ -7,10 +7,12 @@ use native.Mathlib.Numerals.{add-one}
 use native.Mathlib.Decide.{dec_le, ℕ_discrete}
 use native.Mathlib.Omega.{arith}
 use lib.Dec.{leb, ltb}
-use lib.ListN.{length, take, drop, get_or, set, length-append}
-use lib.Seq.{length-take-le, get_or-set_same, get_or-set_other}
+use lib.ListN.{length, take, drop, get_or, set, length-append, length-drop}
+use lib.Seq.{drop-drop, length-take-le, get_or-set_same, get_or-set_other}
 use borrow.Author.Tests.{le-leb, lt-leb, eq-eqb, ne_eqb}
-use Rattle.std.proofs.lemmas.List.{take_more, drop_more}
+use Rattle.std.proofs.lemmas.List.{take_more, drop_more, get_or-drop}
+use Rattle.std.specs.Prelude.{◌⊎◌}
+use Rattle.std.proofs.Common.{inl, inr}
 use Rattle.level.specs.Choice.{pick}
 use Rattle.level.specs.Numbers.{instruction_places}
 use Rattle.level.specs.Lists.{some, filled}
@@ -108,6 +110,27 @@ late_more {end} {i} {own} {earliest} {fate} {least} {ks} {fates} h few e q m l s
     | no z ↦ rw s (get_or-set_other fates i j fate 0 z ∙ r.fates_are j (omega arith) k)
   ];
 }
+
+-- ---- the first of what is left of a list from the place i on
+pub record FrontAt {A : Type 0} (xs : List A) (i : ℕ) (d x : A) (rest : List A) : Type 0 where
+  pub here : i < length xs
+  pub is : x ≡ get_or xs i d
+  pub left : rest ≡ drop (i + 1) xs
+
+pub front_at : {A : Type 0} (xs : List A) (i : ℕ) (d x : A) (rest : List A) → x ∷ rest ≡ drop i xs → FrontAt xs i d x rest
+front_at {A} xs i d x rest e =
+    let z : i + 0 ≡ i = omega arith in
+    record {
+      here = omega (arith, ap length e, length-drop i xs);
+      is = ap (λ (l : List A). get_or l 0 d) e ∙ (get_or-drop i xs 0 d ∙ ap (λ (k : ℕ). get_or xs k d) z);
+      left = ap (drop 1) e ∙ drop-drop 1 i xs;
+    }
+
+-- all are past where either list is at its end
+pub both_past : (ks : List Numbered) (late : List ℕ) (i : ℕ) (rest : List Numbered) (fates : List ℕ) → length ks ≤ length late → rest ≡ drop i ks →
+    fates ≡ drop i late → (length rest ≡ 0) ⊎ (length fates ≡ 0) → length ks ≤ i
+both_past ks late i rest fates h p q (inl e) = omega (arith, ap length p, length-drop i ks)
+both_past ks late i rest fates h p q (inr e) = omega (arith, ap length q, length-drop i late)
 
 -- ---- the fates by number
 fates_count : (all : List Numbered) (later : List ℕ) (i : ℕ) → length (fates_to all later i) ≡ i

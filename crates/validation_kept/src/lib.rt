@@ -95,8 +95,8 @@ fn settle_late(
     ensures { SettledBy kept.now late.now before result }
 {
     let mut out = before;
-    for (i, k) in kept.iter().enumerate() {
-        settle_fate(&mut out, k.number, late[i]);
+    for (k, fate) in kept.iter().zip(late) {
+        settle_fate(&mut out, k.number, *fate);
     }
     out
 }
@@ -107,8 +107,8 @@ fn acts_of(kept: &[Numbered], late: &[u8; INSTRUCTIONS]) -> Sequence
     ensures { (end : ℕ) → LateFates end kept.now late.now → result ≡ sequence_of (actors end kept.now) }
 {
     let mut out = none();
-    for (i, k) in kept.iter().enumerate() {
-        if late[i] == 0 {
+    for (k, fate) in kept.iter().zip(late) {
+        if *fate == 0 {
             out.push(*k);
         }
     }

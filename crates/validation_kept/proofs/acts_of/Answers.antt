@@ -1,29 +1,59 @@
-use Rattle.std.proofs.Common.{◌<◌, length, get_or, sym, ◌∙◌, arith, length-append}
+use Rattle.std.proofs.Common.{rules, ◌+◌, sym, ◌∙◌, arith, length-append, inl, inr}
 use Rattle.std.proofs.lemmas.List.{drop_all}
 use Rattle.validation.specs.Kept.{actors}
 use Rattle.validation_groups.specs.Working.{no_numbered}
-use Rattle.validation_groups.proofs.Laws.{begun_push, begun_all}
-use Rattle.validation_kept.proofs.Late.{actors_skip, actors_keep}
+use Rattle.validation_groups.proofs.Laws.{begun_none, begun_push, begun_all}
+use Rattle.validation_kept.proofs.Late.{actors_skip, actors_keep, front_at, both_past}
 use Rattle.validation_kept.proofs.acts_of.Goals as goal
-use Rattle.validation_kept.proofs.acts_of.Goals.{then-late-i-eq0, else-late-i-eq0}
 
-pub loop-i-preserved : goal.loop-i-preserved
-loop-i-preserved c =
+pub loop-k-init : goal.loop-k-init
+loop-k-init c =
+    rw c.none-out.ensures (record {
+      place = 0;
+      rest_is = search rules;
+      fates_is = search rules;
+      few = omega arith;
+      begun = λ end f. begun_none (actors end c.args.kept.now);
+    })
+
+pub loop-k-preserved-then-fate-eq0 : goal.loop-k-preserved-then-fate-eq0
+loop-k-preserved-then-fate-eq0 c =
     let ks = c.args.kept.now in
-    let l = c.loop-i in
-    let here : l.i < length ks = omega arith in
-    elim c.if-late-i-eq0.branch [
-      | then-late-i-eq0 w ↦ rw (w.out-is, w.push.ensures) (record {
-        few = simp length-append (omega (arith, l.invariant.few));
-        begun = λ end f.
-            begun_push (get_or ks l.i no_numbered) (rw (actors_keep ks l.i here end (sym (f l.i here) ∙ w.if-late-i-eq0.true)) at (l.invariant.begun end f));
-      })
-      | else-late-i-eq0 w ↦ rw w.out-is (record {
-        few = omega (arith, l.invariant.few);
-        begun = λ end f. rw (actors_skip ks l.i here end (λ q. w.if-late-i-eq0.false (f l.i here ∙ q))) at (l.invariant.begun end f);
-      })
-    ]
+    let r = c.loop-k.invariant in
+    let s = c.in-Some.ensures.steps in
+    let k = front_at ks r.place no_numbered c.in-Some.k.now _ (sym s.0 ∙ r.rest_is) in
+    let f = front_at c.args.late.now r.place 0 c.in-Some.fate.now _ (sym s.1 ∙ r.fates_is) in
+    rw (c.push.ensures, k.is) (record {
+      place = r.place + 1;
+      rest_is = k.left;
+      fates_is = f.left;
+      few = simp length-append (omega (arith, r.few));
+      begun = λ end told.
+          let acts = sym (told r.place k.here) ∙ (sym f.is ∙ c.if-fate-eq0.true) in
+          begun_push _ (rw (actors_keep ks r.place k.here end acts) at (r.begun end told));
+    })
+
+pub loop-k-preserved : goal.loop-k-preserved
+loop-k-preserved c =
+    let ks = c.args.kept.now in
+    let r = c.loop-k.invariant in
+    let s = c.in-Some.ensures.steps in
+    let k = front_at ks r.place no_numbered c.in-Some.k.now _ (sym s.0 ∙ r.rest_is) in
+    let f = front_at c.args.late.now r.place 0 c.in-Some.fate.now _ (sym s.1 ∙ r.fates_is) in
+    record {
+      place = r.place + 1;
+      rest_is = k.left;
+      fates_is = f.left;
+      few = omega (arith, r.few);
+      begun = λ end told. rw (actors_skip ks r.place k.here end (λ q. c.if-fate-eq0.false (f.is ∙ (told r.place k.here ∙ q)))) at (r.begun end told);
+    }
 
 pub returns : goal.returns
 unfolding actors
-returns c = λ end f. begun_all (rw (drop_all c.loop-i.i c.args.kept.now (omega arith)) at (c.loop-i.invariant.begun end f))
+returns c =
+    let r = c.loop-k.invariant in
+    let past = both_past c.args.kept.now c.args.late.now r.place _ _ (omega arith) r.rest_is r.fates_is (elim c.in-None.ensures.steps [
+      | inl e ↦ inl e.1.0
+      | inr e ↦ inr e.1.0
+    ]) in
+    λ end told. begun_all (rw (drop_all r.place c.args.kept.now past) at (r.begun end told))
