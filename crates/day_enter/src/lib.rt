@@ -10,6 +10,7 @@ ghost use Rattle.profile.specs.Taken.{start_of, no_taken};
 ghost use Rattle.profile.specs.Finding.{no_finding};
 ghost use Rattle.day.specs.Day.{empty};
 
+use course::Course;
 use day::Day;
 use profile::{Finding, Start, State, Taken, UnderWay};
 use records::{Instruction, Opening, Refusal, UnitData};
@@ -64,24 +65,18 @@ pub fn no_taken() -> Taken
     }
 }
 
-// Nothing found. By hand, since a course has no `Default` (`course_rates::no_course`).
+// Nothing found.
 #[tactic(auto, unfolding(profile::specs::Finding::no_finding))]
 fn no_finding() -> Finding
     ensures { result ≡ no_finding }
 {
-    let course = course_rates::no_course();
     Finding {
         fates: [0; level::INSTRUCTIONS],
         started: 0,
-        courses: [course; level::COURSES],
+        courses: [Course::default(); level::COURSES],
         sums: [0; level::BOUNDARIES],
-        last: UnderWay {
-            course,
-            maximised: false,
-            ordered: 0,
-            off: 0,
-        },
-        end: State { level: 0, off: 0 },
+        last: UnderWay::default(),
+        end: State::default(),
     }
 }
 

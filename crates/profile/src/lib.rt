@@ -3,7 +3,7 @@
 
 // The course under way: whether the unit is maximised, the target (kW) that MXOF goes back to, and the seconds off where
 // the course began.
-#[derive(Clone, Copy)]
+#[derive(Clone, Copy, Default)]
 pub struct UnderWay {
     pub course: course::Course,
     pub maximised: bool,
@@ -12,7 +12,7 @@ pub struct UnderWay {
 }
 
 // What an instruction is read with: the level just before (grains), and the seconds off.
-#[derive(Clone, Copy)]
+#[derive(Clone, Copy, Default)]
 pub struct State {
     pub level: u64,
     pub off: u32,
