@@ -2,7 +2,8 @@
 #![tactic(auto)]
 
 // The course under way: whether the unit is maximised, the target (kW) that MXOF goes back to, and the seconds off where
-// the course began.
+// the course began. (What is maximised, ordered and off is not a struct of its own in this, `Setting` and `Start`: each definition
+// that builds or reads one would go a step further, as `now.unit.ordered`.)
 #[derive(Clone, Copy, Default)]
 pub struct UnderWay {
     pub course: course::Course,

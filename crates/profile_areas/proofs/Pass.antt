@@ -1,15 +1,12 @@
 -- Along a course towards a second, piece by piece.
-use Prim.Native.Nat.{ℕ, ◌*◌, ◌^◌, ◌≤◌, ◌<◌}
+use Prim.Native.Nat.{ℕ, ◌*◌, ◌≤◌, ◌<◌}
 use mathlib.Core.Path.{◌≡◌, refl, sym, ◌∙◌}
-use mathlib.Core.Bool.{Bool}
 use mathlib.Core.List.{List}
 use native.Mathlib.Omega.{arith}
 use Rattle.std.specs.Prelude.{Option}
-use Rattle.level.specs.Level.{grains}
 use Rattle.level.specs.Numbers.{half_hour}
 use Rattle.level.specs.Bounds.{level_bound}
 use Rattle.records.specs.declared.UnitData.{UnitData}
-use Rattle.course.specs.declared.Course.{Course}
 use Rattle.course.specs.declared.Segment.{Segment}
 use Rattle.course.specs.Lists.{Lists}
 use Rattle.course.specs.declared.Heading.{Heading}

@@ -1,11 +1,9 @@
 -- Working. Along a course with the running sum of twice its area, which is noted at each half-hour boundary.
-use Rattle.std.specs.Prelude.{ℕ, ◌+◌, ◌*◌, ◌-◌, ◌/◌, min, ◌≤◌, ◌<◌, ◌≡◌, Bool, List, leb, ltb, length, get_or}
+use Rattle.std.specs.Prelude.{ℕ, ◌+◌, ◌*◌, ◌-◌, ◌/◌, min, ◌≤◌, ◌<◌, ◌≡◌, List, leb, length, get_or}
 use Rattle.level.specs.Choice.{pick}
-use Rattle.level.specs.Level.{grains}
 use Rattle.level.specs.Numbers.{half_hour, most_half_hours, boundary_places}
 use Rattle.level.specs.Bounds.{most_seconds, level_bound}
 use Rattle.records.specs.declared.UnitData.{UnitData}
-use Rattle.course.specs.declared.Course.{Course}
 use Rattle.course.specs.Lists.{Lists}
 use Rattle.course.specs.declared.Heading.{Heading}
 use Rattle.course.specs.declared.Heading.TheVariants.{Rising, Falling}

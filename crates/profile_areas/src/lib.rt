@@ -86,7 +86,15 @@ pub fn note_piece(
     let time = (q.second - p.second) as u64;
     if half * level::HALF_HOUR < q.second {
         let way = p.level.abs_diff(q.level);
-        return note_line(sums, total, heading, p.level, way / time, p.second, q.second);
+        return note_line(
+            sums,
+            total,
+            heading,
+            p.level,
+            way / time,
+            p.second,
+            q.second,
+        );
     }
     let sum = total + time * (p.level + q.level);
     sums[half as usize] = sum;
@@ -107,7 +115,7 @@ pub struct Passed {
 }
 
 // From where a course was reached towards the second n: every piece that ends before n is added. The one that n cuts is not:
-// the course may go on.
+// the course may go on. (A `while`: it goes along a course, which is no list, and stops within a piece.)
 pub fn pass_to(
     sums: &mut [u64; level::BOUNDARIES],
     before: u64,

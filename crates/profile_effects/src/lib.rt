@@ -155,7 +155,7 @@ fn under_way(u: UnitData, begin: u32, g: Setting, off: u32) -> UnderWay
     }
 }
 
-// The course that the start of a day sets going at 06:00.
+// The course that the start of a day sets going at 06:00. (Its setting is written out: a `From` would serve this one place.)
 #[tactic(auto, unfolding(profile::specs::Effects::start_course))]
 pub fn start_course(u: UnitData, s: Start) -> UnderWay
     ensures { result ≡ start_course u s }

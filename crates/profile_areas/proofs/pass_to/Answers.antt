@@ -1,4 +1,4 @@
-use Rattle.std.proofs.Common.{◌^◌, ◌<◌, arith}
+use Rattle.std.proofs.Common.{arith}
 use Rattle.profile_areas.proofs.Areas.{step_straight}
 use Rattle.profile_areas.proofs.Pass.{progress_start, next_piece, progress_cut, progress_more}
 use Rattle.profile_areas.proofs.pass_to.Goals as goal
