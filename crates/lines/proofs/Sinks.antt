@@ -68,7 +68,8 @@ filled_more {xs} {ys} {o} {p} {q} {a} {b} {c} f g =
     let before : take b p ≡ front = ap (take b) p_is ∙ take_at front (drop (a + length xs) o) b b_is in
     let left : drop b p ≡ drop (a + length xs) o = ap (drop b) p_is ∙ drop_at front (drop (a + length xs) o) b b_is in
     let after : drop (b + length ys) p ≡ drop (a + length (xs ++ ys)) o =
-    sym (drop-drop (length ys) b p) ∙ (ap (drop (length ys)) left ∙ (drop-drop (length ys) (a + length xs) o ∙ ap (λ (n : ℕ). drop n o) (omega arith))) in
+    sym (drop-drop (length ys) b p)
+    ∙ (ap (drop (length ys)) left ∙ (drop-drop (length ys) (a + length xs) o ∙ ap (λ (n : ℕ). drop n o) (omega arith))) in
     let end : List ℕ = drop (a + length (xs ++ ys)) o in
     let joined : front ++ (ys ++ end) ≡ take a o ++ (xs ++ ys ++ end) =
     append_assoc (take a o) xs (ys ++ end) ∙ ap (λ (l : List ℕ). take a o ++ l) (sym (append_assoc xs ys end)) in
@@ -80,7 +81,11 @@ filled_more {xs} {ys} {o} {p} {q} {a} {b} {c} f g =
 
 -- one byte is stored
 pub filled_byte : (o : List ℕ) (at a : ℕ) → at < length o → Filled (a ∷ []) at (at + 1) o (set o at a)
-filled_byte o at a h = record { room = omega arith; to_is = refl; bytes = sym (take-append-drop at (set o at a)) ∙ (λ i. take-set o at a i ++ drop-set o at a h i) }
+filled_byte o at a h = record {
+  room = omega arith;
+  to_is = refl;
+  bytes = sym (take-append-drop at (set o at a)) ∙ (λ i. take-set o at a i ++ drop-set o at a h i);
+}
 
 -- the tail from a byte on is written to
 pub filled_tail : {xs o q : List ℕ} {at w : ℕ} → at + length xs ≤ length o → Written xs w (take (length o - at) (drop at o)) q →

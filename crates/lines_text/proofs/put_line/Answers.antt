@@ -23,9 +23,10 @@ pub loop-v-init : goal.loop-v-init
 unfolding line
 loop-v-init c =
     let o = c.args.out.now in
+    let letter = filled_byte o 0 c.args.letter (omega arith) in
     record {
       within = omega arith;
-      lines = put_more filling {j = 0} {l = 0} (record { parts = refl }) (put_none filling (omega arith) (omega arith)) (omega arith) (filled_byte o 0 c.args.letter (omega arith));
+      lines = put_more filling {j = 0} {l = 0} (record { parts = refl }) (put_none filling (omega arith) (omega arith)) (omega arith) letter;
     }
 
 pub slice_bounds-put_field-count : goal.slice_bounds-put_field-count
@@ -41,16 +42,21 @@ pub loop-v-preserved : goal.loop-v-preserved
 loop-v-preserved c =
     let p = c.loop-v.invariant.lines in
     let number = filled_tail (number_room _ _ _ _ _ _ c.loop-v-test.true p) c.put_field-at.ensures in
-    record { within = omega arith; lines = put_more filling {j = 0} (number_next c.args.vs.now c.loop-v.v-index c.loop-v-test.true) p (omega arith) number }
+    record {
+      within = omega arith;
+      lines = put_more filling {j = 0} (number_next c.args.vs.now c.loop-v.v-index c.loop-v-test.true) p (omega arith) number;
+    }
 
 pub bounds-out-at : goal.bounds-out-at
 bounds-out-at c = feed_room c.args.vs.now c.args.letter c.loop-v.v-index _ _ _ (omega arith) c.loop-v.invariant.lines
 
 pub overflow_add-result : goal.overflow_add-result
-overflow_add-result c = omega (arith, length-set {A = ℕ}, feed_room c.args.vs.now c.args.letter c.loop-v.v-index _ _ _ (omega arith) c.loop-v.invariant.lines)
+overflow_add-result c =
+    omega (arith, length-set {A = ℕ}, feed_room c.args.vs.now c.args.letter c.loop-v.v-index _ _ _ (omega arith) c.loop-v.invariant.lines)
 
 pub returns : goal.returns
 returns c =
     let p = c.loop-v.invariant.lines in
+    let next = feed_next c.args.vs.now c.loop-v.v-index (omega arith) in
     let feed = filled_byte c.loop-v.out c.loop-v.at 10 (feed_room c.args.vs.now c.args.letter c.loop-v.v-index _ _ _ (omega arith) p) in
-    filled_front (put_all filling refl (put_more filling {j = 0} {k = 0} (feed_next c.args.vs.now c.loop-v.v-index (omega arith)) p (omega arith) feed))
+    filled_front (put_all filling refl (put_more filling {j = 0} {k = 0} next p (omega arith) feed))

@@ -9,7 +9,8 @@ use Rattle.listing_parts.proofs.run_end.Goals.{else-x-twice-via-then-x-twice+els
 use Rattle.listing_parts.proofs.run_end.Goals as goal
 
 -- the run goes on over the half-hour at i; it ends at i
-goes_on_lem : {sums : List ℕ} {kw from end i : ℕ} → i < end → quantity_at sums i ≡ kw → Progress sums kw from end i → Progress sums kw from end (i + 1)
+goes_on_lem : {sums : List ℕ} {kw from end i : ℕ} → i < end → quantity_at sums i ≡ kw → Progress sums kw from end i →
+    Progress sums kw from end (i + 1)
 goes_on_lem {sums = sums} {kw = kw} {from = from} {end = end} {i = i} h e p =
     let later = p.later in
     record { later = omega arith; within = omega arith; same = run_on sums i end kw h e ∙ p.same }
