@@ -4,15 +4,8 @@
 ghost use Rattle.std.specs.Prelude.{◌≡◌, ◌+◌, ◌-◌, ◌<◌, ◌≤◌, length, map, get_or};
 ghost use Rattle.level.specs.Level.{grains};
 ghost use Rattle.course.specs.Lists.{place_of, column_for, replaced};
-ghost use Rattle.course.specs.Course.{passed, rate_at, no_course};
+ghost use Rattle.course.specs.Course.{passed, rate_at};
 ghost use Rattle.course_rates.specs.Ways.{GrainsOf, heading_of, ramp_for, route_of, lists_by, has_passed};
-
-// What a place for a course holds that none has taken.
-pub fn no_course() -> course::Course
-    ensures { result ≡ no_course }
-{
-    course::Course::default()
-}
 
 // So many kW in grains.
 #[tactic(auto, unfolding(level::specs::Level::from_kw, level::specs::Level::grains))]
