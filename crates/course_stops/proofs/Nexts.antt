@@ -114,6 +114,7 @@ module _ (h : Heading) (v n : ℕ) where
           ∙ sym (near_append h v n (grains g.level ∷ []) (timed_levels gs))
       go false e = near_append h v n (v ∷ []) (map timed gs) ∙ near_here h v (nearest h v n (map timed gs)) ∙ e
 
-  pub near_triggers : (gs : List Trigger) (r : ℕ) → r ≡ fold (λ m (g : Trigger). nearest h v m (pick (ltb 0 g.minutes) (grains g.level) v ∷ [])) n gs →
+  pub near_triggers : (gs : List Trigger) (r : ℕ) →
+      r ≡ fold (λ m (g : Trigger). nearest h v m (pick (ltb 0 g.minutes) (grains g.level) v ∷ [])) n gs →
       r ≡ nearest h v n (timed_levels gs)
   near_triggers gs r e = e ∙ near_each timed h v n gs ∙ near_timed gs

@@ -50,7 +50,8 @@ module _ (u : UnitData) (r : Route) (own : r ≡ route_of u r.course) where
   unfolding standing
   second_is a m = refl
 
-  later_is : (a m j : ℕ) → after r.heading (lists_in u r.course) (target_of r) j (moment_of (here a m)) ≡ moment_at (trajectory_of u r.course) (m - a + j)
+  later_is : (a m j : ℕ) → after r.heading (lists_in u r.course) (target_of r) j (moment_of (here a m))
+      ≡ moment_at (trajectory_of u r.course) (m - a + j)
   unfolding trajectory_of moment_at
   later_is a m j =
       let l : Lists = lists_in u r.course in
@@ -61,10 +62,12 @@ module _ (u : UnitData) (r : Route) (own : r ≡ route_of u r.course) where
       ∙ sym (after_add (heading (trajectory_of u r.course)) l t x j (at r.course.start.grains 0))
 
   -- from the second m on, of a course that began at the second a
-  pub twice_is : (a m n : ℕ) → twice_to r.heading (lists_in u r.course) (target_of r) n (here a m) ≡ area (level_at (trajectory_of u r.course)) (m - a) (n - m)
+  pub twice_is : (a m n : ℕ) → twice_to r.heading (lists_in u r.course) (target_of r) n (here a m)
+      ≡ area (level_at (trajectory_of u r.course)) (m - a) (n - m)
   unfolding twice_to level_at
   twice_is a m n =
       let x : ℕ = m - a in
       ap (area (λ k. (after r.heading (lists_in u r.course) (target_of r) k (moment_of (here a m))).level) 0) (ap (λ (k : ℕ). n - k) (second_is a m))
-      ∙ area_same (λ k. (after r.heading (lists_in u r.course) (target_of r) k (moment_of (here a m))).level) (λ j. level_at (trajectory_of u r.course) (x + j))
+      ∙ area_same (λ k. (after r.heading (lists_in u r.course) (target_of r) k (moment_of (here a m))).level)
+      (λ j. level_at (trajectory_of u r.course) (x + j))
       (λ j. ap (λ (q : Moment). q.level) (later_is a m j)) 0 (n - m) ∙ sym (area_from (level_at (trajectory_of u r.course)) x (n - m))

@@ -84,8 +84,8 @@ module _ (u : UnitData) (r : Route) (before : ℕ) where
     watching_step = onward_step r.heading (lists_in u r.course) (target_of r) n p to_go w.short
 
     turned : (q : Place) → q ≡ onward r.heading (lists_in u r.course) (target_of r) n p →
-        PieceStep (heading (trajectory_of u r.course)) (trajectory_of u r.course).lists (trajectory_of u r.course).target (n - r.course.begin) (back r.course.begin p)
-        (back r.course.begin q)
+        PieceStep (heading (trajectory_of u r.course)) (trajectory_of u r.course).lists (trajectory_of u r.course).target (n - r.course.begin)
+        (back r.course.begin p) (back r.course.begin q)
     unfolding trajectory_of
     turned q e = rw (heading_is u r w.own) (step_back r.course.begin w.begun (rw e watching_step))
 

@@ -55,7 +55,8 @@ returns-in-Some-clause-onward c =
     place_on _ _ _ c.args.n c.args.from.place c.in-Some.s (known_some c.requires.known c.in-Some.is) _ c.along_segment.ensures
 
 pub returns-in-Some-clause-low : goal.returns-in-Some-clause-low
-returns-in-Some-clause-low c = low_on _ _ _ c.args.n c.args.from.place c.requires.before c.requires.short c.grains_of-t.ensures (returns-in-Some-clause-onward c)
+returns-in-Some-clause-low c =
+    low_on _ _ _ c.args.n c.args.from.place c.requires.before c.requires.short c.grains_of-t.ensures (returns-in-Some-clause-onward c)
 
 pub returns-in-Some-clause-known : goal.returns-in-Some-clause-known
 returns-in-Some-clause-known c =
@@ -67,14 +68,16 @@ returns-then-p-gt0-clause-onward c = ap (λ (r : Reached). r.place) c.arrived.en
     ∙ onward_hold _ _ _ c.args.n c.args.from.place c.if-p-gt0.true
 
 pub returns-then-p-gt0-clause-low : goal.returns-then-p-gt0-clause-low
-returns-then-p-gt0-clause-low c = low_on _ _ _ c.args.n c.args.from.place c.requires.before c.requires.short c.grains_of-t.ensures (returns-then-p-gt0-clause-onward c)
+returns-then-p-gt0-clause-low c =
+    low_on _ _ _ c.args.n c.args.from.place c.requires.before c.requires.short c.grains_of-t.ensures (returns-then-p-gt0-clause-onward c)
 
 pub returns-then-p-t-clause-onward : goal.returns-then-p-t-clause-onward
 returns-then-p-t-clause-onward c = ap (λ (r : Reached). r.place) c.arrived-then-p-t.ensures ∙ c.after_rest.ensures
     ∙ onward_rest _ _ _ c.args.n c.args.from.place c.if-p-gt0.false (c.if-p-t.true ∙ c.grains_of-t.ensures.is)
 
 pub returns-then-p-t-clause-low : goal.returns-then-p-t-clause-low
-returns-then-p-t-clause-low c = low_on _ _ _ c.args.n c.args.from.place c.requires.before c.requires.short c.grains_of-t.ensures (returns-then-p-t-clause-onward c)
+returns-then-p-t-clause-low c =
+    low_on _ _ _ c.args.n c.args.from.place c.requires.before c.requires.short c.grains_of-t.ensures (returns-then-p-t-clause-onward c)
 
 -- the target lies ahead
 lies_ahead : {h : Heading} {l : Lists} {t m : ℕ} {p : Place} {x : Segment} → p.left ≤ 0 → Short h t p.level → m ≡ t → (p.level ≡ m → ⊥) →
@@ -94,7 +97,8 @@ returns-clause-onward c = place_on _ _ _ c.args.n c.args.from.place _
     c.along_segment-2.ensures
 
 pub returns-clause-low : goal.returns-clause-low
-returns-clause-low c = low_on _ _ _ c.args.n c.args.from.place c.requires.before c.requires.short c.grains_of-t.ensures (returns-clause-onward c)
+returns-clause-low c =
+    low_on _ _ _ c.args.n c.args.from.place c.requires.before c.requires.short c.grains_of-t.ensures (returns-clause-onward c)
 
 pub returns-clause-known : goal.returns-clause-known
 returns-clause-known c = known_on _ _ _ c.args.n c.args.from.place _
