@@ -166,7 +166,8 @@ module _ (t : Taken) (n : ℕ) (places : length t.instructions ≡ instruction_p
       ap (λ (x : Walk). over_all v.fates settled.count (marks_from stored x.fates 0 acting_count)) walk ∙ fates_are in
       let started = ap (λ (x : Walk). x.started) walk ∙ sym (length-map f.courses course_of) in
       let sums =
-      by.sums ∙ ap (λ (os : List Numbered). filled boundary_places 0 (list_from (twin_to (spans_of u end (courses_from u first os))) 0 (suc n))) acts_are
+      by.sums
+      ∙ ap (λ (os : List Numbered). filled boundary_places 0 (list_from (twin_to (spans_of u end (courses_from u first os))) 0 (suc n))) acts_are
       ∙ ap (filled boundary_places 0) sums_are in
       let state = by.end ∙ ap (λ (os : List Numbered). state_at by_rule u (last_in u first os) end) acts_are in
       λ i. record { fates = fates i; started = started i; courses = (walk i).courses; sums = sums i; last = (walk i).now; end = state i }

@@ -10,7 +10,8 @@ pub record Few (T : Type 0) : Type 0 where
 -- it is stored as the pair of its lists
 abbrev pub few_code : {T : Type 0} → Coded T → Coded (Few T)
 few_code {T} code =
-    code_by (List T × List T) (coded× (coded_list code) (coded_list code)) (λ v. (v.these, v.spare)) (λ p. record { these = p.0; spare = p.1 }) (λ _. refl)
+    code_by (List T × List T) (coded× (coded_list code) (coded_list code)) (λ v. (v.these, v.spare))
+    (λ p. record { these = p.0; spare = p.1 }) (λ _. refl)
 
 module _ {T : Type 0} where
   -- these, in n places; the others hold one value

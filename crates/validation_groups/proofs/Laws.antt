@@ -151,7 +151,8 @@ pub record Walked (best sync desy : Option Numbered) (rest whole : List Numbered
 pub walked_none : (whole : List Numbered) → Walked None None None whole whole
 walked_none whole = record { highest_is = refl; sync_is = refl; desy_is = refl }
 
-best_more : (f : Option Numbered) (o : Numbered) (rest : List Numbered) → best_from (best_from (option_to_list f) (o ∷ [])) rest ≡ best_from (option_to_list f) (o ∷ rest)
+best_more : (f : Option Numbered) (o : Numbered) (rest : List Numbered) →
+    best_from (best_from (option_to_list f) (o ∷ [])) rest ≡ best_from (option_to_list f) (o ∷ rest)
 unfolding best_from highest
 best_more (Some b) o rest = refl
 best_more None o rest = refl
@@ -205,7 +206,8 @@ begun_group end os m k t next f d q h g b =
     begun_picked f (rw more at b)
 
 -- ---- one looked at, of those from the place i on
-module _ (os : List Numbered) (t latest i : ℕ) (e : latest ≡ latest_at os t) (h : i < length os) {best sync desy : Option Numbered} {whole : List Numbered}
+module _ (os : List Numbered) (t latest i : ℕ) (e : latest ≡ latest_at os t) (h : i < length os)
+    {best sync desy : Option Numbered} {whole : List Numbered}
     (w : Walked best sync desy (those (in_group os t) (drop i os)) whole) where
   abbrev one : Numbered
   one = get_or os i no_numbered

@@ -80,7 +80,8 @@ module _ (os : List Numbered) (i : ℕ) (h : i < length os) (alone : (j : ℕ) �
   unfolding superseded
   stays = some_no no_numbered (λ (x : Numbered). eqb (effective_of x) (time_at os i) && ltb (issue_time_of own) (issue_time_of x)) os each
     where
-      each : (j : ℕ) → j < length os → (eqb (time_at os j) (time_at os i) && ltb (issue_time_of own) (issue_time_of (get_or os j no_numbered))) ≡ false
+      each : (j : ℕ) → j < length os →
+          (eqb (time_at os j) (time_at os i) && ltb (issue_time_of own) (issue_time_of (get_or os j no_numbered))) ≡ false
       each j l = elim (ℕ_discrete j i) [
         | no n ↦ rw (ne_eqb (time_at os j) (time_at os i) (alone j l n))
         | yes e ↦ rw (e, eq-eqb (time_at os i) (time_at os i) refl, le-ltb (issue_time_of own) (issue_time_of own) (omega arith))
@@ -309,7 +310,8 @@ module _ (os : List Numbered) (at : ℕ) where
             true≢false (rw (lt-ltb 0 at (omega arith), eq-eqb _ t s) at (not-true before a.1))
       ]
 
-latest_low : (os : List Numbered) (t best most : ℕ) → best ≤ most → ((j : ℕ) → j < length os → time_at os j ≡ t → issue_time_of (get_or os j no_numbered) ≤ most) →
+latest_low : (os : List Numbered) (t best most : ℕ) → best ≤ most →
+    ((j : ℕ) → j < length os → time_at os j ≡ t → issue_time_of (get_or os j no_numbered) ≤ most) →
     fold (later_of t) best os ≤ most
 unfolding later_of
 latest_low [] t best most b h = b
@@ -328,7 +330,8 @@ latest_grows (o ∷ os) t best = elim (ℕ_discrete (effective_of o) t) [
   | no n ↦ rw (ne_eqb (effective_of o) t n) (latest_grows os t best)
 ]
 
-latest_high : (os : List Numbered) (t best i : ℕ) → i < length os → time_at os i ≡ t → issue_time_of (get_or os i no_numbered) ≤ fold (later_of t) best os
+latest_high : (os : List Numbered) (t best i : ℕ) → i < length os → time_at os i ≡ t →
+    issue_time_of (get_or os i no_numbered) ≤ fold (later_of t) best os
 unfolding later_of
 latest_high [] t best i h e = absurd (omega arith)
 latest_high (o ∷ os) t best zero h e = rw (eq-eqb (effective_of o) t e) (omega (arith, latest_grows os t (max best (issue_time_of o))))
@@ -370,7 +373,8 @@ unfolding rising_from
 all_rise before [] b h = refl
 all_rise before (o ∷ os) b h =
     rw (le-leb before (effective_of o) (b (omega arith)))
-    (all_rise (effective_of o) os (λ l. h 0 (omega arith)) (λ k l. let z : suc k + 1 ≡ suc (k + 1) = omega arith in rw z at (h (suc k) (omega arith))))
+    (all_rise (effective_of o) os (λ l. h 0 (omega arith))
+    (λ k l. let z : suc k + 1 ≡ suc (k + 1) = omega arith in rw z at (h (suc k) (omega arith))))
 
 one_falls : (before : ℕ) (os : List Numbered) (k : ℕ) → k + 1 < length os → time_at os (k + 1) < time_at os k → rising_from before os ≡ false
 unfolding rising_from
@@ -381,7 +385,8 @@ one_falls before (o ∷ (x ∷ os)) (suc k) l h =
     let z : suc k + 1 ≡ suc (k + 1) = omega arith in
     rw (one_falls (effective_of o) (x ∷ os) k (omega arith) (rw z at h)) (and-false (leb before (effective_of o)))
 
-pub sorted_is : (os : List Numbered) (r : Bool) → IsAllAdjacentAnswer (λ x y b. b ≡ before_or_at (effective_of x) (effective_of y)) os r → r ≡ in_time_order os
+pub sorted_is : (os : List Numbered) (r : Bool) →
+    IsAllAdjacentAnswer (λ x y b. b ≡ before_or_at (effective_of x) (effective_of y)) os r → r ≡ in_time_order os
 sorted_is os true h =
     sym (all_rise 0 os (λ l. omega arith)
     (λ k l. leb-true (time_at os k) (time_at os (k + 1)) (sym (before_is (time_at os k) (time_at os (k + 1))) ∙ sym (h k no_numbered l))))

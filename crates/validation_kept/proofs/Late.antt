@@ -83,7 +83,8 @@ module _ (ks : List Numbered) (i : ℕ) (h : i < length ks) where
   actors_keep end e = rw (drop_more ks i no_numbered h) (simp (eq-eqb _ _ e))
 
   -- with the fate of the one at the place i
-  pub settled_more : (end : ℕ) (fates next : List ℕ) (fate : ℕ) → fate ≡ late_fate end one (drop (i + 1) ks) → next ≡ settle_fate fates one.number fate →
+  pub settled_more : (end : ℕ) (fates next : List ℕ) (fate : ℕ) → fate ≡ late_fate end one (drop (i + 1) ks) →
+      next ≡ settle_fate fates one.number fate →
       settled next (late_marks end (drop (i + 1) ks)) ≡ settled fates (late_marks end (drop i ks))
   unfolding settled late_marks
   settled_more end fates next fate e q = rw (q, e, drop_more ks i no_numbered h)

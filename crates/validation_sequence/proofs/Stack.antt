@@ -82,7 +82,8 @@ module _ (ks : List Numbered) (at : ℕ) (s : LatestSync ks at) where
   parts : turned ks [] ≡ turned (drop (at + 1) ks) (sync ∷ turned (take at ks) [])
   unfolding turned
   parts =
-      ap (λ (l : List Numbered). turned l []) (sym (take-append-drop at ks) ∙ ap (λ (l : List Numbered). take at ks ++ l) (drop_more ks at no_numbered s.here))
+      ap (λ (l : List Numbered). turned l []) (sym (take-append-drop at ks)
+      ∙ ap (λ (l : List Numbered). take at ks ++ l) (drop_more ks at no_numbered s.here))
       ∙ turned_append (take at ks) (sync ∷ drop (at + 1) ks) []
 
   pub hour_at : (t : ℕ) → sync_within_hour t (turned ks []) ≡ leb t (effective_of sync + 3600)

@@ -34,7 +34,8 @@ marked_append fates [] ys = refl
 marked_append fates (x ∷ xs) ys = ap (λ (l : List ℕ). set_fate l x.number x.fate) (marked_append fates xs ys)
 
 -- one more voided
-pub voided_more : (ks : List Numbered) (i : ℕ) (before fates next : List ℕ) → i < length ks → next ≡ set_fate fates (get_or ks i no_numbered).number 4 →
+pub voided_more : (ks : List Numbered) (i : ℕ) (before fates next : List ℕ) → i < length ks →
+    next ≡ set_fate fates (get_or ks i no_numbered).number 4 →
     fates ≡ marked before (map (mark 4) (turned (take i ks) [])) → next ≡ marked before (map (mark 4) (turned (take (i + 1) ks) []))
 unfolding marked
 voided_more ks i before fates next h e f =

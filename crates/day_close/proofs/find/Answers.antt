@@ -14,7 +14,8 @@ follow_day-f-requires c =
     let t = c.args.t in
     let places : length t.instructions ≡ instruction_places = c.well_formed.0.1.1.1.1.1.1.1.0.1.0.1 in
     let words : Words t = omega (arith, c.well_formed.0) in
-    rw (c.start_course-first.ensures, c.into_array-acts.ensures, c.len-acting.ensures.value, c.validate-v.ensures) (acts_fit t c.args.halves places c.requires words)
+    rw (c.start_course-first.ensures, c.into_array-acts.ensures, c.len-acting.ensures.value, c.validate-v.ensures)
+    (acts_fit t c.args.halves places c.requires words)
 
 pub lay_fates-over-requires : goal.lay_fates-over-requires
 lay_fates-over-requires c =

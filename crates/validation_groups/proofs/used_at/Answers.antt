@@ -26,8 +26,10 @@ loop-o-preserved c =
     let l = c.loop-o in
     let h : l.o-index < length os = omega arith in
     walked_more (get_or os l.o-index no_numbered) c.better-best.ensures
-    (ap option_to_list c.or-sync.ensures ∙ (or_listed l.sync c.of_code.result ∙ ap (or_else (option_to_list l.sync)) c.of_code.ensures))
-    (ap option_to_list c.or-desy.ensures ∙ (or_listed l.desy c.of_code-in-loop-o.result ∙ ap (or_else (option_to_list l.desy)) c.of_code-in-loop-o.ensures))
+    (ap option_to_list c.or-sync.ensures
+    ∙ (or_listed l.sync c.of_code.result ∙ ap (or_else (option_to_list l.sync)) c.of_code.ensures))
+    (ap option_to_list c.or-desy.ensures
+    ∙ (or_listed l.desy c.of_code-in-loop-o.result ∙ ap (or_else (option_to_list l.desy)) c.of_code-in-loop-o.ensures))
     (look_at os c.args.t c.latest_at-latest.result l.o-index c.latest_at-latest.ensures h l.invariant c.if-i-t.false c.if-i-latest.false)
 
 pub returns : goal.returns
