@@ -39,7 +39,7 @@ fn put_answer(
     put(rt, &line[..count])
 }
 
-// Reads until the buffer is full or the input ends; how many bytes there were.
+// Reads until the buffer is full or the input ends; how many bytes there were. (A `while`: a read says how far it came.)
 fn read_full(rt: &HostRuntime, buf: &mut [u8]) -> Result<usize, Failure> {
     let mut at: usize = 0;
     while at < buf.len() {

@@ -105,7 +105,8 @@ fn trigger_stop<const N: usize>(
 }
 
 // The candidates in turn, the nearest so far going along; the target is the furthest. Only the lists of the level's own side
-// of MSG are looked at, and no break or trigger is asked for its side: across MSG it lies behind, or MSG comes first.
+// of MSG are looked at, and no break or trigger is asked for its side: across MSG it lies behind, or MSG comes first. (Rising and
+// falling are two functions: each has other lists below MSG and above it.)
 #[tactic(auto, using(crate::proofs::Sides::rising_above, crate::proofs::Sides::rising_below))]
 fn stop_rising(r: &course_rates::Route, v: u64) -> u64
     ensures { result ≡ next_stop Rising (lists_by r.now) (target_of r.now) v }

@@ -33,7 +33,7 @@ pub fn no_opening() -> Opening
     Opening::default()
 }
 
-// What an opening starts: no rate replaced, not maximised.
+// What an opening starts: no rate replaced, not maximised. (No `From`: both types are of crates below.)
 #[tactic(auto, unfolding(profile::specs::Taken::start_of))]
 pub fn start_of(o: Opening) -> Start
     ensures { result ≡ start_of o }

@@ -37,6 +37,7 @@ impl Level {
     // The largest level that a record may state: 2,000,000 kW.
     pub const LARGEST: u64 = 120000000;
 
+    // A function with a name, and no `From<u32>`: the name says the unit.
     pub fn from_kw(kw: u32) -> Level
         ensures { result ≡ from_kw kw }
     {

@@ -36,7 +36,7 @@ fn put_piece<S: Sink>(sink: &mut S, p: course_walk::Place, q: course_walk::Place
     lines_kinds::put_s(sink, p.second as u64, q.second as u64, p.level, q.level);
 }
 
-// The lines of a course, from where it begins to the second n.
+// The lines of a course, from where it begins to the second n. (A `while`: it goes along a course, which is no list.)
 fn put_course<S: Sink>(sink: &mut S, r: &course_rates::Route, n: u32)
     requires short { Short r.now.heading (target_of r.now) r.now.course.start.grains }
     requires room { S.has_room sink.old (lines_left r.now n (beginning r.now.course r.now.course.begin)) 369367187370 }

@@ -47,7 +47,8 @@ pub struct Start {
     pub off: u32,
 }
 
-// What was let in: the unit, what the day starts from, and the instructions, `count` of them.
+// What was let in: the unit, what the day starts from, and the instructions, `count` of them. (Here and in `Finding` an array and its
+// count are no `level::Few`: the calls promise for a count above the places, too.)
 #[derive(Clone, Copy)]
 pub struct Taken {
     pub hasUnit: bool,

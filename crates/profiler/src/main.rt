@@ -28,7 +28,7 @@ pub struct Answered {
 
 // Reads until the bytes are answered, at close or at a refusal: bytes after them change nothing (`answered`). Where the input
 // ends before, the answer is what it was; a full buffer is always answered (`full_answered`). A read that fails is not the end
-// of the input.
+// of the input. (A `while`: a read says how far it came.)
 fn print_input<R: Read>(input: &mut R, buf: &mut [u8], out: &mut [u8]) -> Result<Answered, Failure>
     requires { suffices ≤ length out.old }
     ensures { IfOk result (λ a. Shown (take a.at buf.new) a.count out.new) }

@@ -23,7 +23,7 @@ pub struct Validation {
     pub acts: Sequence,
 }
 
-// Later than any acting time; `never` of the definitions.
+// Later than any acting time; `never` of the definitions. (No `Option`: that none comes after needs no case of its own so.)
 const NEVER: u64 = 8589934592;
 
 // The instructions with their numbers: from 1 as entered.
