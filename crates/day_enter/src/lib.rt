@@ -65,7 +65,7 @@ pub fn no_taken() -> Taken
     }
 }
 
-// Nothing found.
+// Nothing found. (By hand: of a derived `Default` no proof was found for its arrays.)
 #[tactic(auto, unfolding(profile::specs::Finding::no_finding))]
 fn no_finding() -> Finding
     ensures { result ≡ no_finding }
