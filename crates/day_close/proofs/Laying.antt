@@ -267,23 +267,22 @@ follow_marks u = follow_ind by_rule u (λ now os f. MarksOf f.marks os) (λ now.
 
 -- ---- all together
 
-module _ (u : UnitData) (now : UnderWay) (os : List Numbered) (few : length os ≤ instruction_places) where
+module _ (u : UnitData) (now : UnderWay) (os : List Numbered) where
   abbrev own : List Mark
   own = (follow by_rule u now os).marks
 
-  -- what the arrays of those that act hold
-  pub own_marks : marks_from (filled instruction_places no_numbered os) (filled instruction_places 0 (map fate_in own)) 0 (length os) ≡ own
+  -- a fate for each that acts
+  pub own_many : length (map fate_in own) ≡ length os
+  own_many = length-map own fate_in ∙ (follow_marks u now os).many
+
+  -- those that act, with these fates
+  pub own_marks : marks_from os (map fate_in own) 0 (length os) ≡ own
   own_marks =
       let f = follow_marks u now os in
-      ap (marks_from (filled instruction_places no_numbered os) (filled instruction_places 0 (map fate_in own)) 0) (sym f.many)
-      ∙ marks_are (filled instruction_places no_numbered os) (filled instruction_places 0 (map fate_in own)) 0 own (λ j p.
-      let e : 0 + j ≡ j = omega arith in
-      let q : j < length (map fate_in own) = omega (arith, length-map own fate_in) in (
-        ap (λ (k : ℕ). (get_or (filled instruction_places no_numbered os) k no_numbered).number) e
-            ∙ ap (λ (o : Numbered). o.number) (filled_at no_numbered instruction_places os j no_numbered (omega (arith, f.many))
-            (omega (arith, f.many))) ∙ sym (f.numbers j),
-        ap (λ (k : ℕ). get_or (filled instruction_places 0 (map fate_in own)) k 0) e
-            ∙ filled_at 0 instruction_places (map fate_in own) j 0 q (omega (arith, f.many)) ∙ get_or-map fate_in own j no_mark,
+      ap (marks_from os (map fate_in own) 0) (sym f.many) ∙ marks_are os (map fate_in own) 0 own (λ j p.
+      let e : 0 + j ≡ j = omega arith in (
+        ap (λ (k : ℕ). (get_or os k no_numbered).number) e ∙ sym (f.numbers j),
+        ap (λ (k : ℕ). get_or (map fate_in own) k 0) e ∙ get_or-map fate_in own j no_mark,
       ))
 
   pub fates_found : (end : ℕ) (is : List Instruction) → length is ≤ instruction_places →

@@ -3,12 +3,11 @@ use Prim.Native.Nat.{ℕ, suc, ◌+◌, ◌*◌, ◌-◌, ◌^◌, min, ◌≤�
 use mathlib.Core.Path.{◌≡◌, refl, ap, sym, ◌∙◌, subst}
 use mathlib.Core.List.{List, [], ◌∷◌, ◌++◌, map}
 use native.Mathlib.Omega.{arith}
-use lib.ListN.{length, take, get_or, replicate, length-take, length-map}
-use lib.Seq.{take-append_seam}
+use lib.ListN.{length, get_or, length-take}
 use lib.Dec.{ltb}
 use Rattle.level.specs.Level.{grains}
 use Rattle.level.specs.Lists.{All, some, list_from, filled}
-use Rattle.level.specs.Numbers.{half_hour, most_half_hours, instruction_places, boundary_places}
+use Rattle.level.specs.Numbers.{half_hour, most_half_hours, instruction_places, course_places, boundary_places}
 use Rattle.records.specs.declared.UnitData.{UnitData}
 use Rattle.course.specs.declared.Course.{Course}
 use Rattle.validation.specs.declared.Numbered.{Numbered}
@@ -16,7 +15,6 @@ use Rattle.validation.specs.Kept.{acting, numbered, validated}
 use Rattle.validation.proofs.Acting.{Rises, acting_rise}
 use Rattle.validation.proofs.Few.{numbered_length, acts_few}
 use Rattle.validation_kept.specs.declared.Validation.{Validation}
-use Rattle.validation_groups.specs.Working.{no_numbered}
 use Rattle.validation_kept.specs.Outcome.{outcome_of, validation_of}
 use Rattle.level.proofs.Arrays.{filled_at}
 use Rattle.level.proofs.FewLists.{few_filled}
@@ -28,6 +26,8 @@ use Rattle.profile.specs.Effects.{Followed, start_course, under_way, course_from
 use Rattle.profile.specs.Profile.{Span, spans_of, recorded_to, recorded_in, rounded, course_of, paper, found, found_by}
 use Rattle.profile.specs.Twin.{twin_to}
 use Rattle.profile.specs.Finding.{arrays_of, quantity_at}
+use Rattle.course.specs.Course.{no_course}
+use Rattle.profile.proofs.Room.{courses_few}
 use Rattle.profile.proofs.Areas.{area_to}
 use Rattle.profile.proofs.Tiles.{day_tiles}
 use Rattle.profile.proofs.Whole.{list_same}
@@ -41,7 +41,7 @@ use Rattle.profile_follow.specs.Walk.{fate_in, walk_of, walk_all}
 use Rattle.profile_follow.specs.Following.{Ordered, LowStart, courses_from, last_in, Followable, FollowedBy}
 use Rattle.day_close.specs.declared.Fates.{Fates}
 use Rattle.day_close.specs.Laying.{over_all, overlaid_all, marks_from}
-use Rattle.day_close.proofs.Laying.{own_marks, fates_found}
+use Rattle.day_close.proofs.Laying.{own_many, own_marks, fates_found}
 
 -- ---- those that act stand in order
 rising_ordered : (end a : ℕ) (os : List Numbered) → a ≤ end → All (λ (l : Numbered). a ≤ acting l) os → Rises os →
@@ -74,13 +74,6 @@ module _ (t : Taken) (n : ℕ) (places : length t.instructions ≡ instruction_p
   abbrev v : Validation
   v = validation_of t.instructions t.count end
 
-  -- those that act, in their places, and how many
-  abbrev stored : List Numbered
-  stored = v.acts.these ++ v.acts.spare
-
-  abbrev acting_count : ℕ
-  acting_count = length v.acts.these
-
   abbrev u : UnitData
   u = t.unit
 
@@ -94,13 +87,9 @@ module _ (t : Taken) (n : ℕ) (places : length t.instructions ≡ instruction_p
   few_acts : length acts ≤ instruction_places
   few_acts = omega (arith, acts_few end (numbered 1 (entered t)), numbered_length 1 (entered t), as_many)
 
-  pub acting_few : acting_count ≤ instruction_places
+  acts_are : v.acts.these ≡ acts
   unfolding validation_of outcome_of entered
-  acting_few = few_acts
-
-  acts_are : take acting_count stored ≡ acts
-  unfolding validation_of outcome_of entered
-  acts_are = take-append_seam acts (replicate (instruction_places - length acts) no_numbered)
+  acts_are = refl
 
   abbrev first : UnderWay
   first = start_course u t.start
@@ -116,32 +105,34 @@ module _ (t : Taken) (n : ℕ) (places : length t.instructions ≡ instruction_p
   begins = refl
 
   -- those that act stand in order
-  in_order : Ordered end first.course.begin (take acting_count stored)
+  in_order : Ordered end first.course.begin acts
   in_order =
       let r = acting_rise end (numbered 1 (entered t)) in
-      subst (λ (a : ℕ). Ordered end a (take acting_count stored)) (sym begins)
-      (subst (Ordered end 0) (sym acts_are) (rising_ordered end 0 acts (omega arith) (all_from acts) r.0 r.1))
+      subst (λ (a : ℕ). Ordered end a acts) (sym begins) (rising_ordered end 0 acts (omega arith) (all_from acts) r.0 r.1)
 
-  starts_low : Words t → All LowStart (courses_from u first (take acting_count stored))
+  starts_low : Words t → All LowStart (courses_from u first acts)
   unfolding grains courses_from
-  starts_low w = rw acts_are (all_map (Below (2 ^ 32)) LowStart (λ c b. omega (arith, b.start)) courses
+  starts_low w = all_map (Below (2 ^ 32)) LowStart (λ c b. omega (arith, b.start)) courses
       (courses_below u (2 ^ 32) (omega (arith, w.capacity)) (omega (arith, w.maximum)) first acts
       (start_below u (2 ^ 32) (omega (arith, w.capacity)) (omega (arith, w.maximum)) t.start (omega (arith, w.level))
-      (omega (arith, w.target)) (omega (arith, w.ordered)))))
+      (omega (arith, w.target)) (omega (arith, w.ordered))))
 
-  pub acts_fit : n ≤ most_half_hours → Words t → Followable u first stored acting_count n
-  acts_fit long w = record { few = acting_few; long = long; ordered = in_order; starts = starts_low w }
+  pub acts_fit : n ≤ most_half_hours → Words t → Followable u first v.acts.these n
+  acts_fit long w = rw acts_are (record { few = few_acts; long = long; ordered = in_order; starts = starts_low w })
+
+  -- a fate for each of them
+  pub fates_enough : (r : FollowedDay) → FollowedBy u first v.acts.these n r → length v.acts.these ≤ length r.walk.fates.these
+  unfolding walk_all walk_of
+  fates_enough r by = omega (arith, ap (λ (x : Walk). length x.fates.these) by.walk, own_many u first v.acts.these)
 
   abbrev settled : Fates
   settled = record { count = min t.count instruction_places; fates = v.fates }
 
   fates_are : over_all v.fates (min t.count instruction_places)
-      (marks_from stored (filled instruction_places 0 (map fate_in f.marks)) 0 acting_count) ≡ (arrays_of (found paper n t)).fates
+      (marks_from v.acts.these (map fate_in f.marks) 0 (length v.acts.these)) ≡ (arrays_of (found paper n t)).fates
   unfolding validation_of outcome_of arrays_of found found_by entered
-  fates_are = ap (λ (l : List Numbered). over_all v.fates (min t.count instruction_places)
-      (marks_from l (filled instruction_places 0 (map fate_in f.marks)) 0 (length acts))) (few_filled instruction_places no_numbered acts few_acts)
-      ∙ ap (over_all v.fates (min t.count instruction_places)) (own_marks u first acts few_acts)
-      ∙ ap (λ (k : ℕ). over_all v.fates k f.marks) (sym as_many) ∙ fates_found u first acts few_acts end (entered t) (omega (arith, as_many))
+  fates_are = ap (over_all v.fates (min t.count instruction_places)) (own_marks u first acts)
+      ∙ ap (λ (k : ℕ). over_all v.fates k f.marks) (sym as_many) ∙ fates_found u first acts end (entered t) (omega (arith, as_many))
 
   sums_are : list_from (twin_to (spans_of u end courses)) 0 (suc n) ≡ (found paper n t).sums
   unfolding found found_by
@@ -151,10 +142,10 @@ module _ (t : Taken) (n : ℕ) (places : length t.instructions ≡ instruction_p
       (λ j p. area_to n ss (day_tiles by_rule end u t.start (numbered 1 (entered t))) j (omega arith)))
 
   -- what following comes to, with its fates laid over
-  pub find_is : (r : FollowedDay) → FollowedBy u first (take acting_count stored) n r → (record {
-    fates = (overlaid_all settled (marks_from stored r.walk.fates 0 acting_count)).fates;
-    started = r.walk.started;
-    courses = r.walk.courses;
+  pub find_is : (r : FollowedDay) → FollowedBy u first v.acts.these n r → (record {
+    fates = (overlaid_all settled (marks_from v.acts.these r.walk.fates.these 0 (length v.acts.these))).fates;
+    started = length r.walk.courses.these;
+    courses = r.walk.courses.these ++ r.walk.courses.spare;
     sums = r.sums;
     last = r.walk.now;
     end = r.end;
@@ -163,14 +154,17 @@ module _ (t : Taken) (n : ℕ) (places : length t.instructions ≡ instruction_p
   find_is r by =
       let walk : r.walk ≡ walk_all u first acts = by.walk ∙ ap (walk_all u first) acts_are in
       let fates =
-      ap (λ (x : Walk). over_all v.fates settled.count (marks_from stored x.fates 0 acting_count)) walk ∙ fates_are in
-      let started = ap (λ (x : Walk). x.started) walk ∙ sym (length-map f.courses course_of) in
+      ap (λ (x : Walk). over_all v.fates settled.count (marks_from v.acts.these x.fates.these 0 (length v.acts.these))) walk ∙ fates_are in
+      let started = ap (λ (x : Walk). length x.courses.these) walk in
+      let few : length courses ≤ course_places =
+      omega (arith, courses_few n t, as_many) in
+      let held = ap (λ (x : Walk). x.courses.these ++ x.courses.spare) walk ∙ few_filled course_places no_course courses few in
       let sums =
       by.sums
       ∙ ap (λ (os : List Numbered). filled boundary_places 0 (list_from (twin_to (spans_of u end (courses_from u first os))) 0 (suc n))) acts_are
       ∙ ap (filled boundary_places 0) sums_are in
       let state = by.end ∙ ap (λ (os : List Numbered). state_at by_rule u (last_in u first os) end) acts_are in
-      λ i. record { fates = fates i; started = started i; courses = (walk i).courses; sums = sums i; last = (walk i).now; end = state i }
+      λ i. record { fates = fates i; started = started i; courses = held i; sums = sums i; last = (walk i).now; end = state i }
 
 -- ---- the sums that are found, in a day of n half-hours
 

@@ -2,7 +2,7 @@
 // state at the day's end; and refusal 27.
 #![tactic(auto)]
 
-ghost use Rattle.std.specs.Prelude.{◌≡◌, ◌≤◌};
+ghost use Rattle.std.specs.Prelude.{◌≡◌, ◌≤◌, length};
 ghost use Rattle.level.specs.Numbers.{instruction_places, most_half_hours};
 ghost use Rattle.profile.specs.Profile.{found, paper};
 ghost use Rattle.profile.specs.Finding.{arrays_of};
@@ -38,18 +38,13 @@ fn lay_fate(s: Fates, number: u32, fate: u8) -> Fates
     next
 }
 
-// The fates of the first n that act laid over, the first of them last.
-fn lay_fates(
-    s: Fates,
-    acts: [validation::Numbered; level::INSTRUCTIONS],
-    own: [u8; level::INSTRUCTIONS],
-    n: usize,
-) -> Fates
-    requires { (s.count ≤ instruction_places) × (n ≤ instruction_places) }
-    ensures { result ≡ overlaid_all s (marks_from acts own 0 n) }
+// The fates of those that act laid over, the first of them last.
+fn lay_fates(s: Fates, acts: &[validation::Numbered], own: &[u8]) -> Fates
+    requires { (s.count ≤ instruction_places) × (length acts.now ≤ length own.now) }
+    ensures { result ≡ overlaid_all s (marks_from acts.now own.now 0 (length acts.now)) }
 {
     let mut out = s;
-    for i in (0..n).rev() {
+    for i in (0..acts.len()).rev() {
         out = lay_fate(out, acts[i].number, own[i]);
     }
     out
@@ -63,25 +58,27 @@ pub fn find(t: Taken, halves: u32) -> Finding
     ensures { result ≡ arrays_of (found paper halves t) }
 {
     let v = validation_kept::validate(t.instructions, t.count, level::HALF_HOUR * halves);
-    let acts = v.acts.into_array();
-    let acting = v.acts.len();
+    let acts = v.acts.as_slice();
     let first = profile_effects::start_course(t.unit, t.start);
-    let f = profile_follow::follow_day(t.unit, first, acts, acting, halves);
+    let f = profile_follow::follow_day(t.unit, first, acts, halves);
     let settled = v.fates;
     let given = Fates {
         count: t.count.min(level::INSTRUCTIONS),
         fates: settled,
     };
-    let over = lay_fates(given, acts, f.walk.fates, acting);
+    let w = f.walk;
+    let own = w.fates.as_slice();
+    let over = lay_fates(given, acts, own);
     let fates = over.fates;
-    let courses = f.walk.courses;
+    let started = w.courses.len();
+    let courses = w.courses.into_array();
     let sums = f.sums;
     Finding {
         fates,
-        started: f.walk.started,
+        started,
         courses,
         sums,
-        last: f.walk.now,
+        last: w.now,
         end: f.end,
     }
 }

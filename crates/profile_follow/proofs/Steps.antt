@@ -4,10 +4,10 @@ use mathlib.Core.Path.{◌≡◌, refl, ap, sym, ◌∙◌, subst}
 use mathlib.Core.List.{List, [], ◌∷◌}
 use native.Mathlib.Decide.{dec_le}
 use native.Mathlib.Omega.{arith}
-use lib.ListN.{length, get_or, take, replicate}
+use lib.ListN.{length, get_or, take, replicate, length-append}
 use lib.Seq.{get_or-take, length-take-le}
 use Rattle.level.specs.Lists.{All, list_from, filled}
-use Rattle.level.specs.Numbers.{half_hour, most_half_hours, boundary_places, instruction_places}
+use Rattle.level.specs.Numbers.{half_hour, most_half_hours, boundary_places}
 use Rattle.records.specs.declared.UnitData.{UnitData}
 use Rattle.course.specs.declared.Course.{Course}
 use Rattle.course.specs.Lists.{Lists}
@@ -63,7 +63,7 @@ last_step {g} {q} {n} cut sh lt =
 pub record FollowProgress (u : UnitData) (end : ℕ) (first : UnderWay) (all left : List Numbered) (w : Walk) (g : OnCourse)
     (ys : List ℕ) : Type 0 where
   pub walked : WalkProgress u w left (follow by_rule u first all)
-  pub few : w.started ≤ w.acted + 1
+  pub few : length w.courses.these ≤ length w.fates.these + 1
   pub on : OnIt u w.now g
   pub ordered : Ordered end g.reached.place.second left
   pub starts : All LowStart (courses_from u w.now left)
@@ -132,7 +132,7 @@ module _ {u : UnitData} {end : ℕ} {first : UnderWay} {all left : List Numbered
 
 -- ---- an instruction acts
 module _ {u : UnitData} {end : ℕ} {first : UnderWay} {all : List Numbered} {act : Numbered} {left : List Numbered} {w : Walk} {g : OnCourse}
-    {ys : List ℕ} (f : FollowProgress u end first all (act ∷ left) w g ys) (room : w.acted < instruction_places) where
+    {ys : List ℕ} (f : FollowProgress u end first all (act ∷ left) w g ys) where
   abbrev whole : Followed
   whole = follow by_rule u first all
 
@@ -154,8 +154,8 @@ module _ {u : UnitData} {end : ℕ} {first : UnderWay} {all : List Numbered} {ac
   progress_on e =
       let same : courses_after u w.now (act ∷ left) ≡ courses_after u w.now left = after_on u w.now act left e in
       record {
-        walked = walked_on u w act left whole room f.walked e;
-        few = omega (arith, f.few);
+        walked = walked_on u w act left whole f.walked e;
+        few = simp length-append (omega (arith, f.few));
         on = f.on;
         ordered = ordered_less end p.second (acting act) left f.ordered.0 f.ordered.1;
         starts = subst (All LowStart) (from_head u w.now (act ∷ left) ∙ ap (λ (cs : List Course). w.now.course ∷ cs) same
@@ -189,8 +189,8 @@ module _ {u : UnitData} {end : ℕ} {first : UnderWay} {all : List Numbered} {ac
     unfolding set_out reached_at beginning replaced_by
     progress_new {zs} {total} {d} {g'} is out-is noted =
         rw (out-is, is) (record {
-          walked = walked_new u w act left whole room f.walked set (omega (arith, f.few)) new;
-          few = omega (arith, f.few);
+          walked = walked_new u w act left whole f.walked set new;
+          few = simp length-append (omega (arith, f.few));
           on = out_on u then total (rw (from_head u then left) at later_starts).0;
           ordered = subst (λ (k : ℕ). Ordered end k left) (sym (begins_here ∙ cut.there)) f.ordered.1;
           starts = later_starts;

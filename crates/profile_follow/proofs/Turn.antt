@@ -26,7 +26,7 @@ use Rattle.profile_follow.proofs.Steps.{CutAt, FollowProgress, last_step, order,
 -- as a turn begins, i of all having acted
 pub record FollowTurn (i : ℕ) (u : UnitData) (end : ℕ) (first : UnderWay) (all : List Numbered) (w : Walk) (g : OnCourse)
     (ys : List ℕ) : Type 0 where
-  pub acted : w.acted ≡ i
+  pub acted : length w.fates.these ≡ i
   pub progress : FollowProgress u end first all (drop i all) w g ys
 
 module _ {i : ℕ} {u : UnitData} {end : ℕ} {first : UnderWay} {all : List Numbered} {w : Walk} {g : OnCourse} {ys : List ℕ}

@@ -1,15 +1,13 @@
 -- Following the instructions that act one after another gives what `follow` says.
-use Prim.Native.Nat.{ℕ, ◌+◌, ◌<◌}
+use Prim.Native.Nat.{ℕ}
 use mathlib.Core.Path.{◌≡◌, refl, ap, sym, ◌∙◌}
 use mathlib.Core.List.{List, [], ◌∷◌, ◌++◌, map, append_assoc, append-nil}
-use native.Mathlib.Omega.{arith}
-use lib.ListN.{length, set, length-append, length-map}
-use Rattle.level.specs.Lists.{filled}
+use Rattle.level.specs.Few.{few_of, with_one}
 use Rattle.level.specs.Numbers.{instruction_places, course_places}
 use Rattle.records.specs.declared.UnitData.{UnitData}
 use Rattle.validation.specs.declared.Numbered.{Numbered}
 use Rattle.validation.specs.Kept.{Mark, mark}
-use Rattle.level.proofs.Arrays.{filled_push}
+use Rattle.level.proofs.FewLists.{few_push}
 use Rattle.profile.specs.declared.UnderWay.{UnderWay}
 use Rattle.profile.specs.declared.Setting.{Setting}
 use Rattle.std.specs.Prelude.{Some, None}
@@ -21,18 +19,14 @@ use Rattle.profile.proofs.Following.{comes_to, new_course, follow_on, follow_new
 use Rattle.profile_follow.specs.declared.Walk.{Walk}
 use Rattle.profile_follow.specs.Walk.{fate_in, walk_of, went_on, replaced_by}
 
--- an array that begins with f of each, and one more
-map_push : {A B : Type 0} (f : A → B) (z : B) (n : ℕ) (xs : List A) (x : A) → length xs < n →
-    set (filled n z (map f xs)) (length xs) (f x) ≡ filled n z (map f (xs ++ (x ∷ [])))
-map_push f z n xs x h = ap (λ (k : ℕ). set (filled n z (map f xs)) k (f x)) (sym (length-map xs f))
-    ∙ filled_push z n (map f xs) (f x) (omega (arith, length-map xs f)) ∙ ap (filled n z) (sym (over xs))
+-- f of each, and of one more
+map_push : {A B : Type 0} (f : A → B) (z : B) (n : ℕ) (xs : List A) (x : A) →
+    with_one (few_of n z (map f xs)) (f x) ≡ few_of n z (map f (xs ++ (x ∷ [])))
+map_push f z n xs x = few_push n z (map f xs) (f x) ∙ ap (few_of n z) (sym (over xs))
   where
     over : (ys : List _) → map f (ys ++ (x ∷ [])) ≡ map f ys ++ (f x ∷ [])
     over [] = refl
     over (y ∷ ys) = ap (λ (zs : List _). f y ∷ zs) (over ys)
-
-one_more : {A : Type 0} (xs : List A) (x : A) → length xs + 1 ≡ length (xs ++ (x ∷ []))
-one_more xs x = simp length-append
 
 append_one : {A : Type 0} (xs : List A) (x : A) (ys : List A) → (xs ++ (x ∷ [])) ++ ys ≡ xs ++ (x ∷ ys)
 append_one xs x ys = append_assoc xs (x ∷ []) ys
@@ -58,69 +52,53 @@ module _ (u : UnitData) where
 
   module _ (w : Walk) (o : Numbered) (us : List UnderWay) (ms : List Mark)
       (e : w ≡ walk_of w.now (record { marks = ms; courses = us ++ (w.now ∷ []) })) where
-    fated : (fate : ℕ) → w.acted < instruction_places →
-        set w.fates w.acted fate ≡ filled instruction_places 0 (map fate_in (ms ++ (mark fate o ∷ [])))
+    fated : (fate : ℕ) → with_one w.fates fate ≡ few_of instruction_places 0 (map fate_in (ms ++ (mark fate o ∷ [])))
     unfolding walk_of
-    fated fate h = ap (λ (x : Walk). set x.fates x.acted fate) e
-        ∙ map_push fate_in 0 instruction_places ms (mark fate o) (omega (arith, ap (λ (x : Walk). x.acted) e))
+    fated fate = ap (λ (x : Walk). with_one x.fates fate) e ∙ map_push fate_in 0 instruction_places ms (mark fate o)
 
-    more : (fate : ℕ) → w.acted + 1 ≡ length (ms ++ (mark fate o ∷ []))
-    unfolding walk_of
-    more fate = ap (λ (x : Walk). x.acted + 1) e ∙ one_more ms (mark fate o)
-
-    held_on : w.acted < instruction_places → went_on w ≡ walk_of w.now (record { marks = ms ++ (mark 7 o ∷ []); courses = us ++ (w.now ∷ []) })
+    held_on : went_on w ≡ walk_of w.now (record { marks = ms ++ (mark 7 o ∷ []); courses = us ++ (w.now ∷ []) })
     unfolding walk_of went_on
-    held_on h = λ i. record {
-      now = w.now;
-      courses = (ap (λ (x : Walk). x.courses) e) i;
-      started = (ap (λ (x : Walk). x.started) e) i;
-      fates = (fated 7 h) i;
-      acted = (more 7) i;
-    }
+    held_on = λ i. record { now = w.now; courses = (ap (λ (x : Walk). x.courses) e) i; fates = (fated 7) i }
 
-    changed : (next : UnderWay) → w.acted < instruction_places → w.started < course_places →
+    changed : (next : UnderWay) →
         replaced_by w next ≡ walk_of next (record { marks = ms ++ (mark 0 o ∷ []); courses = (us ++ (w.now ∷ [])) ++ (next ∷ []) })
     unfolding walk_of replaced_by
-    changed next h k = λ i. record {
+    changed next = λ i. record {
       now = next;
-      courses = (ap (λ (x : Walk). set x.courses x.started next.course) e
-          ∙ map_push course_of no_course course_places (us ++ (w.now ∷ [])) next (omega (arith, ap (λ (x : Walk). x.started) e))
-          ) i;
-      started = (ap (λ (x : Walk). x.started + 1) e ∙ one_more (us ++ (w.now ∷ [])) next) i;
-      fates = (fated 0 h) i;
-      acted = (more 0) i;
+      courses = (ap (λ (x : Walk). with_one x.courses next.course) e
+          ∙ map_push course_of no_course course_places (us ++ (w.now ∷ [])) next) i;
+      fates = (fated 0) i;
     }
 
   -- one more: ignored, or with effect
-  module _ (w : Walk) (o : Numbered) (os : List Numbered) (whole : Followed) (h : w.acted < instruction_places) (g : WalkProgress w (o ∷ os) whole)
-    where
-      pub walked_on : comes_to by_rule u w.now o ≡ None → WalkProgress (went_on w) os whole
-      unfolding goes_on went_on
-      walked_on e =
-          let step = follow_on by_rule u w.now o os e in
-          record {
-            us = g.us;
-            ms = g.ms ++ (mark 7 o ∷ []);
-            courses = ap (λ (f : Followed). g.us ++ f.courses) (sym step) ∙ g.courses;
-            marks =
-                append_one g.ms (mark 7 o) (follow by_rule u w.now os).marks ∙ ap (λ (f : Followed). g.ms ++ f.marks) (sym step) ∙ g.marks;
-            holds = held_on w o g.us g.ms g.holds h;
-          }
+  module _ (w : Walk) (o : Numbered) (os : List Numbered) (whole : Followed) (g : WalkProgress w (o ∷ os) whole) where
+    pub walked_on : comes_to by_rule u w.now o ≡ None → WalkProgress (went_on w) os whole
+    unfolding goes_on went_on
+    walked_on e =
+        let step = follow_on by_rule u w.now o os e in
+        record {
+          us = g.us;
+          ms = g.ms ++ (mark 7 o ∷ []);
+          courses = ap (λ (f : Followed). g.us ++ f.courses) (sym step) ∙ g.courses;
+          marks =
+              append_one g.ms (mark 7 o) (follow by_rule u w.now os).marks ∙ ap (λ (f : Followed). g.ms ++ f.marks) (sym step) ∙ g.marks;
+          holds = held_on w o g.us g.ms g.holds;
+        }
 
-      pub walked_new : (set : Setting) → w.started < course_places → comes_to by_rule u w.now o ≡ Some set →
-          WalkProgress (replaced_by w (new_course by_rule u w.now o set)) os whole
-      unfolding replaces replaced_by
-      walked_new set k e =
-          let next : UnderWay = new_course by_rule u w.now o set in
-          let step = follow_new by_rule u w.now o os set e in
-          record {
-            us = g.us ++ (w.now ∷ []);
-            ms = g.ms ++ (mark 0 o ∷ []);
-            courses =
-                append_one g.us w.now (follow by_rule u next os).courses ∙ ap (λ (f : Followed). g.us ++ f.courses) (sym step) ∙ g.courses;
-            marks = append_one g.ms (mark 0 o) (follow by_rule u next os).marks ∙ ap (λ (f : Followed). g.ms ++ f.marks) (sym step) ∙ g.marks;
-            holds = changed w o g.us g.ms g.holds next h k;
-          }
+    pub walked_new : (set : Setting) → comes_to by_rule u w.now o ≡ Some set →
+        WalkProgress (replaced_by w (new_course by_rule u w.now o set)) os whole
+    unfolding replaces replaced_by
+    walked_new set e =
+        let next : UnderWay = new_course by_rule u w.now o set in
+        let step = follow_new by_rule u w.now o os set e in
+        record {
+          us = g.us ++ (w.now ∷ []);
+          ms = g.ms ++ (mark 0 o ∷ []);
+          courses =
+              append_one g.us w.now (follow by_rule u next os).courses ∙ ap (λ (f : Followed). g.us ++ f.courses) (sym step) ∙ g.courses;
+          marks = append_one g.ms (mark 0 o) (follow by_rule u next os).marks ∙ ap (λ (f : Followed). g.ms ++ f.marks) (sym step) ∙ g.marks;
+          holds = changed w o g.us g.ms g.holds next;
+        }
 
   pub walked_end : (now : UnderWay) (w : Walk) (whole : Followed) → WalkProgress w [] whole → w ≡ walk_of (last_of now whole.courses) whole
   unfolding follow

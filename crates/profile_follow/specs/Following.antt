@@ -1,5 +1,5 @@
 -- Working. The instructions that act, followed from one course to the next along the day.
-use Rattle.std.specs.Prelude.{ℕ, suc, ◌+◌, ◌*◌, min, ◌≤◌, ◌<◌, ◌≡◌, List, [], ◌∷◌, map, take, drop}
+use Rattle.std.specs.Prelude.{ℕ, suc, ◌+◌, ◌*◌, min, ◌≤◌, ◌<◌, ◌≡◌, List, [], ◌∷◌, map, length, take, drop}
 use Rattle.level.specs.Lists.{All, list_from, filled}
 use Rattle.level.specs.Numbers.{half_hour, most_half_hours, boundary_places, instruction_places}
 use Rattle.level.specs.Bounds.{level_bound}
@@ -88,12 +88,12 @@ sum_after u end now g os j =
 abbrev pub last_in : UnitData → UnderWay → List Numbered → UnderWay
 last_in u first os = last_of first (follow by_rule u first os).courses
 
--- what following asks of the first n that act, in a day of so many half-hours
-pub record Followable (u : UnitData) (first : UnderWay) (acts : List Numbered) (n halves : ℕ) : Type 0 where
-  pub few : n ≤ instruction_places
+-- what following asks of those that act, in a day of so many half-hours
+pub record Followable (u : UnitData) (first : UnderWay) (acts : List Numbered) (halves : ℕ) : Type 0 where
+  pub few : length acts ≤ instruction_places
   pub long : halves ≤ most_half_hours
-  pub ordered : Ordered (half_hour * halves) first.course.begin (take n acts)
-  pub starts : All LowStart (courses_from u first (take n acts))
+  pub ordered : Ordered (half_hour * halves) first.course.begin acts
+  pub starts : All LowStart (courses_from u first acts)
 
 -- the day's end: of the sums those up to its last boundary
 unfoldable pub ended : Walk → List ℕ → State → ℕ → FollowedDay

@@ -1,6 +1,6 @@
--- Working. The walk over the instructions that act, as arrays: what `follow` says, one instruction after another.
-use Rattle.std.specs.Prelude.{ℕ, ◌+◌, List, map, length, set}
-use Rattle.level.specs.Lists.{filled}
+-- Working. The walk over the instructions that act, as lists with room: what `follow` says, one instruction after another.
+use Rattle.std.specs.Prelude.{ℕ, List, map}
+use Rattle.level.specs.Few.{few_of, with_one}
 use Rattle.level.specs.Numbers.{instruction_places, course_places}
 use Rattle.records.specs.declared.UnitData.{UnitData}
 use Rattle.validation.specs.declared.Numbered.{Numbered}
@@ -15,14 +15,12 @@ use Rattle.profile_follow.specs.declared.Walk.{Walk}
 abbrev pub fate_in : Mark → ℕ
 fate_in m = m.fate
 
--- what the arrays hold of marks and courses, now being the last of these
+-- what it holds of marks and courses, now being the last of these
 unfoldable pub walk_of : UnderWay → Followed → Walk
 walk_of now f = record {
   now = now;
-  courses = filled course_places no_course (map course_of f.courses);
-  started = length f.courses;
-  fates = filled instruction_places 0 (map fate_in f.marks);
-  acted = length f.marks;
+  courses = few_of course_places no_course (map course_of f.courses);
+  fates = few_of instruction_places 0 (map fate_in f.marks);
 }
 
 -- the first so many that act, followed from the course now
@@ -31,14 +29,8 @@ walk_all u now os = walk_of (last_of now (follow by_rule u now os).courses) (fol
 
 -- one more: fate 7, and the course under way goes on
 unfoldable pub went_on : Walk → Walk
-went_on w = record { now = w.now; courses = w.courses; started = w.started; fates = set w.fates w.acted 7; acted = w.acted + 1 }
+went_on w = record { now = w.now; courses = w.courses; fates = with_one w.fates 7 }
 
 -- fate 0, and a new course
 unfoldable pub replaced_by : Walk → UnderWay → Walk
-replaced_by w next = record {
-  now = next;
-  courses = set w.courses w.started next.course;
-  started = w.started + 1;
-  fates = set w.fates w.acted 0;
-  acted = w.acted + 1;
-}
+replaced_by w next = record { now = next; courses = with_one w.courses next.course; fates = with_one w.fates 0 }

@@ -2,67 +2,61 @@
 // boundary, and the state at its end.
 #![tactic(auto)]
 
-ghost use Rattle.std.specs.Prelude.{◌≡◌, [], ◌∷◌, ◌<◌, ◌≤◌, take};
+ghost use Rattle.std.specs.Prelude.{◌≡◌, [], ◌∷◌, ◌<◌, ◌≤◌, length};
 ghost use Rattle.level.specs.Numbers.{most_half_hours, instruction_places, course_places};
 ghost use Rattle.profile_follow.specs.Walk.{walk_of, went_on, replaced_by};
 ghost use Rattle.profile_follow.specs.Following.{set_out, went_to, Followable, ended, FollowedBy};
 
 use course::Course;
+use level::{COURSES, Few, INSTRUCTIONS};
 use profile::{State, UnderWay};
 use records::UnitData;
 use validation::Numbered;
 
 // ---- what is kept on the way
 
-// How far they are followed: the course under way, the courses so far with it as the last (the first `started` places),
-// and the fates, in acting order, of those that have acted.
+// How far they are followed: the course under way, the courses so far with it as the last, and the fates, in acting order, of
+// those that have acted.
 #[derive(Clone, Copy)]
 pub struct Walk {
     pub now: UnderWay,
-    pub courses: [Course; level::COURSES],
-    pub started: usize,
-    pub fates: [u8; level::INSTRUCTIONS],
-    pub acted: usize,
+    pub courses: Few<Course, COURSES>,
+    pub fates: Few<u8, INSTRUCTIONS>,
 }
 
 impl Walk {
     // None has acted yet.
-    #[tactic(auto, unfolding(crate::specs::Walk::walk_of, level::specs::Lists::filled))]
+    #[tactic(auto, unfolding(crate::specs::Walk::walk_of))]
     fn begin(now: UnderWay) -> Walk
         ensures { result ≡ walk_of now (record { marks = []; courses = now ∷ [] }) }
     {
-        let mut courses = [Course::default(); level::COURSES];
-        courses[0] = now.course;
+        let mut courses = Few::new(Course::default());
+        courses.push(now.course);
         Walk {
             now,
             courses,
-            started: 1,
-            fates: [0; level::INSTRUCTIONS],
-            acted: 0,
+            fates: Few::new(0),
         }
     }
 
     // One more acts, with fate 7: the course under way goes on.
     #[tactic(auto, unfolding(crate::specs::Walk::went_on))]
     fn go_on(&mut self)
-        requires { self.old.acted < instruction_places }
+        requires { length self.old.fates.these < instruction_places }
         ensures { self.new ≡ went_on self.old }
     {
-        self.fates[self.acted] = 7;
-        self.acted += 1;
+        self.fates.push(7);
     }
 
     // One more acts, with fate 0: another course begins.
     #[tactic(auto, unfolding(crate::specs::Walk::replaced_by))]
     fn replace(&mut self, next: UnderWay)
-        requires { (self.old.acted < instruction_places) × (self.old.started < course_places) }
+        requires { (length self.old.fates.these < instruction_places) × (length self.old.courses.these < course_places) }
         ensures { self.new ≡ replaced_by self.old next }
     {
         self.now = next;
-        self.courses[self.started] = next.course;
-        self.started += 1;
-        self.fates[self.acted] = 0;
-        self.acted += 1;
+        self.courses.push(next.course);
+        self.fates.push(0);
     }
 }
 
@@ -140,22 +134,16 @@ fn end_day(w: Walk, sums: [u64; level::BOUNDARIES], end: State, halves: u32) -> 
 
 // ---- one instruction after another
 
-// The first n of those that act, from the course `first` on, once along a day of so many half-hours; each read with the state just
-// before. Fate 7: the course under way goes on. Fate 0: it ends there, and a new one begins.
-pub fn follow_day(
-    u: UnitData,
-    first: UnderWay,
-    acts: [Numbered; level::INSTRUCTIONS],
-    n: usize,
-    halves: u32,
-) -> FollowedDay
-    requires { Followable u first acts n halves }
-    ensures { FollowedBy u first (take n acts) halves result }
+// Those that act, from the course `first` on, once along a day of so many half-hours; each read with the state just before.
+// Fate 7: the course under way goes on. Fate 0: it ends there, and a new one begins.
+pub fn follow_day(u: UnitData, first: UnderWay, acts: &[Numbered], halves: u32) -> FollowedDay
+    requires { Followable u first acts.now halves }
+    ensures { FollowedBy u first acts.now halves result }
 {
     let mut w = Walk::begin(first);
     let mut g = OnCourse::set_out(u, first, 0);
     let mut sums = [0u64; level::BOUNDARIES];
-    for o in &acts[..n] {
+    for o in acts {
         let t = profile_effects::acting_second(*o);
         let s = profile_areas::pass_to(&mut sums, g.total, &g.route, g.reached, g.off, t);
         let state = state_at(s.ahead, s.later);

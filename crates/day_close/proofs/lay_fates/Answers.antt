@@ -1,4 +1,4 @@
-use Rattle.std.proofs.Common.{◌∙◌, arith}
+use Rattle.std.proofs.Common.{◌∙◌, arith, length}
 use Rattle.day_close.specs.Laying.{overlaid}
 use Rattle.day_close.proofs.Laying.{overlaid_start, overlaid_back, overlaid_end}
 use Rattle.day_close.proofs.lay_fates.Goals as goal
@@ -13,8 +13,10 @@ loop-i-preserved c =
     record {
       within = omega arith;
       few = rw e (omega arith);
-      over = e ∙ overlaid_back c.args.acts c.args.own c.args.n c.args.s c.loop-i.out c.loop-i.i (omega arith) (omega arith) c.loop-i.invariant.over;
+      over = e ∙ overlaid_back c.args.acts.now c.args.own.now (length c.args.acts.now) c.args.s c.loop-i.out c.loop-i.i (omega arith) (omega arith)
+          c.loop-i.invariant.over;
     }
 
 pub returns : goal.returns
-returns c = overlaid_end c.args.acts c.args.own c.args.n c.args.s c.loop-i.out c.loop-i.i (omega arith) c.loop-i.invariant.over
+returns c =
+    overlaid_end c.args.acts.now c.args.own.now (length c.args.acts.now) c.args.s c.loop-i.out c.loop-i.i (omega arith) c.loop-i.invariant.over

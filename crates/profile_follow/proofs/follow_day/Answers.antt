@@ -1,6 +1,4 @@
-use Rattle.std.proofs.Common.{◌<◌, ◌∙◌, refl, ap, arith}
-use Rattle.std.proofs.lemmas.List.{length-take}
-use Rattle.level.specs.Numbers.{instruction_places}
+use Rattle.std.proofs.Common.{◌∙◌, refl, ap, arith, length, length-append}
 use Rattle.profile_follow.specs.declared.Walk.{Walk}
 use Rattle.profile_follow.specs.Walk.{walk_of, went_on, replaced_by}
 use Rattle.profile_follow.proofs.Steps.{progress_start, progress_on, progress_new, progress_end}
@@ -11,7 +9,7 @@ use Rattle.profile_follow.proofs.follow_day.Goals.{in-None, in-Some}
 pub loop-o-init : goal.loop-o-init
 unfolding walk_of
 loop-o-init c = record {
-  acted = ap (λ (x : Walk). x.acted) c.begin-w.ensures;
+  acted = ap (λ (x : Walk). length x.fates.these) c.begin-w.ensures;
   progress = progress_start {u = c.args.u} c.begin-w.ensures c.set_out-g.ensures
       c.requires.ordered c.requires.starts;
 }
@@ -33,16 +31,15 @@ unfolding went_on replaced_by
 loop-o-preserved c =
     let x = acts_now c.requires.long (one_acts c.loop-o.invariant c.loop-o-test.true) c.acting_second-t.ensures c.pass_to-s.ensures
     c.state_at-state.ensures in
-    let room : c.loop-o.w.acted < instruction_places = omega (arith, c.loop-o.invariant.acted, length-take c.args.n c.args.acts) in
     elim c.match-outcome_of.branch [
       | in-None w ↦ rw (w.w-is, w.g-is, w.sums-is, w.further-g.ensures, w.go_on.ensures) (record {
-        acted = omega (arith, c.loop-o.invariant.acted);
-        progress = progress_on x.progress room (x.comes c.outcome_of.ensures w.in-None.is);
+        acted = simp length-append (omega (arith, c.loop-o.invariant.acted));
+        progress = progress_on x.progress (x.comes c.outcome_of.ensures w.in-None.is);
       })
       | in-Some w ↦
           rw (w.w-is, w.g-is, w.sums-is, w.replace.ensures) (record {
-            acted = omega (arith, c.loop-o.invariant.acted);
-            progress = progress_new x.progress room (x.comes c.outcome_of.ensures w.in-Some.is) x.cut
+            acted = simp length-append (omega (arith, c.loop-o.invariant.acted));
+            progress = progress_new x.progress (x.comes c.outcome_of.ensures w.in-Some.is) x.cut
                 (x.begins w.in-Some.set w.begin_course-next.ensures) w.set_out-g-in-Some.ensures w.note_piece-total.ensures;
           })
     ]
