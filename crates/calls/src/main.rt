@@ -24,11 +24,7 @@ fn malformed(rt: &HostRuntime) -> Result<bool, Failure> {
 
 // `A answer number`
 #[tactic(auto, using(lines::proofs::Decimals::line_two, lines::proofs::Decimals::word_width))]
-fn put_answer(
-    rt: &HostRuntime,
-    answer: Result<(), Refusal>,
-    number: usize,
-) -> Result<(), Failure> {
+fn put_answer(rt: &HostRuntime, answer: Result<(), Refusal>, number: usize) -> Result<(), Failure> {
     let n = match answer {
         Ok(()) => 0,
         Err(refusal) => refusal.number(),

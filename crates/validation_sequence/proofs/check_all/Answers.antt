@@ -28,14 +28,14 @@ loop-o-preserved c =
           let e : same (effect_of o) Fail ≡ false = search rules in
           let told = sym w.is_repeat.ensures ∙ w.if-is_repeat.true in
           let r = sym (repeats_last o ks)
-              ∙ ap (λ k. repeats o (option_to_list k)) (sym (rw w.as_slice.ensures.value at w.last.ensures.value)) ∙ told in
+          ∙ ap (λ k. repeats o (option_to_list k)) (sym (rw w.as_slice.ensures.value at w.last.ensures.value)) ∙ told in
           rw (w.kept-is, w.fates-is) (checks_more here (omega (arith, l.invariant.fewer)) w.put_fate.ensures.long
           (rw w.put_fate.ensures.value (check_repeat ks l.fates o _ t e r)))
       | else-eq+else-is_repeat w ↦
           let e : same (effect_of o) Fail ≡ false = search rules in
           let told = sym w.is_repeat.ensures ∙ w.if-is_repeat.false in
           let r = sym (repeats_last o ks)
-              ∙ ap (λ k. repeats o (option_to_list k)) (sym (rw w.as_slice.ensures.value at w.last.ensures.value)) ∙ told in
+          ∙ ap (λ k. repeats o (option_to_list k)) (sym (rw w.as_slice.ensures.value at w.last.ensures.value)) ∙ told in
           rw (w.kept-is, w.fates-is, w.push.ensures) (checks_more here (simp length-append (omega (arith, l.invariant.fewer))) l.invariant.long
           (check_keep ks l.fates o _ t e r))
     ]
