@@ -6,11 +6,10 @@ use mathlib.Core.Bool.{Bool, true, false, true≢false}
 use native.Mathlib.Decide.{dec_le, ℕ_discrete}
 use native.Mathlib.Omega.{arith}
 use lib.Dec.{leb, eqb}
-use lib.ListN.{length, get_or, set, length-map, get_or-map}
+use lib.ListN.{length, take, drop, replicate, get_or, set, length-map, get_or-map}
 use borrow.Author.Tests.{le-leb, lt-leb, eq-eqb, ne_eqb}
 use Rattle.level.specs.Choice.{pick}
 use Rattle.level.specs.Lists.{All, filled}
-use Rattle.level.specs.Numbers.{instruction_places}
 use Rattle.level.proofs.Lists.{by_bool}
 use Rattle.records.specs.declared.UnitData.{UnitData}
 use Rattle.records.specs.declared.Instruction.{Instruction}
@@ -23,33 +22,30 @@ use Rattle.validation_groups.specs.Working.{no_numbered}
 use Rattle.profile.specs.declared.UnderWay.{UnderWay}
 use Rattle.profile.specs.State.{by_rule}
 use Rattle.profile.specs.Effects.{goes_on, replaces, follow}
-use Rattle.level.proofs.Arrays.{filled_at, filled_set}
+use Rattle.level.proofs.FewLists.{few_filled}
+use lib.Seq.{take-append_seam, drop-append_seam}
 use Rattle.profile.proofs.Following.{follow_ind}
-use Rattle.day_close.specs.declared.Fates.{Fates}
 use Rattle.profile_follow.specs.Walk.{fate_in}
-use Rattle.day_close.specs.Laying.{over_fate, over_all, overlaid, overlaid_all, marks_from}
+use Rattle.day_close.specs.Laying.{over_fate, over_all, marks_from}
 
 -- ---- one fate, case by case
-module _ (fates : List ℕ) (count number fate : ℕ) where
-  pub over_none : number ≡ 0 → fates ≡ over_fate fates count number fate
+module _ (fates : List ℕ) (number fate : ℕ) where
+  pub over_none : number ≡ 0 → fates ≡ over_fate fates number fate
   unfolding over_fate
   over_none z = simp (eq-eqb number 0 z)
 
-  pub over_out : (number ≡ 0 → ⊥) → count ≤ number - 1 → fates ≡ over_fate fates count number fate
+  pub over_out : (number ≡ 0 → ⊥) → length fates ≤ number - 1 → fates ≡ over_fate fates number fate
   unfolding over_fate
-  over_out z h = simp (ne_eqb number 0 z, le-leb count (number - 1) h)
+  over_out z h = simp (ne_eqb number 0 z, le-leb (length fates) (number - 1) h)
 
-  pub over_one : (number ≡ 0 → ⊥) → number - 1 < count → get_or fates (number - 1) 0 ≡ 1 → fates ≡ over_fate fates count number fate
+  pub over_one : (number ≡ 0 → ⊥) → number - 1 < length fates → get_or fates (number - 1) 0 ≡ 1 → fates ≡ over_fate fates number fate
   unfolding over_fate
-  over_one z h e = simp (ne_eqb number 0 z, lt-leb count (number - 1) h, eq-eqb (get_or fates (number - 1) 0) 1 e)
+  over_one z h e = simp (ne_eqb number 0 z, lt-leb (length fates) (number - 1) h, eq-eqb (get_or fates (number - 1) 0) 1 e)
 
-  pub over_set : (number ≡ 0 → ⊥) → number - 1 < count → (get_or fates (number - 1) 0 ≡ 1 → ⊥) →
-      set fates (number - 1) fate ≡ over_fate fates count number fate
+  pub over_set : (number ≡ 0 → ⊥) → number - 1 < length fates → (get_or fates (number - 1) 0 ≡ 1 → ⊥) →
+      set fates (number - 1) fate ≡ over_fate fates number fate
   unfolding over_fate
-  over_set z h e = simp (ne_eqb number 0 z, lt-leb count (number - 1) h, ne_eqb (get_or fates (number - 1) 0) 1 e)
-
-abbrev pub counted : ℕ → List ℕ → Fates
-counted count fates = record { count = count; fates = fates }
+  over_set z h e = simp (ne_eqb number 0 z, lt-leb (length fates) (number - 1) h, ne_eqb (get_or fates (number - 1) 0) 1 e)
 
 -- the loop from the last to the first
 module _ (acts : List Numbered) (own : List ℕ) (n : ℕ) where
@@ -65,25 +61,24 @@ module _ (acts : List Numbered) (own : List ℕ) (n : ℕ) where
       ∙ ap (λ (j : ℕ). record { number = (get_or acts (i - 1) no_numbered).number; fate = get_or own (i - 1) 0 } ∷ marks_from acts own j (n - i))
       {x = suc (i - 1)} {y = i} (omega arith)
 
-  pub overlaid_start : (s : Fates) → s ≡ overlaid_all s (marks_from acts own n (n - n))
-  unfolding overlaid_all over_all
-  overlaid_start s = sym (ap (overlaid_all s) marks_none)
+  pub over_start : (xs : List ℕ) → xs ≡ over_all xs (marks_from acts own n (n - n))
+  unfolding over_all
+  over_start xs = sym (ap (over_all xs) marks_none)
 
-  pub overlaid_back : (s r : Fates) (i : ℕ) → 0 < i → i ≤ n → r ≡ overlaid_all s (marks_from acts own i (n - i)) →
-      overlaid r (get_or acts (i - 1) no_numbered).number (get_or own (i - 1) 0) ≡ overlaid_all s (marks_from acts own (i - 1) (n - (i - 1)))
-  unfolding overlaid_all overlaid over_all
-  overlaid_back s r i h k e =
-      ap (λ (x : Fates). overlaid x (get_or acts (i - 1) no_numbered).number (get_or own (i - 1) 0)) e ∙ sym (ap (overlaid_all s) (marks_back i h k))
+  pub over_back : (xs ys : List ℕ) (i : ℕ) → 0 < i → i ≤ n → ys ≡ over_all xs (marks_from acts own i (n - i)) →
+      over_fate ys (get_or acts (i - 1) no_numbered).number (get_or own (i - 1) 0) ≡ over_all xs (marks_from acts own (i - 1) (n - (i - 1)))
+  unfolding over_all
+  over_back xs ys i h k e =
+      ap (λ (zs : List ℕ). over_fate zs (get_or acts (i - 1) no_numbered).number (get_or own (i - 1) 0)) e ∙ sym (ap (over_all xs) (marks_back i h k))
 
-  pub overlaid_end : (s r : Fates) (i : ℕ) → i ≡ 0 → r ≡ overlaid_all s (marks_from acts own i (n - i)) → r ≡ overlaid_all s (marks_from acts own 0 n)
-  overlaid_end s r i z e = e ∙ ap (λ (k : ℕ). overlaid_all s (marks_from acts own k (n - k))) z
-      ∙ ap (λ (k : ℕ). overlaid_all s (marks_from acts own 0 k)) {x = n - 0} {y = n} (omega arith)
+  pub over_end : (xs ys : List ℕ) (i : ℕ) → i ≡ 0 → ys ≡ over_all xs (marks_from acts own i (n - i)) → ys ≡ over_all xs (marks_from acts own 0 n)
+  over_end xs ys i z e = e ∙ ap (λ (k : ℕ). over_all xs (marks_from acts own k (n - k))) z
+      ∙ ap (λ (k : ℕ). over_all xs (marks_from acts own 0 k)) {x = n - 0} {y = n} (omega arith)
 
 -- the fates of those from the place i on are laid over
-pub record LaidFrom (n : ℕ) (acts : List Numbered) (own : List ℕ) (s r : Fates) (i : ℕ) : Type 0 where
+pub record LaidFrom (n : ℕ) (acts : List Numbered) (own xs ys : List ℕ) (i : ℕ) : Type 0 where
   pub within : i ≤ n
-  pub few : r.count ≤ instruction_places
-  pub over : r ≡ overlaid_all s (marks_from acts own i (n - i))
+  pub over : ys ≡ over_all xs (marks_from acts own i (n - i))
 
 -- ---- no mark gives fate 1
 abbrev NotOne : List Mark → Type 0
@@ -188,7 +183,7 @@ module _ (all : List Numbered) (m : Mark) (ms : List Mark) where
       (mark_set (suc k) j is (omega arith) (omega arith) one) x
 
 -- ---- one more mark in front is one more fate laid over
-module _ (all : List Numbered) (is : List Instruction) (few : length is ≤ instruction_places) where
+module _ (all : List Numbered) (is : List Instruction) where
   abbrev fates_by : List Mark → List ℕ
   fates_by ms = fates_of all ms (numbered 1 is)
 
@@ -196,35 +191,28 @@ module _ (all : List Numbered) (is : List Instruction) (few : length is ≤ inst
   many ms = fates_length all ms (numbered 1 is) ∙ numbered_length 1 is
 
   over_mark : (m : Mark) (ms : List Mark) → NotOne ms →
-      over_fate (filled instruction_places 0 (fates_by ms)) (length is) m.number m.fate ≡ filled instruction_places 0 (fates_by (m ∷ ms))
+      over_fate (fates_by ms) m.number m.fate ≡ fates_by (m ∷ ms)
   over_mark m ms d =
-      let xs : List ℕ = filled instruction_places 0 (fates_by ms) in
+      let xs : List ℕ = fates_by ms in
       let j : ℕ = m.number - 1 in
       elim (ℕ_discrete m.number 0) [
-        | yes z ↦ sym (over_none xs (length is) m.number m.fate z)
-            ∙ sym (ap (filled instruction_places 0) (mark_other all m ms 1 is (λ i p q. omega arith)))
-        | no z ↦ elim (dec_le (length is) j) [
-          | yes h ↦ sym (over_out xs (length is) m.number m.fate z h)
-              ∙ sym (ap (filled instruction_places 0) (mark_other all m ms 1 is (λ i p q. omega arith)))
+        | yes z ↦ sym (over_none xs m.number m.fate z) ∙ sym (mark_other all m ms 1 is (λ i p q. omega arith))
+        | no z ↦ elim (dec_le (length xs) j) [
+          | yes h ↦ sym (over_out xs m.number m.fate z h) ∙ sym (mark_other all m ms 1 is (λ i p q. omega (arith, many ms)))
           | no h ↦
-              let here : get_or xs j 0 ≡ get_or (fates_by ms) j 0 =
-              filled_at 0 instruction_places (fates_by ms) j 0 (omega (arith, many ms)) (omega arith) in
-              elim (ℕ_discrete (get_or (fates_by ms) j 0) 1) [
-                | yes e ↦ sym (over_one xs (length is) m.number m.fate z (omega arith) (here ∙ e))
-                    ∙ sym (ap (filled instruction_places 0) (mark_one all m ms d 1 j is (omega arith) (omega arith) e))
-                | no e ↦
-                    sym (over_set xs (length is) m.number m.fate z (omega arith) (λ q. e (sym here ∙ q)))
-                    ∙ filled_set 0 instruction_places (fates_by ms) j m.fate (omega (arith, many ms)) (omega arith)
-                    ∙ sym (ap (filled instruction_places 0) (mark_set all m ms 1 j is (omega arith) (omega arith) e))
+              let here : j < length is = omega (arith, many ms) in
+              elim (ℕ_discrete (get_or xs j 0) 1) [
+                | yes e ↦ sym (over_one xs m.number m.fate z (omega arith) e) ∙ sym (mark_one all m ms d 1 j is here (omega arith) e)
+                | no e ↦ sym (over_set xs m.number m.fate z (omega arith) e) ∙ sym (mark_set all m ms 1 j is here (omega arith) e)
               ]
         ]
       ]
 
   over_marks : (ns ms : List Mark) → NotOne ns → NotOne ms →
-      over_all (filled instruction_places 0 (fates_by ms)) (length is) ns ≡ filled instruction_places 0 (fates_by (ns ++ ms))
+      over_all (fates_by ms) ns ≡ fates_by (ns ++ ms)
   unfolding over_all
   over_marks [] ms p q = refl
-  over_marks (n ∷ ns) ms p q = ap (λ (xs : List ℕ). over_fate xs (length is) n.number n.fate) (over_marks ns ms p.1 q)
+  over_marks (n ∷ ns) ms p q = ap (λ (xs : List ℕ). over_fate xs n.number n.fate) (over_marks ns ms p.1 q)
       ∙ over_mark n (ns ++ ms) (all_append ns ms p.1 q)
 
 -- ---- the marks of those that act
@@ -285,10 +273,21 @@ module _ (u : UnitData) (now : UnderWay) (os : List Numbered) where
         ap (λ (k : ℕ). get_or (map fate_in own) k 0) e ∙ get_or-map fate_in own j no_mark,
       ))
 
-  pub fates_found : (end : ℕ) (is : List Instruction) → length is ≤ instruction_places →
-      over_all (filled instruction_places 0 (fates_of (numbered 1 is) (validated end (numbered 1 is)).marks (numbered 1 is))) (length is) own
-      ≡ filled instruction_places 0 (fates_of (numbered 1 is) (own ++ (validated end (numbered 1 is)).marks) (numbered 1 is))
-  fates_found end is h =
-      over_marks (numbered 1 is) is h own (validated end (numbered 1 is)).marks (follow_marks u now os).not_one (marks_not end (numbered 1 is))
+  pub fates_found : (end : ℕ) (is : List Instruction) →
+      over_all (fates_of (numbered 1 is) (validated end (numbered 1 is)).marks (numbered 1 is)) own
+      ≡ fates_of (numbered 1 is) (own ++ (validated end (numbered 1 is)).marks) (numbered 1 is)
+  fates_found end is =
+      over_marks (numbered 1 is) is own (validated end (numbered 1 is)).marks (follow_marks u now os).not_one (marks_not end (numbered 1 is))
+
+-- ---- the first places of an array that begins with xs
+module _ (n z : ℕ) (xs : List ℕ) (h : length xs ≤ n) where
+  pub front_of : take (length xs) (filled n z xs) ≡ xs
+  front_of = ap (take (length xs)) (sym (few_filled n z xs h)) ∙ take-append_seam xs (replicate (n - length xs) z)
+
+  -- others in their places
+  pub front_laid : (ys : List ℕ) → length ys ≡ length xs → ys ++ drop (length xs) (filled n z xs) ≡ filled n z ys
+  front_laid ys e = ap (λ (l : List ℕ). ys ++ drop (length xs) l) (sym (few_filled n z xs h))
+      ∙ ap (λ (l : List ℕ). ys ++ l) (drop-append_seam xs (replicate (n - length xs) z))
+      ∙ ap (λ (k : ℕ). ys ++ replicate (n - k) z) (sym e) ∙ few_filled n z ys (omega arith)
 
 pub ruleset overs = (over_none, over_out, over_one, over_set)

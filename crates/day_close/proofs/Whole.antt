@@ -3,7 +3,7 @@ use Prim.Native.Nat.{ℕ, suc, ◌+◌, ◌*◌, ◌-◌, ◌^◌, min, ◌≤�
 use mathlib.Core.Path.{◌≡◌, refl, ap, sym, ◌∙◌, subst}
 use mathlib.Core.List.{List, [], ◌∷◌, ◌++◌, map}
 use native.Mathlib.Omega.{arith}
-use lib.ListN.{length, get_or, length-take}
+use lib.ListN.{length, take, drop, get_or, length-take}
 use lib.Dec.{ltb}
 use Rattle.level.specs.Level.{grains}
 use Rattle.level.specs.Lists.{All, some, list_from, filled}
@@ -11,9 +11,9 @@ use Rattle.level.specs.Numbers.{half_hour, most_half_hours, instruction_places, 
 use Rattle.records.specs.declared.UnitData.{UnitData}
 use Rattle.course.specs.declared.Course.{Course}
 use Rattle.validation.specs.declared.Numbered.{Numbered}
-use Rattle.validation.specs.Kept.{acting, numbered, validated}
+use Rattle.validation.specs.Kept.{Mark, acting, numbered, validated, fates_of}
 use Rattle.validation.proofs.Acting.{Rises, acting_rise}
-use Rattle.validation.proofs.Few.{numbered_length, acts_few}
+use Rattle.validation.proofs.Few.{numbered_length, fates_length, acts_few}
 use Rattle.validation_kept.specs.declared.Validation.{Validation}
 use Rattle.validation_kept.specs.Outcome.{outcome_of, validation_of}
 use Rattle.level.proofs.Arrays.{filled_at}
@@ -39,9 +39,8 @@ use Rattle.profile_follow.specs.declared.FollowedDay.{FollowedDay}
 use Rattle.profile_follow.specs.declared.Walk.{Walk}
 use Rattle.profile_follow.specs.Walk.{fate_in, walk_of, walk_all}
 use Rattle.profile_follow.specs.Following.{Ordered, LowStart, courses_from, last_in, Followable, FollowedBy}
-use Rattle.day_close.specs.declared.Fates.{Fates}
-use Rattle.day_close.specs.Laying.{over_all, overlaid_all, marks_from}
-use Rattle.day_close.proofs.Laying.{own_many, own_marks, fates_found}
+use Rattle.day_close.specs.Laying.{over_all, marks_from}
+use Rattle.day_close.proofs.Laying.{own_many, own_marks, fates_found, front_of, front_laid}
 
 -- ---- those that act stand in order
 rising_ordered : (end a : ℕ) (os : List Numbered) → a ≤ end → All (λ (l : Numbered). a ≤ acting l) os → Rises os →
@@ -125,14 +124,32 @@ module _ (t : Taken) (n : ℕ) (places : length t.instructions ≡ instruction_p
   unfolding walk_all walk_of
   fates_enough r by = omega (arith, ap (λ (x : Walk). length x.fates.these) by.walk, own_many u first v.acts.these)
 
-  abbrev settled : Fates
-  settled = record { count = min t.count instruction_places; fates = v.fates }
+  -- the fates by number, with more marks or none
+  abbrev fates_by : List Mark → List ℕ
+  fates_by ms = fates_of (numbered 1 (entered t)) (ms ++ (validated end (numbered 1 (entered t))).marks) (numbered 1 (entered t))
 
-  fates_are : over_all v.fates (min t.count instruction_places)
-      (marks_from v.acts.these (map fate_in f.marks) 0 (length v.acts.these)) ≡ (arrays_of (found paper n t)).fates
+  abbrev given : ℕ
+  given = min t.count instruction_places
+
+  fates_many : (ms : List Mark) → length (fates_by ms) ≡ given
+  fates_many ms = fates_length (numbered 1 (entered t)) (ms ++ (validated end (numbered 1 (entered t))).marks) (numbered 1 (entered t))
+      ∙ numbered_length 1 (entered t) ∙ as_many
+
+  -- those of validation, with these of the ones that act laid over
+  abbrev pub laid : List ℕ → List ℕ
+  laid own = over_all (take given v.fates) (marks_from v.acts.these own 0 (length v.acts.these)) ++ drop given v.fates
+
+  fates_are : laid (map fate_in f.marks) ≡ (arrays_of (found paper n t)).fates
   unfolding validation_of outcome_of arrays_of found found_by entered
-  fates_are = ap (over_all v.fates (min t.count instruction_places)) (own_marks u first acts)
-      ∙ ap (λ (k : ℕ). over_all v.fates k f.marks) (sym as_many) ∙ fates_found u first acts end (entered t) (omega (arith, as_many))
+  fates_are =
+      let xs : List ℕ = fates_by [] in
+      let few : length xs ≤ instruction_places = omega (arith, fates_many []) in
+      let own : List Mark = marks_from acts (map fate_in f.marks) 0 (length acts) in
+      ap (λ (k : ℕ). over_all (take k v.fates) own ++ drop k v.fates) (sym (fates_many []))
+      ∙ ap (λ (l : List ℕ). over_all l own ++ drop (length xs) v.fates) (front_of instruction_places 0 xs few)
+      ∙ ap (λ (ms : List Mark). over_all xs ms ++ drop (length xs) v.fates) (own_marks u first acts)
+      ∙ ap (λ (l : List ℕ). l ++ drop (length xs) v.fates) (fates_found u first acts end (entered t))
+      ∙ front_laid instruction_places 0 xs few (fates_by f.marks) (fates_many f.marks ∙ sym (fates_many []))
 
   sums_are : list_from (twin_to (spans_of u end courses)) 0 (suc n) ≡ (found paper n t).sums
   unfolding found found_by
@@ -143,18 +160,17 @@ module _ (t : Taken) (n : ℕ) (places : length t.instructions ≡ instruction_p
 
   -- what following comes to, with its fates laid over
   pub find_is : (r : FollowedDay) → FollowedBy u first v.acts.these n r → (record {
-    fates = (overlaid_all settled (marks_from v.acts.these r.walk.fates.these 0 (length v.acts.these))).fates;
+    fates = laid r.walk.fates.these;
     started = length r.walk.courses.these;
     courses = r.walk.courses.these ++ r.walk.courses.spare;
     sums = r.sums;
     last = r.walk.now;
     end = r.end;
   }) ≡ arrays_of (found paper n t)
-  unfolding arrays_of overlaid_all walk_all walk_of courses_from found found_by
+  unfolding arrays_of walk_all walk_of courses_from found found_by
   find_is r by =
       let walk : r.walk ≡ walk_all u first acts = by.walk ∙ ap (walk_all u first) acts_are in
-      let fates =
-      ap (λ (x : Walk). over_all v.fates settled.count (marks_from v.acts.these x.fates.these 0 (length v.acts.these))) walk ∙ fates_are in
+      let fates = ap (λ (x : Walk). laid x.fates.these) walk ∙ fates_are in
       let started = ap (λ (x : Walk). length x.courses.these) walk in
       let few : length courses ≤ course_places =
       omega (arith, courses_few n t, as_many) in

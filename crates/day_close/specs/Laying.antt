@@ -1,29 +1,22 @@
 -- Working. The fates of those that act, laid over those that validation gave.
-use Rattle.std.specs.Prelude.{ℕ, zero, suc, ◌-◌, List, [], ◌∷◌, leb, eqb, get_or, set}
+use Rattle.std.specs.Prelude.{ℕ, zero, suc, ◌-◌, List, [], ◌∷◌, leb, eqb, length, get_or, set}
 use Rattle.level.specs.Choice.{pick}
 use Rattle.validation.specs.declared.Numbered.{Numbered}
 use Rattle.validation.specs.Kept.{Mark}
 use Rattle.validation_groups.specs.Working.{no_numbered}
-use Rattle.day_close.specs.declared.Fates.{Fates}
 
--- one fate laid over: a number that none of the first count has, and a fate of 1, change nothing
-unfoldable pub over_fate : List ℕ → ℕ → ℕ → ℕ → List ℕ
-over_fate fates count number fate =
+-- one fate laid over: a number that none has, and a fate of 1, change nothing
+unfoldable pub over_fate : List ℕ → ℕ → ℕ → List ℕ
+over_fate fates number fate =
     pick (eqb number 0) fates
-    (pick (leb count (number - 1)) fates
+    (pick (leb (length fates) (number - 1)) fates
     (pick (eqb (get_or fates (number - 1) 0) 1) fates
     (set fates (number - 1) fate)))
 
 -- several, the first of them last
-unfoldable pub over_all : List ℕ → ℕ → List Mark → List ℕ
-over_all fates count [] = fates
-over_all fates count (m ∷ ms) = over_fate (over_all fates count ms) count m.number m.fate
-
-unfoldable pub overlaid : Fates → ℕ → ℕ → Fates
-overlaid s number fate = record { count = s.count; fates = over_fate s.fates s.count number fate }
-
-unfoldable pub overlaid_all : Fates → List Mark → Fates
-overlaid_all s ms = record { count = s.count; fates = over_all s.fates s.count ms }
+unfoldable pub over_all : List ℕ → List Mark → List ℕ
+over_all fates [] = fates
+over_all fates (m ∷ ms) = over_fate (over_all fates ms) m.number m.fate
 
 -- k marks from the place i on: those that act, with their fates
 unfoldable pub marks_from : List Numbered → List ℕ → ℕ → ℕ → List Mark

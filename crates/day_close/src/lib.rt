@@ -3,10 +3,10 @@
 #![tactic(auto)]
 
 ghost use Rattle.std.specs.Prelude.{◌≡◌, ◌≤◌, length};
-ghost use Rattle.level.specs.Numbers.{instruction_places, most_half_hours};
+ghost use Rattle.level.specs.Numbers.{most_half_hours};
 ghost use Rattle.profile.specs.Profile.{found, paper};
 ghost use Rattle.profile.specs.Finding.{arrays_of};
-ghost use Rattle.day_close.specs.Laying.{overlaid, overlaid_all, marks_from};
+ghost use Rattle.day_close.specs.Laying.{over_fate, over_all, marks_from};
 ghost use Rattle.day_close.specs.Closed.{close_read};
 
 use profile::{Finding, Taken};
@@ -14,40 +14,28 @@ use records::Refusal;
 
 // ---- the fates
 
-// The fates of the first `count` instructions, by number.
-#[derive(Clone, Copy)]
-pub struct Fates {
-    pub count: usize,
-    pub fates: [u8; level::INSTRUCTIONS],
-}
-
-// One fate laid over: a number that none of the first `count` has, and a fate of 1, change nothing.
-#[tactic(auto, using(crate::proofs::Laying::overs), unfolding(crate::specs::Laying::overlaid))]
-fn lay_fate(s: Fates, number: u32, fate: u8) -> Fates
-    requires { s.count ≤ instruction_places }
-    ensures { result ≡ overlaid s number fate }
+// One fate laid over: a number that none has, and a fate of 1, change nothing.
+#[tactic(auto, using(crate::proofs::Laying::overs))]
+fn lay_fate(fates: &mut [u8], number: u32, fate: u8)
+    ensures { fates.new ≡ over_fate fates.old number fate }
 {
-    let mut next = s;
     if number == 0 {
-        return next;
+        return;
     }
     let at = (number - 1) as usize;
-    if at < s.count && s.fates[at] != 1 {
-        next.fates[at] = fate;
+    if at < fates.len() && fates[at] != 1 {
+        fates[at] = fate;
     }
-    next
 }
 
 // The fates of those that act laid over, the first of them last.
-fn lay_fates(s: Fates, acts: &[validation::Numbered], own: &[u8]) -> Fates
-    requires { (s.count ≤ instruction_places) × (length acts.now ≤ length own.now) }
-    ensures { result ≡ overlaid_all s (marks_from acts.now own.now 0 (length acts.now)) }
+fn lay_fates(fates: &mut [u8], acts: &[validation::Numbered], own: &[u8])
+    requires { length acts.now ≤ length own.now }
+    ensures { fates.new ≡ over_all fates.old (marks_from acts.now own.now 0 (length acts.now)) }
 {
-    let mut out = s;
     for i in (0..acts.len()).rev() {
-        out = lay_fate(out, acts[i].number, own[i]);
+        lay_fate(fates, acts[i].number, own[i]);
     }
-    out
 }
 
 // ---- what close finds
@@ -61,15 +49,10 @@ pub fn find(t: Taken, halves: u32) -> Finding
     let acts = v.acts.as_slice();
     let first = profile_effects::start_course(t.unit, t.start);
     let f = profile_follow::follow_day(t.unit, first, acts, halves);
-    let settled = v.fates;
-    let given = Fates {
-        count: t.count.min(level::INSTRUCTIONS),
-        fates: settled,
-    };
     let w = f.walk;
-    let own = w.fates.as_slice();
-    let over = lay_fates(given, acts, own);
-    let fates = over.fates;
+    let mut fates = v.fates;
+    let given = t.count.min(level::INSTRUCTIONS);
+    lay_fates(&mut fates[..given], acts, w.fates.as_slice());
     let started = w.courses.len();
     let courses = w.courses.into_array();
     let sums = f.sums;

@@ -1,10 +1,10 @@
-use Rattle.std.proofs.Common.{◌≡◌, ◌*◌, length, ap, ◌∙◌, arith}
+use Rattle.std.proofs.Common.{◌≡◌, ◌*◌, ℕ, List, ◌++◌, length, take, drop, ap, ◌∙◌, arith}
 use Rattle.level.specs.Numbers.{half_hour, instruction_places}
 use Rattle.validation_kept.specs.declared.Validation.{Validation}
 use Rattle.validation_kept.specs.Outcome.{validation_of}
 use Rattle.profile.specs.Effects.{start_course}
 use Rattle.profile_follow.specs.Following.{FollowedBy}
-use Rattle.day_close.specs.Laying.{overlaid_all, marks_from}
+use Rattle.day_close.specs.Laying.{over_all, marks_from}
 use Rattle.day_close.proofs.Whole.{Words, acts_fit, fates_enough, find_is}
 use Rattle.day_close.proofs.find.Goals as goal
 
@@ -16,15 +16,13 @@ follow_day-f-requires c =
     rw (c.start_course-first.ensures, c.as_slice-acts.ensures.value, c.validate-v.ensures)
     (acts_fit t c.args.halves places c.requires words)
 
-pub lay_fates-over-requires : goal.lay_fates-over-requires
-lay_fates-over-requires c =
+pub lay_fates-requires : goal.lay_fates-requires
+lay_fates-requires c =
     let t = c.args.t in
     let places : length t.instructions ≡ instruction_places = c.well_formed.0.1.1.1.1.1.1.1.0.1.0.1 in
-    let by = rw (c.start_course-first.ensures, c.as_slice-acts.ensures.value, c.validate-v.ensures) at c.follow_day-f.ensures in (
-      omega (arith, c.min.ensures),
-      rw (c.as_slice-own.ensures.value, c.as_slice-acts.ensures.value, c.validate-v.ensures)
-          (fates_enough t c.args.halves places c.follow_day-f.result by),
-    )
+    let by = rw (c.start_course-first.ensures, c.as_slice-acts.ensures.value, c.validate-v.ensures) at c.follow_day-f.ensures in
+    rw (c.as_slice.ensures.value, c.as_slice-acts.ensures.value, c.validate-v.ensures)
+    (fates_enough t c.args.halves places c.follow_day-f.result by)
 
 pub returns : goal.returns
 returns c =
@@ -37,12 +35,12 @@ returns c =
     let by : FollowedBy t.unit (start_course t.unit t.start) kept.acts.these n r =
     rw (c.start_course-first.ensures, c.as_slice-acts.ensures.value, c.validate-v.ensures) at c.follow_day-f.ensures in
     let acts = c.as_slice-acts.ensures.value ∙ ap (λ (x : Validation). x.acts.these) c.validate-v.ensures in
-    let own = c.as_slice-own.ensures.value in
-    let over = c.lay_fates-over.ensures
-    ∙ (λ i. overlaid_all (record { count = c.min.ensures i; fates = (c.validate-v.ensures i).fates })
-    (marks_from (acts i) (own i) 0 (length (acts i)))) in
+    let own = c.as_slice.ensures.value in
+    let fates = ap (λ (xs : List ℕ). xs ++ drop c.min-given.result c.validate-v.result.fates) c.lay_fates.ensures
+    ∙ (λ i. over_all (take (c.min-given.ensures i) (c.validate-v.ensures i).fates) (marks_from (acts i) (own i) 0 (length (acts i)))
+    ++ drop (c.min-given.ensures i) (c.validate-v.ensures i).fates) in
     (λ i. record {
-      fates = (over i).fates;
+      fates = fates i;
       started = c.len-started.ensures.value i;
       courses = c.into_array-courses.ensures i;
       sums = r.sums;
