@@ -6,7 +6,7 @@ use mathlib.Core.Bool.{Bool, true, false, true≢false}
 use native.Mathlib.Decide.{dec_le, ℕ_discrete}
 use native.Mathlib.Omega.{arith}
 use lib.Dec.{leb, eqb}
-use lib.ListN.{length, take, drop, replicate, get_or, set, length-map, get_or-map}
+use lib.ListN.{length, take, drop, replicate, get_or, set, length-map, length-append}
 use borrow.Author.Tests.{le-leb, lt-leb, eq-eqb, ne_eqb}
 use Rattle.level.specs.Choice.{pick}
 use Rattle.level.specs.Lists.{All, filled}
@@ -26,7 +26,7 @@ use Rattle.level.proofs.FewLists.{few_filled}
 use lib.Seq.{take-append_seam, drop-append_seam}
 use Rattle.profile.proofs.Following.{follow_ind}
 use Rattle.profile_follow.specs.Walk.{fate_in}
-use Rattle.day_close.specs.Laying.{over_fate, over_all, marks_from}
+use Rattle.day_close.specs.Laying.{over_fate, over_all, marks_of}
 
 -- ---- one fate, case by case
 module _ (fates : List ℕ) (number fate : ℕ) where
@@ -48,37 +48,41 @@ module _ (fates : List ℕ) (number fate : ℕ) where
   over_set z h e = simp (ne_eqb number 0 z, lt-leb (length fates) (number - 1) h, ne_eqb (get_or fates (number - 1) 0) 1 e)
 
 -- the loop from the last to the first
-module _ (acts : List Numbered) (own : List ℕ) (n : ℕ) where
-  pub marks_none : marks_from acts own n (n - n) ≡ []
-  unfolding marks_from
-  marks_none = ap (marks_from acts own n) {x = n - n} {y = 0} (omega arith)
+over_append : (xs : List ℕ) (ms ns : List Mark) → over_all xs (ms ++ ns) ≡ over_all (over_all xs ns) ms
+unfolding over_all
+over_append xs [] ns = refl
+over_append xs (m ∷ ms) ns = ap (λ (l : List ℕ). over_fate l m.number m.fate) (over_append xs ms ns)
 
-  pub marks_back : (i : ℕ) → 0 < i → i ≤ n →
-      marks_from acts own (i - 1) (n - (i - 1)) ≡ record { number = (get_or acts (i - 1) no_numbered).number; fate = get_or own (i - 1) 0 } ∷ marks_from acts
-      own i (n - i)
-  unfolding marks_from
-  marks_back i h k = ap (marks_from acts own (i - 1)) {x = n - (i - 1)} {y = suc (n - i)} (omega arith)
-      ∙ ap (λ (j : ℕ). record { number = (get_or acts (i - 1) no_numbered).number; fate = get_or own (i - 1) 0 } ∷ marks_from acts own j (n - i))
-      {x = suc (i - 1)} {y = i} (omega arith)
+marks_last : (os : List Numbered) (fs : List ℕ) (o : Numbered) (f : ℕ) → length os ≡ length fs →
+    marks_of (os ++ (o ∷ [])) (fs ++ (f ∷ [])) ≡ marks_of os fs ++ (record { number = o.number; fate = f } ∷ [])
+unfolding marks_of
+marks_last [] [] o f e = refl
+marks_last [] (x ∷ fs) o f e = absurd (omega arith)
+marks_last (a ∷ os) [] o f e = absurd (omega arith)
+marks_last (a ∷ os) (x ∷ fs) o f e =
+    ap (λ (ms : List Mark). record { number = a.number; fate = x } ∷ ms) (marks_last os fs o f (omega (arith, e)))
 
-  pub over_start : (xs : List ℕ) → xs ≡ over_all xs (marks_from acts own n (n - n))
-  unfolding over_all
-  over_start xs = sym (ap (over_all xs) marks_none)
+-- the fates of those left are to be laid over these to come to the whole
+pub record LeftToLay (os : List Numbered) (fs ys whole : List ℕ) : Type 0 where
+  pub paired : length os ≡ length fs
+  pub over : over_all ys (marks_of os fs) ≡ whole
 
-  pub over_back : (xs ys : List ℕ) (i : ℕ) → 0 < i → i ≤ n → ys ≡ over_all xs (marks_from acts own i (n - i)) →
-      over_fate ys (get_or acts (i - 1) no_numbered).number (get_or own (i - 1) 0) ≡ over_all xs (marks_from acts own (i - 1) (n - (i - 1)))
-  unfolding over_all
-  over_back xs ys i h k e =
-      ap (λ (zs : List ℕ). over_fate zs (get_or acts (i - 1) no_numbered).number (get_or own (i - 1) 0)) e ∙ sym (ap (over_all xs) (marks_back i h k))
+pub last_laid : {os : List Numbered} {fs ys whole : List ℕ} (os' : List Numbered) (fs' : List ℕ) (o : Numbered) (f : ℕ) →
+    os ≡ os' ++ (o ∷ []) → fs ≡ fs' ++ (f ∷ []) → LeftToLay os fs ys whole → LeftToLay os' fs' (over_fate ys o.number f) whole
+unfolding over_all
+last_laid {os} {fs} {ys} {whole} os' fs' o f a b v =
+    let e : length os' ≡ length fs' =
+    omega (arith, v.paired, ap length a, ap length b, length-append os' (o ∷ []), length-append fs' (f ∷ [])) in
+    record {
+      paired = e;
+      over = sym (over_append ys (marks_of os' fs') (record { number = o.number; fate = f } ∷ []))
+          ∙ ap (over_all ys) (sym (marks_last os' fs' o f e)) ∙ (λ i. over_all ys (marks_of (sym a i) (sym b i))) ∙ v.over;
+    }
 
-  pub over_end : (xs ys : List ℕ) (i : ℕ) → i ≡ 0 → ys ≡ over_all xs (marks_from acts own i (n - i)) → ys ≡ over_all xs (marks_from acts own 0 n)
-  over_end xs ys i z e = e ∙ ap (λ (k : ℕ). over_all xs (marks_from acts own k (n - k))) z
-      ∙ ap (λ (k : ℕ). over_all xs (marks_from acts own 0 k)) {x = n - 0} {y = n} (omega arith)
-
--- the fates of those from the place i on are laid over
-pub record LaidFrom (n : ℕ) (acts : List Numbered) (own xs ys : List ℕ) (i : ℕ) : Type 0 where
-  pub within : i ≤ n
-  pub over : ys ≡ over_all xs (marks_from acts own i (n - i))
+pub all_laid : (os : List Numbered) (fs ys whole : List ℕ) → length os ≡ 0 → LeftToLay os fs ys whole → ys ≡ whole
+unfolding over_all marks_of
+all_laid [] fs ys whole e v = v.over
+all_laid (o ∷ os) fs ys whole e v = absurd (omega arith)
 
 -- ---- no mark gives fate 1
 abbrev NotOne : List Mark → Type 0
@@ -219,21 +223,14 @@ module _ (all : List Numbered) (is : List Instruction) where
 abbrev no_mark : Mark
 no_mark = record { number = 0; fate = 0 }
 
-marks_are : (acts : List Numbered) (own : List ℕ) (i : ℕ) (ms : List Mark) →
-    ((j : ℕ) → j < length ms → ((get_or acts (i + j) no_numbered).number ≡ (get_or ms j no_mark).number) ×
-    (get_or own (i + j) 0 ≡ (get_or ms j no_mark).fate)) → marks_from acts own i (length ms) ≡ ms
-unfolding marks_from
-marks_are acts own i [] h = refl
-marks_are acts own i (m ∷ ms) h =
-    let a = h 0 (omega arith) in
-    let e : i + 0 ≡ i = omega arith in
-    λ x. record {
-      number = (ap (λ (k : ℕ). (get_or acts k no_numbered).number) (sym e) ∙ a.0) x;
-      fate = (ap (λ (k : ℕ). get_or own k 0) (sym e) ∙ a.1) x;
-    } ∷ (marks_are acts own (suc i) ms (λ j p.
-    let b = h (suc j) (omega arith) in
-    let f : suc i + j ≡ i + suc j = omega arith in
-    (ap (λ (k : ℕ). (get_or acts k no_numbered).number) f ∙ b.0, ap (λ (k : ℕ). get_or own k 0) f ∙ b.1))) x
+marks_are : (os : List Numbered) (ms : List Mark) → length ms ≡ length os →
+    ((j : ℕ) → (get_or ms j no_mark).number ≡ (get_or os j no_numbered).number) → marks_of os (map fate_in ms) ≡ ms
+unfolding marks_of
+marks_are [] [] e h = refl
+marks_are [] (m ∷ ms) e h = absurd (omega arith)
+marks_are (o ∷ os) [] e h = absurd (omega arith)
+marks_are (o ∷ os) (m ∷ ms) e h =
+    λ x. record { number = sym (h 0) x; fate = m.fate } ∷ marks_are os ms (omega (arith, e)) (λ j. h (suc j)) x
 
 -- as many as act, with their numbers, and none has fate 1
 record MarksOf (ms : List Mark) (ns : List Numbered) : Type 0 where
@@ -264,14 +261,8 @@ module _ (u : UnitData) (now : UnderWay) (os : List Numbered) where
   own_many = length-map own fate_in ∙ (follow_marks u now os).many
 
   -- those that act, with these fates
-  pub own_marks : marks_from os (map fate_in own) 0 (length os) ≡ own
-  own_marks =
-      let f = follow_marks u now os in
-      ap (marks_from os (map fate_in own) 0) (sym f.many) ∙ marks_are os (map fate_in own) 0 own (λ j p.
-      let e : 0 + j ≡ j = omega arith in (
-        ap (λ (k : ℕ). (get_or os k no_numbered).number) e ∙ sym (f.numbers j),
-        ap (λ (k : ℕ). get_or (map fate_in own) k 0) e ∙ get_or-map fate_in own j no_mark,
-      ))
+  pub own_marks : marks_of os (map fate_in own) ≡ own
+  own_marks = let f = follow_marks u now os in marks_are os own f.many f.numbers
 
   pub fates_found : (end : ℕ) (is : List Instruction) →
       over_all (fates_of (numbered 1 is) (validated end (numbered 1 is)).marks (numbered 1 is)) own

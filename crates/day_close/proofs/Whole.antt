@@ -39,7 +39,7 @@ use Rattle.profile_follow.specs.declared.FollowedDay.{FollowedDay}
 use Rattle.profile_follow.specs.declared.Walk.{Walk}
 use Rattle.profile_follow.specs.Walk.{fate_in, walk_of, walk_all}
 use Rattle.profile_follow.specs.Following.{Ordered, LowStart, courses_from, last_in, Followable, FollowedBy}
-use Rattle.day_close.specs.Laying.{over_all, marks_from}
+use Rattle.day_close.specs.Laying.{over_all, marks_of}
 use Rattle.day_close.proofs.Laying.{own_many, own_marks, fates_found, front_of, front_laid}
 
 -- ---- those that act stand in order
@@ -120,7 +120,7 @@ module _ (t : Taken) (n : ℕ) (places : length t.instructions ≡ instruction_p
   acts_fit long w = rw acts_are (record { few = few_acts; long = long; ordered = in_order; starts = starts_low w })
 
   -- a fate for each of them
-  pub fates_enough : (r : FollowedDay) → FollowedBy u first v.acts.these n r → length v.acts.these ≤ length r.walk.fates.these
+  pub fates_enough : (r : FollowedDay) → FollowedBy u first v.acts.these n r → length v.acts.these ≡ length r.walk.fates.these
   unfolding walk_all walk_of
   fates_enough r by = omega (arith, ap (λ (x : Walk). length x.fates.these) by.walk, own_many u first v.acts.these)
 
@@ -137,14 +137,14 @@ module _ (t : Taken) (n : ℕ) (places : length t.instructions ≡ instruction_p
 
   -- those of validation, with these of the ones that act laid over
   abbrev pub laid : List ℕ → List ℕ
-  laid own = over_all (take given v.fates) (marks_from v.acts.these own 0 (length v.acts.these)) ++ drop given v.fates
+  laid own = over_all (take given v.fates) (marks_of v.acts.these own) ++ drop given v.fates
 
   fates_are : laid (map fate_in f.marks) ≡ (arrays_of (found paper n t)).fates
   unfolding validation_of outcome_of arrays_of found found_by entered
   fates_are =
       let xs : List ℕ = fates_by [] in
       let few : length xs ≤ instruction_places = omega (arith, fates_many []) in
-      let own : List Mark = marks_from acts (map fate_in f.marks) 0 (length acts) in
+      let own : List Mark = marks_of acts (map fate_in f.marks) in
       ap (λ (k : ℕ). over_all (take k v.fates) own ++ drop k v.fates) (sym (fates_many []))
       ∙ ap (λ (l : List ℕ). over_all l own ++ drop (length xs) v.fates) (front_of instruction_places 0 xs few)
       ∙ ap (λ (ms : List Mark). over_all xs ms ++ drop (length xs) v.fates) (own_marks u first acts)

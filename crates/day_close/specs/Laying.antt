@@ -1,9 +1,8 @@
 -- Working. The fates of those that act, laid over those that validation gave.
-use Rattle.std.specs.Prelude.{ℕ, zero, suc, ◌-◌, List, [], ◌∷◌, leb, eqb, length, get_or, set}
+use Rattle.std.specs.Prelude.{ℕ, ◌-◌, List, [], ◌∷◌, leb, eqb, length, get_or, set}
 use Rattle.level.specs.Choice.{pick}
 use Rattle.validation.specs.declared.Numbered.{Numbered}
 use Rattle.validation.specs.Kept.{Mark}
-use Rattle.validation_groups.specs.Working.{no_numbered}
 
 -- one fate laid over: a number that none has, and a fate of 1, change nothing
 unfoldable pub over_fate : List ℕ → ℕ → ℕ → List ℕ
@@ -18,7 +17,8 @@ unfoldable pub over_all : List ℕ → List Mark → List ℕ
 over_all fates [] = fates
 over_all fates (m ∷ ms) = over_fate (over_all fates ms) m.number m.fate
 
--- k marks from the place i on: those that act, with their fates
-unfoldable pub marks_from : List Numbered → List ℕ → ℕ → ℕ → List Mark
-marks_from acts own i zero = []
-marks_from acts own i (suc k) = record { number = (get_or acts i no_numbered).number; fate = get_or own i 0 } ∷ marks_from acts own (suc i) k
+-- those that act, each with its fate
+unfoldable pub marks_of : List Numbered → List ℕ → List Mark
+marks_of [] xs = []
+marks_of (o ∷ os) [] = []
+marks_of (o ∷ os) (x ∷ xs) = record { number = o.number; fate = x } ∷ marks_of os xs

@@ -6,7 +6,7 @@ ghost use Rattle.std.specs.Prelude.{◌≡◌, ◌≤◌, length};
 ghost use Rattle.level.specs.Numbers.{most_half_hours};
 ghost use Rattle.profile.specs.Profile.{found, paper};
 ghost use Rattle.profile.specs.Finding.{arrays_of};
-ghost use Rattle.day_close.specs.Laying.{over_fate, over_all, marks_from};
+ghost use Rattle.day_close.specs.Laying.{over_fate, over_all, marks_of};
 ghost use Rattle.day_close.specs.Closed.{close_read};
 
 use profile::{Finding, Taken};
@@ -30,11 +30,11 @@ fn lay_fate(fates: &mut [u8], number: u32, fate: u8)
 
 // The fates of those that act laid over, the first of them last.
 fn lay_fates(fates: &mut [u8], acts: &[validation::Numbered], own: &[u8])
-    requires { length acts.now ≤ length own.now }
-    ensures { fates.new ≡ over_all fates.old (marks_from acts.now own.now 0 (length acts.now)) }
+    requires { length acts.now ≡ length own.now }
+    ensures { fates.new ≡ over_all fates.old (marks_of acts.now own.now) }
 {
-    for i in (0..acts.len()).rev() {
-        lay_fate(fates, acts[i].number, own[i]);
+    for (o, fate) in acts.iter().rev().zip(own.iter().rev()) {
+        lay_fate(fates, o.number, *fate);
     }
 }
 

@@ -4,7 +4,7 @@ use Rattle.validation_kept.specs.declared.Validation.{Validation}
 use Rattle.validation_kept.specs.Outcome.{validation_of}
 use Rattle.profile.specs.Effects.{start_course}
 use Rattle.profile_follow.specs.Following.{FollowedBy}
-use Rattle.day_close.specs.Laying.{over_all, marks_from}
+use Rattle.day_close.specs.Laying.{over_all, marks_of}
 use Rattle.day_close.proofs.Whole.{Words, acts_fit, fates_enough, find_is}
 use Rattle.day_close.proofs.find.Goals as goal
 
@@ -37,7 +37,7 @@ returns c =
     let acts = c.as_slice-acts.ensures.value ∙ ap (λ (x : Validation). x.acts.these) c.validate-v.ensures in
     let own = c.as_slice.ensures.value in
     let fates = ap (λ (xs : List ℕ). xs ++ drop c.min-given.result c.validate-v.result.fates) c.lay_fates.ensures
-    ∙ (λ i. over_all (take (c.min-given.ensures i) (c.validate-v.ensures i).fates) (marks_from (acts i) (own i) 0 (length (acts i)))
+    ∙ (λ i. over_all (take (c.min-given.ensures i) (c.validate-v.ensures i).fates) (marks_of (acts i) (own i))
     ++ drop (c.min-given.ensures i) (c.validate-v.ensures i).fates) in
     (λ i. record {
       fates = fates i;

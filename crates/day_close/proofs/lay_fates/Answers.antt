@@ -1,20 +1,27 @@
-use Rattle.std.proofs.Common.{◌∙◌, arith, length}
-use Rattle.day_close.proofs.Laying.{over_start, over_back, over_end}
+use Rattle.std.proofs.Common.{rules, ◌≡◌, length, ap, ◌∙◌, arith, inl, inr}
+use Rattle.day_close.specs.Laying.{over_all, marks_of}
+use Rattle.day_close.proofs.Laying.{last_laid, all_laid}
 use Rattle.day_close.proofs.lay_fates.Goals as goal
 
-pub loop-i-init : goal.loop-i-init
-loop-i-init c = record { within = omega arith; over = over_start _ _ _ _ }
-
-pub loop-i-preserved : goal.loop-i-preserved
-loop-i-preserved c =
-    let os = c.args.acts.now in
+pub loop-o-init : goal.loop-o-init
+loop-o-init c =
+    let a : c.into_iter-o-iterator.result.a.iter.rest.now ≡ c.args.acts.now = search rules in
+    let b : c.into_iter-o-iterator.result.b.iter.rest.now ≡ c.args.own.now = search rules in
     record {
-      within = omega arith;
-      over = c.lay_fate.ensures
-          ∙ over_back os c.args.own.now (length os) _ _ c.loop-i.i (omega arith) (omega arith) c.loop-i.invariant.over;
+      paired = omega (arith, ap length a, ap length b, c.requires);
+      over = λ i. over_all c.args.fates.now (marks_of (a i) (b i));
     }
+
+pub loop-o-preserved : goal.loop-o-preserved
+loop-o-preserved c =
+    let s = c.in-Some.ensures.steps in
+    rw c.lay_fate.ensures (last_laid _ _ _ _ s.0 s.1 c.loop-o.invariant)
 
 pub returns : goal.returns
 returns c =
-    let os = c.args.acts.now in
-    over_end os c.args.own.now (length os) _ _ c.loop-i.i (omega arith) c.loop-i.invariant.over
+    let v = c.loop-o.invariant in
+    let none : length c.loop-o.o-iterator.a.iter.rest.now ≡ 0 = elim c.in-None.ensures.steps [
+      | inl e ↦ e.1.0
+      | inr e ↦ v.paired ∙ e.1.0
+    ] in
+    all_laid _ _ _ _ none v

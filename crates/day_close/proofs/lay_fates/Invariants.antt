@@ -1,6 +1,6 @@
-use Rattle.std.proofs.Common.{length}
-use Rattle.day_close.proofs.Laying.{LaidFrom}
+use Rattle.day_close.specs.Laying.{over_all, marks_of}
+use Rattle.day_close.proofs.Laying.{LeftToLay}
 use Rattle.day_close.proofs.lay_fates.Given as goal
 
-abbrev pub invariant-loop-i : goal.invariant-loop-i
-invariant-loop-i l = LaidFrom (length l.acts) l.acts l.own l.initial.fates l.fates l.i
+abbrev pub invariant-loop-o : goal.invariant-loop-o
+invariant-loop-o l = LeftToLay l.o-iterator.a.iter.rest.now l.o-iterator.b.iter.rest.now l.fates (over_all l.initial.fates (marks_of l.acts l.own))
