@@ -15,6 +15,7 @@ use records::Refusal;
 // ---- the fates
 
 // One fate laid over: a number that none has, and a fate of 1, change nothing.
+// Kept by its index: with `get_mut` the same test stands in an `if` within an `if let`, which is no plainer.
 #[tactic(auto, using(crate::proofs::Laying::overs))]
 fn lay_fate(fates: &mut [u8], number: u32, fate: u8)
     ensures { fates.new ≡ over_fate fates.old number fate }
