@@ -25,10 +25,7 @@ fn malformed(rt: &HostRuntime) -> Result<bool, Failure> {
 // `A answer number`
 #[tactic(auto, using(lines::proofs::Decimals::line_two, lines::proofs::Decimals::word_width))]
 fn put_answer(rt: &HostRuntime, answer: Result<(), Refusal>, number: usize) -> Result<(), Failure> {
-    let n = match answer {
-        Ok(()) => 0,
-        Err(refusal) => refusal.number(),
-    };
+    let n = gristpebble::answer_number(answer);
     let mut line = [0u8; 44];
     let vs = [n as u64, number as u64];
     let count = lines_text::put_line(&mut line, b'A', &vs);
@@ -72,6 +69,7 @@ fn list_day(rt: &HostRuntime, day: &Day, n: usize) -> Result<bool, Failure> {
     let listed = listing_print::list(*day, out);
     let count = listed.unwrap_or(0);
     put_answer(rt, listed.map(|_| ()), count)?;
+    // as many bytes as were counted are there; no proof says so here
     put(rt, out.get(..count).ok_or(Failure::Unwritten)?)?;
     Ok(true)
 }

@@ -10,7 +10,7 @@ use Rattle.level.specs.Numbers.{instruction_places, boundary_places}
 use Rattle.records.specs.declared.Instruction.{Instruction}
 use Rattle.records.specs.Records.{numbers, no_instruction}
 use Rattle.records.specs.Fields.{unit_answer}
-use Rattle.std.specs.Prelude.{Ok, Err}
+use Rattle.std.specs.Prelude.{Ok}
 use Rattle.validation.specs.Kept.{numbered, validated}
 use Rattle.profile.specs.declared.Taken.{Taken}
 use Rattle.profile.specs.declared.Finding.{Finding}

@@ -12,7 +12,7 @@ use Rattle.level.proofs.Lists.{and_true, or_false}
 use Rattle.records.specs.declared.Column.{Column}
 use Rattle.records.specs.declared.UnitData.{UnitData}
 use Rattle.records.specs.declared.Opening.{Opening}
-use Rattle.std.specs.Prelude.{Ok, Err}
+use Rattle.std.specs.Prelude.{Ok}
 use Rattle.records.specs.declared.Refusal.TheVariants.{UnitField, UnitDisagrees, OpeningField}
 use Rattle.records.specs.Answers.{accepted, refusing, first_refusal}
 use Rattle.records.specs.Records.{unit_of, opening_of}

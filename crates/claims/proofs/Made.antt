@@ -13,7 +13,7 @@ use Rattle.level.specs.Choice.{pick}
 use Rattle.level.specs.Lists.{those, some, filled}
 use Rattle.level.specs.Numbers.{instruction_places}
 use Rattle.level.proofs.Lists.{by_bool, some_append}
-use Rattle.std.specs.Prelude.{Ok, Err}
+use Rattle.std.specs.Prelude.{Ok}
 use Rattle.records.specs.Records.{size_of, numbers, unit_of, column_of, trigger_of, opening_of, instruction_of, no_instruction}
 use Rattle.records.specs.Fields.{unit_answer}
 use Rattle.profile.specs.declared.Taken.{Taken}

@@ -11,7 +11,7 @@ use Rattle.level.specs.Lists.{All, filled, list_from}
 use Rattle.level.specs.Bounds.{most_seconds}
 use Rattle.level.specs.Numbers.{instruction_places, course_places}
 use Rattle.records.specs.declared.UnitData.{UnitData}
-use Rattle.std.specs.Prelude.{Ok, Err}
+use Rattle.std.specs.Prelude.{Ok}
 use Rattle.records.specs.Records.{numbers}
 use Rattle.course.specs.declared.Course.{Course}
 use Rattle.course.specs.declared.Piece.{Piece}

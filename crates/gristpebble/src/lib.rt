@@ -2,6 +2,7 @@
 #![tactic(auto)]
 
 ghost use Rattle.std.specs.Prelude.{◌≡◌};
+ghost use Rattle.records.specs.Answers.{number_of};
 ghost use Rattle.listing.specs.Result.{listed, listed_result, listed_lent};
 
 use day_step::take_record;
@@ -31,5 +32,15 @@ pub fn gristpebble_listing(input: &[u8], out: &mut [u8]) -> u64
     match listing(input, out) {
         Ok(count) => count as u64,
         Err(refusal) => u64::from(refusal.number()) * 4294967296,
+    }
+}
+
+// The paper's number of an answer: 0 for an acceptance.
+pub fn answer_number(answer: Result<(), Refusal>) -> u8
+    ensures { result ≡ number_of answer }
+{
+    match answer {
+        Ok(()) => 0,
+        Err(refusal) => refusal.number(),
     }
 }

@@ -1,7 +1,7 @@
 -- Working. The laws of the two places for lines.
 use Rattle.std.proofs.Common.{refl, arith, ◌∙◌, length-append}
 use Rattle.lines.specs.Writing.{SinkLaws}
-use Rattle.lines.proofs.Sinks.{counted_more, filled_none, filled_length, filled_more}
+use Rattle.lines.specs.Filled.{counted_more, filled_none, filled_length, filled_more}
 use Rattle.lines_kinds.specs.Sinks.{can_count, counts, can_keep, keeps}
 
 pub counting : SinkLaws can_count counts

@@ -25,7 +25,7 @@ pub trait Sink {
 }
 
 // How many bytes the lines have.
-#[derive(Clone, Copy, Debug, Default, PartialEq, Eq)]
+#[derive(Clone, Copy, Default)]
 pub struct Measure {
     pub width: usize,
 }

@@ -1,4 +1,4 @@
-use Rattle.std.proofs.Common.{◌≡◌, Ok, Err, length, refl, ap, sym, ◌∙◌, arith}
+use Rattle.std.proofs.Common.{◌≡◌, Err, length, refl, ap, sym, ◌∙◌, arith}
 use borrow.Author.Tests.{leb-true}
 use Rattle.day.specs.declared.Day.{Day}
 use Rattle.listing.specs.Listing.{suffices}

@@ -1,6 +1,7 @@
 use Rattle.std.proofs.Common.{arith, length-set, length-take, length-drop}
 use Rattle.lines.specs.Text.{field}
-use Rattle.lines.proofs.Sinks.{filled_byte, filled_more, filled_tail, filled_front}
+use Rattle.lines.specs.Filled.{filled_more}
+use Rattle.lines.proofs.Sinks.{filled_byte, filled_tail, filled_front}
 use Rattle.lines_text.proofs.put_field.Goals as goal
 
 pub bounds-out-0 : goal.bounds-out-0
