@@ -115,7 +115,9 @@ pub struct Passed {
 }
 
 // From where a course was reached towards the second n: every piece that ends before n is added. The one that n cuts is not:
-// the course may go on. (A `while`: it goes along a course, which is no list, and stops within a piece.)
+// the course may go on. (A `while`: it goes along a course, which is no list, and stops within a piece.) The hint puts it in its
+// place at both of its calls, in the loop over those that act and at the day's end.
+#[inline(always)]
 pub fn pass_to(
     sums: &mut [u64; level::BOUNDARIES],
     before: u64,
