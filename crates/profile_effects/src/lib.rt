@@ -172,21 +172,11 @@ pub fn start_course(u: UnitData, s: Start) -> UnderWay
     under_way(u, 0, g, s.off)
 }
 
-// The second at which an instruction acts, where it fits.
-#[tactic(auto, unfolding(validation::specs::Kept::acting))]
-pub fn acting_second(o: Numbered) -> u32
-    requires { acting o < 2 ^ 32 }
-    ensures { result ≡ acting o }
-{
-    let i = o.instruction;
-    i.effective + i.meaning.lag
-}
-
 // The course that an instruction of fate 0 begins at its acting second with what it sets.
 #[tactic(auto, unfolding(profile::specs::Effects::begun))]
 pub fn begin_course(u: UnitData, o: Numbered, g: Setting, s: State) -> UnderWay
     requires { acting o < 2 ^ 32 }
     ensures { result ≡ begun u o g s }
 {
-    under_way(u, acting_second(o), g, s.off)
+    under_way(u, o.acting() as u32, g, s.off)
 }

@@ -144,7 +144,7 @@ pub fn follow_day(u: UnitData, first: UnderWay, acts: &[Numbered], halves: u32) 
     let mut g = OnCourse::set_out(u, first, 0);
     let mut sums = [0u64; level::BOUNDARIES];
     for o in acts {
-        let t = profile_effects::acting_second(*o);
+        let t = o.acting() as u32;
         let s = profile_areas::pass_to(&mut sums, g.total, &g.route, g.reached, g.off, t);
         let state = state_at(s.ahead, s.later);
         match profile_effects::outcome_of(u, w.now, *o, state) {

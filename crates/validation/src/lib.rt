@@ -1,8 +1,8 @@
 // Which instructions are kept.
 #![tactic(auto)]
 
-ghost use Rattle.std.specs.Prelude.{◌≡◌};
-ghost use Rattle.validation.specs.Kept.{effect_of};
+ghost use Rattle.std.specs.Prelude.{◌≡◌, ◌<◌, ◌^◌};
+ghost use Rattle.validation.specs.Kept.{effect_of, acting};
 
 // An instruction with its number. A carrier has the level and the rates of the MWOF that it carries.
 #[derive(Clone, Copy)]
@@ -17,5 +17,15 @@ impl Numbered {
         ensures { result ≡ effect_of self.now }
     {
         self.instruction.meaning.effect
+    }
+
+    // The second at which it acts: effective time and lag. The sum of two numbers of a record may pass 32 bits.
+    #[tactic(auto, unfolding(crate::specs::Kept::acting))]
+    pub fn acting(&self) -> u64
+        ensures { (result ≡ acting self.now) × (result < 2 ^ 33) }
+    {
+        let i = self.instruction;
+        let lag = i.meaning.lag as u64;
+        i.effective as u64 + lag
     }
 }

@@ -22,8 +22,7 @@ use Rattle.validation.specs.declared.Numbered.{Numbered}
 use Rattle.validation.specs.Kept.{numbered, superseded, acting, overtaken, late_fate, actors, late_marks}
 use Rattle.validation_groups.specs.Working.{no_numbered, numbered_at, issue_time_of, time_at, latest_at}
 use Rattle.validation_groups.proofs.Laws.{superseded_is}
-use Rattle.validation_sequence.specs.Working.{never}
-use Rattle.validation_kept.specs.Late.{settle_fate, settled, earliest_acting, late_fate_by, fates_to}
+use Rattle.validation_kept.specs.Late.{settle_fate, settled, never, earliest_acting, late_fate_by, fates_to}
 
 -- ---- the instructions as entered
 number_last : (k : ℕ) (is : List Instruction) (x : Instruction) →

@@ -5,7 +5,10 @@ use Rattle.level.specs.Numbers.{instruction_places}
 use Rattle.validation.specs.declared.Numbered.{Numbered}
 use Rattle.validation.specs.Kept.{Mark, acting, superseded, late_fate, late_marks}
 use Rattle.validation_groups.specs.Working.{no_numbered, in_time_order}
-use Rattle.validation_sequence.specs.Working.{never}
+
+-- later than any acting time: what two numbers of 32 bits cannot add up to
+abbrev pub never : ℕ
+never = 8589934592
 
 -- the earliest acting time of these; where there is none, one later than any
 unfoldable pub earliest_acting : List Numbered → ℕ

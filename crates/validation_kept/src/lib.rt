@@ -13,7 +13,7 @@ use level::INSTRUCTIONS;
 use records::Instruction;
 use validation::Numbered;
 use validation_groups::{Sequence, in_order, latest_of, none, used_in};
-use validation_sequence::{acting_time, check_all, place_of};
+use validation_sequence::{check_all, place_of};
 
 // What steps 1 to 4 come to: the fates by number, and those that act, in time order.
 // A fate stays a number: the paper names it so, and so it is printed; an enum would be a table each way.
@@ -66,7 +66,7 @@ fn late_fates(kept: &[Numbered], end: u32) -> [u8; INSTRUCTIONS]
     let mut out = [0; INSTRUCTIONS];
     let mut earliest = NEVER;
     for i in (0..kept.len()).rev() {
-        let own = acting_time(&kept[i]);
+        let own = kept[i].acting();
         out[i] = late_fate(earliest, own, end);
         earliest = earliest.min(own);
     }

@@ -8,7 +8,7 @@ use Rattle.validation.specs.declared.Numbered.{Numbered}
 use Rattle.validation.specs.Kept.{effect_of, effective_of, Mark, Checked, turned, failed, sync_within_hour}
 use Rattle.validation_groups.specs.Working.{no_numbered}
 
--- ---- step 3: the kept ones stand in time order, the latest last; fates by number, 2 where none is settled
+-- the kept ones stand in time order, the latest last; fates by number, 2 where none is settled
 
 -- one fate set; the marks set, the first of them last
 unfoldable pub set_fate : List ℕ → ℕ → ℕ → List ℕ
@@ -61,7 +61,3 @@ pub record SetsOut (used : List Numbered) (fates : List ℕ) : Type 0 where
 pub record StepThree (kept : List Numbered) (fates : List ℕ) (m : Checked) : Type 0 where
   pub few : length kept ≤ instruction_places
   pub tracks : Tracks kept fates m
-
--- later than any acting time: what two numbers of 32 bits cannot add up to
-abbrev pub never : ℕ
-never = 8589934592

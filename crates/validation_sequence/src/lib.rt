@@ -1,17 +1,15 @@
 // Which instructions are kept, step 3: in time order, each against the last kept one.
 #![tactic(auto)]
 
-ghost use Rattle.std.specs.Prelude.{◌≡◌, ◌-◌, ◌<◌, ◌≤◌, [], map, length, option_to_list, option_copied, MatchOption};
+ghost use Rattle.std.specs.Prelude.{◌≡◌, ◌-◌, [], map, length, option_to_list, option_copied, MatchOption};
 ghost use Rattle.level.specs.Numbers.{instruction_places};
-ghost use Rattle.validation.specs.Kept.{mark, repeats, turned, check, acting};
-ghost use Rattle.validation_sequence.specs.Working.{set_fate, marked, none_checked, NoSync, LatestSync, NoneWithinHour, LatestWithinHour, FailedOne, SetsOut, never, StepThree};
+ghost use Rattle.validation.specs.Kept.{mark, repeats, turned, check};
+ghost use Rattle.validation_sequence.specs.Working.{set_fate, marked, none_checked, NoSync, LatestSync, NoneWithinHour, LatestWithinHour, FailedOne, SetsOut, StepThree};
 
 use level::INSTRUCTIONS;
 use records::Effect;
 use validation::Numbered;
 use validation_groups::{Sequence, none};
-
-// ---- step 3: in time order, against the last kept one
 
 // The place of the instruction of a number: the numbers begin at 1.
 pub fn place_of(number: u32) -> usize
@@ -104,17 +102,4 @@ pub fn check_all(used: &[Numbered], fates: &mut [u8; INSTRUCTIONS]) -> Sequence
         }
     }
     kept
-}
-
-// ---- step 4: by acting time
-
-// Effective time and lag. The sum of two numbers of a record may pass 32 bits.
-#[tactic(auto, unfolding(validation::specs::Kept::acting))]
-pub fn acting_time(o: &Numbered) -> u64
-    ensures { (result ≡ acting o.now) × (result < never) }
-{
-    let i = o.instruction;
-    let m = i.meaning;
-    let lag = m.lag as u64;
-    i.effective as u64 + lag
 }

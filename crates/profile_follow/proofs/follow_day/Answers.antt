@@ -14,22 +14,22 @@ loop-o-init c = record {
       c.requires.ordered c.requires.starts;
 }
 
-pub acting_second-t-requires : goal.acting_second-t-requires
-acting_second-t-requires c =
+pub overflow_cast-t : goal.overflow_cast-t
+overflow_cast-t c =
     let soon = within_day c.requires.long (one_acts c.loop-o.invariant c.loop-o-test.true) in
     omega arith
 
 pub pass_to-s-requires : goal.pass_to-s-requires
-pass_to-s-requires c = course_ahead c.requires.long (one_acts c.loop-o.invariant c.loop-o-test.true) c.acting_second-t.ensures
+pass_to-s-requires c = course_ahead c.requires.long (one_acts c.loop-o.invariant c.loop-o-test.true) c.acting-t.ensures.0
 
 pub note_piece-total-requires : goal.note_piece-total-requires
 note_piece-total-requires c =
-    piece_ahead c.requires.long (one_acts c.loop-o.invariant c.loop-o-test.true) c.acting_second-t.ensures c.pass_to-s.ensures
+    piece_ahead c.requires.long (one_acts c.loop-o.invariant c.loop-o-test.true) c.acting-t.ensures.0 c.pass_to-s.ensures
 
 pub loop-o-preserved : goal.loop-o-preserved
 unfolding went_on replaced_by
 loop-o-preserved c =
-    let x = acts_now c.requires.long (one_acts c.loop-o.invariant c.loop-o-test.true) c.acting_second-t.ensures c.pass_to-s.ensures
+    let x = acts_now c.requires.long (one_acts c.loop-o.invariant c.loop-o-test.true) c.acting-t.ensures.0 c.pass_to-s.ensures
     c.state_at-state.ensures in
     elim c.match-outcome_of.branch [
       | in-None w ↦ rw (w.w-is, w.g-is, w.sums-is, w.further-g.ensures, w.go_on.ensures) (record {

@@ -19,5 +19,5 @@ pub loop-i-preserved : goal.loop-i-preserved
 loop-i-preserved c =
     let l = c.loop-i in
     let e : l.i - 1 + 1 ≡ l.i = omega arith in
-    late_more {i = l.i - 1} (omega arith) (omega arith) c.acting_time-own.ensures c.late_fate.ensures c.min-earliest.ensures
+    late_more {i = l.i - 1} (omega arith) (omega arith) c.acting-own.ensures c.late_fate.ensures c.min-earliest.ensures
     (simp length-set (omega (arith, l.invariant.long))) refl (rw e l.invariant)
