@@ -9,6 +9,7 @@ pub struct Course {
     pub begin: u32,
     pub start: level::Level,
     pub target: u32,
+    // A number: callers may hand in any, E prints it as it is, and a type of three would ask more of them.
     pub heat: u32,
     pub up: u32,
     pub down: u32,

@@ -3,6 +3,7 @@
 
 ghost use Rattle.std.specs.Prelude.{◌≡◌, ◌+◌, ◌-◌, ◌<◌, ◌≤◌, length, map, get_or};
 ghost use Rattle.level.specs.Level.{grains};
+ghost use Rattle.records.specs.Heats.{heat_number};
 ghost use Rattle.course.specs.Lists.{place_of, column_for, replaced};
 ghost use Rattle.course.specs.Course.{passed, rate_at};
 ghost use Rattle.course_rates.specs.Ways.{GrainsOf, heading_of, ramp_for, route_of, lists_by, has_passed};
@@ -18,22 +19,22 @@ pub fn grains_of(kw: u32) -> u64
 
 // The place of a heat's column.
 #[tactic(auto, unfolding(course::specs::Lists::place_of))]
-fn place_of(heat: u32) -> usize
-    ensures { (result ≡ place_of heat) × (result < 3) }
+fn place_of(heat: records::Heat) -> usize
+    ensures { (result ≡ place_of (heat_number heat)) × (result < 3) }
 {
     match heat {
-        1 => 0,
-        2 => 1,
-        _ => 2,
+        records::Heat::Hot => 0,
+        records::Heat::Warm => 1,
+        records::Heat::Cold => 2,
     }
 }
 
 // The start-up column of a heat.
-#[tactic(auto, unfolding(course::specs::Lists::column_for))]
+#[tactic(auto, unfolding(course::specs::Lists::column_for), using(crate::proofs::Rates::place_by_heat))]
 pub fn column_for(u: records::UnitData, heat: u32) -> records::Column
     ensures { result ≡ column_for u heat }
 {
-    u.columns[place_of(heat)]
+    u.columns[place_of(records::Heat::from(heat))]
 }
 
 // Whether a course rises or falls. One that begins at its target has no way to go, and falls.

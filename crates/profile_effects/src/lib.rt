@@ -3,6 +3,7 @@
 
 ghost use Rattle.std.specs.Prelude.{◌≡◌, ◌+◌, ◌<◌, ◌^◌, eqb};
 ghost use Rattle.records.specs.declared.Effect.TheVariants.{Mwof, Sync};
+ghost use Rattle.records.specs.Heats.{heat_number};
 ghost use Rattle.validation.specs.Kept.{acting};
 ghost use Rattle.profile.specs.Effects.{heat_by, outcome_by, outcome, stepped, course_from, under_way, start_course, begun};
 ghost use Rattle.profile_effects.specs.Kept.{kept};
@@ -10,7 +11,7 @@ ghost use Rattle.profile_effects.specs.Kept.{kept};
 use course::Course;
 use level::Level;
 use profile::{Setting, Start, State, UnderWay};
-use records::{Effect, Instruction, UnitData};
+use records::{Effect, Heat, Instruction, UnitData};
 use validation::Numbered;
 
 // ---- what each instruction comes to at its acting second
@@ -33,16 +34,16 @@ fn kept(now: UnderWay, i: Instruction, s: State) -> Setting
 
 // The heat of a start after so many seconds off.
 #[tactic(auto, unfolding(profile::specs::Effects::heat_by))]
-fn heat_by(u: UnitData, off: u32) -> u32
-    ensures { result ≡ heat_by u off }
+fn heat_by(u: UnitData, off: u32) -> Heat
+    ensures { heat_number result ≡ heat_by u off }
 {
     let seconds = u64::from(off);
     if seconds <= 60 * u64::from(u.hot) {
-        1
+        Heat::Hot
     } else if seconds <= 60 * u64::from(u.warm) {
-        2
+        Heat::Warm
     } else {
-        3
+        Heat::Cold
     }
 }
 
@@ -52,7 +53,11 @@ fn mwof(u: UnitData, now: UnderWay, i: Instruction, s: State) -> Option<Setting>
     ensures { result ≡ outcome_by u now i s Mwof }
 {
     let target = i.level.min(u.capacity);
-    let heat = if s.level == 0 { 3 } else { now.course.heat };
+    let heat = if s.level == 0 {
+        Heat::Cold.number()
+    } else {
+        now.course.heat
+    };
     let set = Setting {
         target,
         heat,
@@ -68,7 +73,7 @@ fn sync(u: UnitData, now: UnderWay, i: Instruction, s: State) -> Option<Setting>
     ensures { result ≡ outcome_by u now i s Sync }
 {
     let target = i.level.max(u.msg).min(u.capacity);
-    let heat = heat_by(u, s.off);
+    let heat = heat_by(u, s.off).number();
     let set = Setting {
         target,
         heat,

@@ -3,3 +3,4 @@ pub mod Codes
 pub mod Records
 pub mod Fields
 pub mod Kinds
+pub mod Heats

@@ -84,6 +84,42 @@ pub struct UnitData {
     pub deload: Deload,
 }
 
+// The heats of a start, with the paper's numbers. (A course keeps the number, since callers may hand in any.)
+#[derive(Clone, Copy)]
+pub enum Heat {
+    Hot = 1,
+    Warm = 2,
+    Cold = 3,
+}
+
+impl From<u32> for Heat {
+    ghost use Rattle.std.specs.Prelude.{◌≡◌};
+    ghost use Rattle.records.specs.Heats.{heat_of};
+
+    ghost from_gives = { λ n h. h ≡ heat_of n };
+
+    // A number that no record can have reads like cold.
+    fn from(number: u32) -> Self {
+        match number {
+            1 => Heat::Hot,
+            2 => Heat::Warm,
+            _ => Heat::Cold,
+        }
+    }
+}
+
+impl Heat {
+    ghost use Rattle.std.specs.Prelude.{◌≡◌};
+    ghost use Rattle.records.specs.Heats.{heat_number};
+
+    // The paper's number of a heat.
+    pub fn number(self) -> u32
+        ensures { result ≡ heat_number self }
+    {
+        self as u32
+    }
+}
+
 // The opening: level at 06:00 in grains, target in kW, heat (1 hot, 2 warm, 3 cold), seconds off.
 #[derive(Clone, Copy, Default)]
 pub struct Opening {
