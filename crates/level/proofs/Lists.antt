@@ -2,11 +2,10 @@
 use mathlib.Core.Path.{◌≡◌, refl, ap, sym, ◌∙◌}
 use mathlib.Core.List.{List, [], ◌∷◌, ◌++◌, map}
 use mathlib.Core.Bool.{Bool, true, false, ◌&&◌, ◌||◌, or_assoc, true≢false}
-use Prim.Native.Nat.{ℕ, zero, suc, ◌+◌, ◌-◌, ◌≤◌, ◌<◌}
+use Prim.Native.Nat.{ℕ, zero, suc, ◌+◌, ◌-◌}
 use native.Mathlib.Omega.{arith}
-use native.Mathlib.Numerals.{add-one}
-use lib.ListN.{length, take, drop, get_or, length-drop, length-take, drop_of_length-le}
-use lib.Seq.{take_all, get_or-take, drop-cons, length-take-le}
+use lib.ListN.{length, take, drop, length-drop}
+use lib.Seq.{take_all}
 use Rattle.level.specs.Lists.{All, some, list_from}
 
 -- by the value of a test
@@ -50,13 +49,3 @@ list_snoc f a zero = ap (λ (k : ℕ). f k ∷ []) {x = a} {y = a + 0} (omega ar
 list_snoc f a (suc n) =
     ap (λ (xs : List ℕ). f a ∷ xs) (list_snoc f (suc a) n
     ∙ ap (λ (k : ℕ). list_from f (suc a) n ++ (f k ∷ [])) {x = suc a + n} {y = a + suc n} (omega arith))
-
--- what is left of the first n from the place i on
-module _ {A : Type 0} (xs : List A) (n : ℕ) where
-  pub left_cons : (i : ℕ) (d : A) → i < n → n ≤ length xs → drop i (take n xs) ≡ get_or xs i d ∷ drop (i + 1) (take n xs)
-  left_cons i d h k =
-      let l : i < length (take n xs) = omega (arith, length-take-le n xs k) in
-      rw (add-one, drop-cons (take n xs) i d l, get_or-take n xs i d h)
-
-  pub left_none : (i : ℕ) → n ≤ i → drop i (take n xs) ≡ []
-  left_none i h = drop_of_length-le (take n xs) {i = i} (omega (arith, length-take n xs))
