@@ -1,10 +1,9 @@
 -- Working. What the code of step 4 works with, beside the definitions.
-use Rattle.std.specs.Prelude.{ℕ, zero, suc, ◌+◌, ◌-◌, ◌<◌, ◌≤◌, min, ◌≡◌, Bool, List, [], ◌∷◌, ◌++◌, leb, eqb, length, drop, set, get_or}
+use Rattle.std.specs.Prelude.{ℕ, zero, suc, ◌+◌, ◌-◌, ◌<◌, min, ◌≡◌, List, [], ◌∷◌, ◌++◌, leb, eqb, length, drop, set, get_or}
 use Rattle.level.specs.Choice.{pick}
-use Rattle.level.specs.Numbers.{instruction_places}
 use Rattle.validation.specs.declared.Numbered.{Numbered}
 use Rattle.validation.specs.Kept.{Mark, acting, superseded, late_fate, late_marks}
-use Rattle.validation_groups.specs.Working.{no_numbered, in_time_order}
+use Rattle.validation_groups.specs.Working.{no_numbered}
 
 -- later than any acting time: what two numbers of 32 bits cannot add up to
 abbrev pub never : ℕ
@@ -35,11 +34,6 @@ settled fates (m ∷ ms) = settled (settle_fate fates m.number m.fate) ms
 -- these are the fates `before`, with step 4's of the kept ones, whose fates stand by their places
 abbrev pub SettledBy : List Numbered → List ℕ → List ℕ → List ℕ → Type 0
 SettledBy ks late before fates = (end : ℕ) → LateFates end ks late → fates ≡ settled before (late_marks end ks)
-
--- at most forty, and whether they stand in time order
-pub record FatesAsked (all : List Numbered) (ordered : Bool) : Type 0 where
-  pub few : length all ≤ instruction_places
-  pub told : ordered ≡ in_time_order all
 
 -- the first i fates, by what the later steps say
 unfoldable pub fates_to : List Numbered → List ℕ → ℕ → List ℕ

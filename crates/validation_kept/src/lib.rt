@@ -5,9 +5,9 @@ ghost use Rattle.std.specs.Prelude.{◌≡◌, ℕ, ◌≤◌, [], length};
 ghost use Rattle.level.specs.Lists.{filled};
 ghost use Rattle.level.specs.Numbers.{instruction_places};
 ghost use Rattle.validation.specs.Kept.{numbered, actors};
-ghost use Rattle.validation_groups.specs.Working.{sequence_of};
+ghost use Rattle.validation_groups.specs.Working.{sequence_of, UsedAsked};
 ghost use Rattle.validation_kept.specs.Outcome.{validation_of};
-ghost use Rattle.validation_kept.specs.Late.{late_fate_by, LateFates, settle_fate, SettledBy, FatesAsked, fates_to};
+ghost use Rattle.validation_kept.specs.Late.{late_fate_by, LateFates, settle_fate, SettledBy, fates_to};
 
 use level::INSTRUCTIONS;
 use records::Instruction;
@@ -119,7 +119,7 @@ fn acts_of(kept: &[Numbered], late: &[u8; INSTRUCTIONS]) -> Sequence
 
 // The fates by number: 1 where step 1 settles it, else what the later steps say.
 fn fates_of(all: &[Numbered], ordered: bool, later: &[u8; INSTRUCTIONS]) -> [u8; INSTRUCTIONS]
-    requires { FatesAsked all.now ordered }
+    requires { UsedAsked all.now ordered }
     ensures { result ≡ filled instruction_places 0 (fates_to all.now later.now (length all.now)) }
 {
     let mut out = [0; INSTRUCTIONS];
