@@ -16,7 +16,7 @@ pub struct Course {
 }
 
 // Which way a course's level goes on its way to the target.
-#[derive(Clone, Copy, PartialEq, Eq)]
+#[derive(Clone, Copy)]
 pub enum Heading {
     Rising,
     Falling,

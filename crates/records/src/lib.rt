@@ -11,7 +11,7 @@ pub const INSTRUCTION_SIZE: usize = 22;
 pub const CLOSE_SIZE: usize = 1;
 
 // The kinds of records, with their numbers.
-#[derive(Clone, Copy, PartialEq, Eq)]
+#[derive(Clone, Copy)]
 pub enum Kind {
     Unit = 1,
     Opening = 2,
