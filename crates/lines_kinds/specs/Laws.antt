@@ -4,8 +4,8 @@ use Rattle.lines.specs.Writing.{SinkLaws}
 use Rattle.lines.specs.Filled.{counted_more, filled_none, filled_length, filled_more}
 use Rattle.lines_kinds.specs.Sinks.{can_count, counts, can_keep, keeps}
 
-pub counting : SinkLaws can_count counts
-counting = record {
+pub measuring : SinkLaws can_count counts
+measuring = record {
   none = λ s k h. record { count_is = omega arith; few = omega arith };
   more = λ s t u xs ys j k l h p q. counted_more h p q;
   first = λ s xs ys j l h r. omega arith;

@@ -6,7 +6,7 @@ ghost use Rattle.lines.specs.Lines.{f_line, s_line, q_line, e_line, x_line};
 ghost use Rattle.lines.specs.Text.{line};
 ghost use Rattle.lines.specs.Writing.{SinkLaws};
 ghost use Rattle.lines_kinds.specs.Sinks.{can_count, counts, can_keep, keeps};
-ghost use Rattle.lines_kinds.specs.Laws.{counting, keeping};
+ghost use Rattle.lines_kinds.specs.Laws.{measuring, keeping};
 
 // A place for lines, one after another: it counts their bytes, or it keeps them.
 pub trait Sink {
@@ -35,7 +35,7 @@ impl Sink for Measure {
 
     ghost takes = { counts };
 
-    ghost laws = { counting };
+    ghost laws = { measuring };
 
     fn put(&mut self, _letter: u8, numbers: &[u64]) {
         self.width += 2;
