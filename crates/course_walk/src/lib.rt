@@ -6,7 +6,8 @@ ghost use Rattle.std.specs.Prelude.{◌≡◌, ◌+◌, ◌*◌, ◌-◌, ◌/�
 ghost use Rattle.level.specs.Bounds.{level_bound};
 ghost use Rattle.course.specs.Course.{toward};
 ghost use Rattle.course_rates.specs.Ways.{target_of, lists_by};
-ghost use Rattle.course_walk.specs.Walk.{Reaches, WalkAhead, RunAhead, Known, after_hold, after_rest, after_run, after_short, along, rest_along, rest_run, unknown, reached_at, onward};
+ghost use Rattle.course_walk.specs.Walk.{Reaches, WalkAhead, RunAhead, Known, unknown, reached_at, onward};
+ghost use Rattle.course_walk.specs.Walk.{after_hold, after_rest, after_run, after_short, along, rest_along, rest_run};
 
 // ---- going along a course
 
@@ -171,7 +172,8 @@ pub fn walk_on(r: &course_rates::Route, from: Reached, n: u32) -> Reached
 // Where a course begins, with so many seconds left of a hold; the segment that lies ahead, unless it holds or is at its target.
 #[tactic(auto, unfolding(crate::specs::Walk::reached_at))]
 pub fn begin_at(r: &course_rates::Route, left: u64) -> Reached
-    ensures { result ≡ reached_at r.now.heading (lists_by r.now) (target_of r.now) (record { second = r.now.course.begin; level = r.now.course.start.grains; left = left }) }
+    ensures { result ≡ reached_at r.now.heading (lists_by r.now) (target_of r.now)
+        (record { second = r.now.course.begin; level = r.now.course.start.grains; left = left }) }
 {
     let level = r.course.start.grains;
     let place = Place {

@@ -4,7 +4,8 @@
 ghost use Rattle.std.specs.Prelude.{◌≡◌, ◌+◌, ◌-◌, ◌<◌, ◌≤◌, ◌&&◌, [], length, option_to_list};
 ghost use Rattle.level.specs.Numbers.{instruction_places};
 ghost use Rattle.validation.specs.Kept.{group, used_of, used};
-ghost use Rattle.validation_groups.specs.Working.{no_numbered, sequence_of, time_at, later_of, latest_at, has_time_at, follows_time, alone_at, in_time_order, earlier_of, next_time_from, Rising, LatestAsked, UsedAsked};
+ghost use Rattle.validation_groups.specs.Working.{no_numbered, sequence_of, time_at, later_of, latest_at, earlier_of, next_time_from};
+ghost use Rattle.validation_groups.specs.Working.{has_time_at, follows_time, alone_at, in_time_order, Rising, LatestAsked, UsedAsked};
 
 use level::{Few, INSTRUCTIONS};
 use records::{Effect, Instruction};

@@ -84,7 +84,8 @@ pub fn used_of(
     sync: Option<Numbered>,
     desy: Option<Numbered>,
 ) -> Option<Numbered>
-    ensures { (g : List Numbered) → option_to_list best ≡ best_from [] g → option_to_list sync ≡ present Sync g → option_to_list desy ≡ present Desy g → option_to_list result ≡ used_of g }
+    ensures { (g : List Numbered) → option_to_list best ≡ best_from [] g → option_to_list sync ≡ present Sync g →
+        option_to_list desy ≡ present Desy g → option_to_list result ≡ used_of g }
 {
     let highest = best?;
     Some(merge(highest, sync.or(desy)))

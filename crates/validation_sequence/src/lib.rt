@@ -4,7 +4,8 @@
 ghost use Rattle.std.specs.Prelude.{◌≡◌, ◌-◌, [], map, length, option_to_list, option_copied, MatchOption};
 ghost use Rattle.level.specs.Numbers.{instruction_places};
 ghost use Rattle.validation.specs.Kept.{mark, repeats, turned, check};
-ghost use Rattle.validation_sequence.specs.Working.{set_fate, marked, none_checked, NoSync, LatestSync, NoneWithinHour, LatestWithinHour, FailedOne, SetsOut, StepThree};
+ghost use Rattle.validation_sequence.specs.Working.{set_fate, marked, none_checked, SetsOut, StepThree};
+ghost use Rattle.validation_sequence.specs.Working.{NoSync, LatestSync, NoneWithinHour, LatestWithinHour, FailedOne};
 
 use level::INSTRUCTIONS;
 use records::Effect;
