@@ -1,7 +1,7 @@
 // What an instruction comes to at its acting second, and the course that it begins.
 #![tactic(auto)]
 
-ghost use Rattle.std.specs.Prelude.{◌≡◌, ◌+◌, ◌<◌, ◌^◌, eqb};
+ghost use Rattle.std.specs.Prelude.{◌≡◌, ◌<◌, ◌^◌};
 ghost use Rattle.records.specs.declared.Effect.TheVariants.{Mwof, Sync};
 ghost use Rattle.records.specs.Heats.{heat_number};
 ghost use Rattle.validation.specs.Kept.{acting};
