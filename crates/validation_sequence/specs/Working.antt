@@ -8,7 +8,7 @@ use Rattle.validation.specs.declared.Numbered.{Numbered}
 use Rattle.validation.specs.Kept.{effect_of, effective_of, Mark, Checked, turned, failed, sync_within_hour}
 use Rattle.validation_groups.specs.Working.{no_numbered}
 
--- the kept ones stand in time order, the latest last; fates by number, 2 where none is settled
+-- ---- the kept ones stand in time order, the latest last; fates by number, 2 where none is settled
 
 -- one fate set; the marks set, the first of them last
 unfoldable pub set_fate : List ℕ → ℕ → ℕ → List ℕ
