@@ -7,54 +7,54 @@ use native.Mathlib.Omega.{arith}
 use lib.ListN.{length, get_or}
 use Rattle.level.specs.Lists.{All}
 use Rattle.level.specs.Numbers.{instruction_places, boundary_places}
+use Rattle.records.specs.declared.UnitData.{UnitData}
 use Rattle.records.specs.declared.Instruction.{Instruction}
 use Rattle.records.specs.Records.{numbers, no_instruction}
 use Rattle.records.specs.Fields.{unit_answer}
 use Rattle.std.specs.Prelude.{Ok}
 use Rattle.validation.specs.Kept.{numbered, validated}
+use Rattle.profile.specs.declared.Start.{Start}
 use Rattle.profile.specs.declared.Taken.{Taken}
 use Rattle.profile.specs.declared.Finding.{Finding}
 use Rattle.profile.specs.Bounds.{Low}
-use Rattle.profile.specs.Profile.{spans_of, day_pieces, recorded_to, recorded_in, rounded, Chain}
+use Rattle.profile.specs.Profile.{Span, spans_of, day_pieces, recorded_to, recorded_in, rounded, Chain}
 use Rattle.profile.specs.Finding.{arrays_of, quantity_at}
-use Rattle.profile.specs.Taken.{start_of, entered}
+use Rattle.profile.specs.Taken.{start_of, entered, own_unit, own_start}
 use Rattle.profile.specs.Starts.{CoursesStart}
 use Rattle.profile.proofs.Starts.{courses_start}
 use Rattle.profile.proofs.Rates.{Fit, fit_of}
 use Rattle.profile.proofs.Near.{Drives, spans_drive, quantities_near, moves, starts_recorded, all_map}
 use Rattle.profile.proofs.Found.{spans, list_length, list_at, found_tiles, found_sums, quantity_from_sums}
 use Rattle.day.specs.declared.Day.{Day}
-use Rattle.day.specs.Day.{half_hours, day_seconds, empty, fates_in, courses_in, quantities_in, closing_in, found_in}
+use Rattle.day.specs.Day.{half_hours, day_seconds, empty, fates_in, courses_in, quantities_in, closing_in, found_in, is_closed, finding_in}
 use Rattle.listing.specs.Listing.{printed_day}
 use Rattle.listing.specs.Reader.{printed_at, first_of, printed_kw}
 use Rattle.listing.proofs.Read.{printed, printed_kw_lem}
 use Rattle.claims.specs.Calls.{day_after, records_of, listings_of}
-use Rattle.claims.specs.LetIn.{has_kind, body_of_kind, unit_in, opening_in, instructions_in, taken_in, found_from, spans_from}
+use Rattle.claims.specs.LetIn.{body_of_kind, unit_in, opening_in, instructions_in, taken_in, found_from, spans_from}
 use Rattle.claims.specs.Demand3.{Near, Single, Demand3, Demand3Claim}
 use Rattle.claims.specs.Demand3Whole.{Demand3Whole, Demand3WholeClaim}
 use Rattle.level.proofs.Arrays.{filled_whole, filled_listed}
-use Rattle.claims.proofs.Made.{Made, made_empty}
+use Rattle.claims.proofs.Made.{Made, made_empty, taken_unit, taken_start, keeps}
 use Rattle.claims.proofs.Run.{made_after, wrote_are}
 
 -- ---- a closed day that the records rs made
-module _ (d : Day) (rs : List (List ℕ)) (m : Made d rs) (c : d.closed ≡ true) where
-  pub unit_is : d.taken.unit ≡ unit_in rs
-  unfolding taken_in
-  unit_is = ap (λ (t : Taken). t.unit) m.taken
-
-  has_unit : has_kind 1 rs ≡ true
-  unfolding taken_in
-  has_unit = (m.fits.low (m.started c)).0
+module _ (d : Day) (rs : List (List ℕ)) (m : Made d rs) (c : is_closed d ≡ true) where
+  pub unit_is : own_unit d.taken ≡ unit_in rs
+  unit_is = ap (λ (t : Taken). own_unit t) m.taken ∙ taken_unit rs
 
   pub unit_fields : unit_answer (numbers (body_of_kind 1 rs) 62) ≡ Ok tt
-  unit_fields = m.fits.unit has_unit
+  unit_fields = m.fits.unit (keeps rs m.fits (m.started c)).0
 
-  pub start_keeps : Low (taken_in rs).unit (taken_in rs).start
-  unfolding taken_in
-  start_keeps = (m.fits.low (m.started c)).1
+  pub start_keeps : Low (own_unit (taken_in rs)) (own_start (taken_in rs))
+  start_keeps = (keeps rs m.fits (m.started c)).1
+
+  spans_are : spans half_hours (taken_in rs) ≡ spans_from rs
+  unfolding spans_from found_from found_in
+  spans_are = ap (λ (u : UnitData). spans_of u day_seconds (found_from rs).courses) (taken_unit rs)
 
   -- the sums that it holds are those that the definitions give from the records let in
-  pub sums_stored : d.found.sums ≡ (found_from rs).sums
+  pub sums_stored : (finding_in d).sums ≡ (found_from rs).sums
   unfolding arrays_of found_from found_in
   sums_stored =
       ap (λ (f : Finding). f.sums) (m.stored c)
@@ -66,23 +66,23 @@ module _ (d : Day) (rs : List (List ℕ)) (m : Made d rs) (c : d.closed ≡ true
   fit = fit_of (numbers (body_of_kind 1 rs) 62) unit_fields
 
   pub chain : Chain 0 (spans_from rs) day_seconds
-  unfolding spans_from found_from found_in taken_in
-  chain = found_tiles half_hours (taken_in rs)
+  chain = subst (λ (ss : List Span). Chain 0 ss day_seconds) spans_are (found_tiles half_hours (taken_in rs))
 
   pub drives : Drives (spans_from rs)
   unfolding spans_from
   drives = spans_drive (unit_in rs) fit day_seconds (found_from rs).courses
 
   quantity_is : (i : ℕ) → i < half_hours → get_or (quantities_in d) i 0 ≡ rounded (recorded_in (spans_from rs) i)
-  unfolding quantities_in quantity_at spans_from found_from found_in taken_in
+  unfolding quantities_in quantity_at found_from found_in
   quantity_is i h =
-      list_at (quantity_at d.found.sums) 0 half_hours i h
-      ∙ (ap (quantity_at d.found.sums) {x = 0 + i} {y = i} (omega arith)
-      ∙ (ap (λ (l : List ℕ). quantity_at l i) sums_stored ∙ quantity_from_sums half_hours (taken_in rs) i h))
+      list_at (quantity_at (finding_in d).sums) 0 half_hours i h
+      ∙ (ap (quantity_at (finding_in d).sums) {x = 0 + i} {y = i} (omega arith)
+      ∙ (ap (λ (l : List ℕ). quantity_at l i) sums_stored
+      ∙ (quantity_from_sums half_hours (taken_in rs) i h ∙ ap (λ (ss : List Span). rounded (recorded_in ss i)) spans_are)))
 
   many : length (quantities_in d) ≡ half_hours
   unfolding quantities_in
-  many = list_length (quantity_at d.found.sums) 0 half_hours
+  many = list_length (quantity_at (finding_in d).sums) 0 half_hours
 
   stored : Near (spans_from rs) (λ i. get_or (quantities_in d) i 0)
   stored = quantities_near half_hours (spans_from rs) chain drives (λ i. get_or (quantities_in d) i 0) quantity_is
@@ -92,7 +92,7 @@ module _ (d : Day) (rs : List (List ℕ)) (m : Made d rs) (c : d.closed ≡ true
   printed_near w e =
       quantities_near half_hours (spans_from rs) chain drives (λ i. printed_kw w (suc i))
       (λ i h. ap (λ (v : List ℕ). printed_kw v (suc i)) e
-      ∙ (printed_kw_lem (fates_in d) (day_pieces (spans_of d.taken.unit day_seconds (courses_in d))) (quantities_in d) (closing_in d) i (omega (arith, many))
+      ∙ (printed_kw_lem (fates_in d) (day_pieces (spans_of (own_unit d.taken) day_seconds (courses_in d))) (quantities_in d) (closing_in d) i (omega (arith, many))
       ∙ quantity_is i h))
 
   one_each : (w : List ℕ) → w ≡ printed_day d → Single w
@@ -100,7 +100,7 @@ module _ (d : Day) (rs : List (List ℕ)) (m : Made d rs) (c : d.closed ≡ true
   one_each w e h lo hi =
       let f : printed_at w h ≡ get_or (quantities_in d) (h - 1) 0 ∷ [] =
       ap (λ (v : List ℕ). printed_at v h) e
-      ∙ printed (fates_in d) (day_pieces (spans_of d.taken.unit day_seconds (courses_in d))) (quantities_in d) (closing_in d) h lo (omega (arith, many))
+      ∙ printed (fates_in d) (day_pieces (spans_of (own_unit d.taken) day_seconds (courses_in d))) (quantities_in d) (closing_in d) h lo (omega (arith, many))
       in
       f ∙ ap (λ (l : List ℕ). first_of l ∷ []) (sym f)
 
@@ -111,11 +111,16 @@ module _ (d : Day) (rs : List (List ℕ)) (m : Made d rs) (c : d.closed ≡ true
 
   courses_begin :
       CoursesStart (unit_in rs) (validated day_seconds (numbered 1 (instructions_in rs))).acts (opening_in rs).level (found_from rs).courses
-  unfolding taken_in found_from found_in start_of
+  unfolding found_from found_in start_of
   courses_begin =
       subst (λ (is : List Instruction).
       CoursesStart (unit_in rs) (validated day_seconds (numbered 1 is)).acts (opening_in rs).level (found_from rs).courses)
-      entered_are (courses_start half_hours (taken_in rs))
+      entered_are
+      (subst (λ (u : UnitData).
+      CoursesStart u (validated day_seconds (numbered 1 (entered (taken_in rs)))).acts (opening_in rs).level (found_from rs).courses) (taken_unit rs)
+      (subst (λ (s : Start).
+      CoursesStart (own_unit (taken_in rs)) (validated day_seconds (numbered 1 (entered (taken_in rs)))).acts s.level (found_from rs).courses)
+      (taken_start rs) (courses_start half_hours (taken_in rs))))
 
   demand : (ws : List (List ℕ)) → All (λ w. w ≡ printed_day d) ws → Demand3 (spans_from rs) (quantities_in d) ws
   demand ws a = record {

@@ -14,24 +14,26 @@ use Rattle.level.proofs.Lists.{by_bool, map_length}
 use Rattle.std.specs.Prelude.{Result, Ok, Err}
 use Rattle.records.specs.declared.Refusal.{Refusal}
 use Rattle.records.specs.declared.Refusal.TheVariants.{UnknownKind, TooFewBytes, UnitField, UnitDisagrees, OpeningField, CodeField, EffectiveTime, IssueTime, LevelOrRates, SecondOne, BeforeUnit, OpeningTooHigh, TooManyInstructions, AfterClose, NotReady, SliceTooShort, QuantityTooHigh}
+use Rattle.records.specs.declared.UnitData.{UnitData}
 use Rattle.records.specs.Answers.{Answer, refusal_number, number_of, accepted, refusing, before, first_refusal}
 use Rattle.records.specs.Codes.{meaning_of, is_unknown}
 use Rattle.records.specs.Records.{size_of, numbers, unit_of, opening_of, instruction_of}
 use Rattle.records.specs.Fields.{unit_ranges, fit_from, disagrees, opening_fits, figures_fit, unit_answer, opening_answer, instruction_answer}
 use Rattle.profile.specs.declared.Taken.{Taken}
 use Rattle.profile.specs.Profile.{paper}
+use Rattle.profile.specs.Taken.{own_unit, has_unit, has_start}
 use Rattle.day.specs.declared.Day.{Day}
 use Rattle.day.specs.declared.Stepped.{Stepped}
-use Rattle.day.specs.Day.{day_seconds, empty, found_in, day_with}
+use Rattle.day.specs.Day.{day_seconds, empty, found_in, day_with, is_closed}
 use Rattle.day.specs.Step.{kind_of, body_of, no_bytes, unknown_kind, too_few, second_one, before_unit, too_many, not_ready, field_answer, too_high, quantity_too_high, accept, settle, answer_by, step_by, step_of}
 use Rattle.day.specs.ByKind.{answer_of}
 use Rattle.day.proofs.Answers.{number_same, settle_refused}
 use Rattle.listing.specs.Listing.{printed_day, list_answer, list_of, count_of, lent_after}
 use Rattle.claims.specs.Calls.{day_after, records_of}
-use Rattle.claims.specs.LetIn.{of_kind, has_kind, instructions_in, taken_in, found_from, listing_from}
+use Rattle.claims.specs.LetIn.{of_kind, has_kind, instructions_in, taken_in, found_from, listing_from, unit_in}
 use Rattle.claims.specs.Conditions.{Ruling, first_number, is_kind, unit_out_of_range, unit_disagreeing, opening_out_of_range, code_outside, effective_time_outside, issue_time_outside, level_or_rates_outside, second_unit_or_opening, before_a_unit, opening_too_high, forty_first_instruction, after_close, close_without_opening, listing_before_close, longer_than_lent, quantity_above_maximum, record_rulings, listing_rulings}
 use Rattle.claims.specs.Demand1.{Demand1Claim}
-use Rattle.claims.proofs.Made.{Made, made_empty}
+use Rattle.claims.proofs.Made.{Made, made_empty, had_unit, had_start, taken_unit}
 use Rattle.claims.proofs.Run.{made_after}
 use Rattle.claims.proofs.Demand2.{printed_from}
 
@@ -126,35 +128,36 @@ unfolding instructions_in
 count_is rs = map_length (λ r. instruction_of (body_of r)) (of_kind 3 rs)
 
 module _ (rs : List (List ℕ)) (s : List ℕ) where
-  -- the paper's order, of what was taken, whether it is closed, a second one, and one too many
-  abbrev answers : Taken → Bool → Bool → Bool → List Answer
-  answers t closed second many =
+  -- the paper's order: whether there is a unit and an opening, of the unit and what was taken, whether it is closed, a second one, and one too many
+  abbrev answers : Bool → Bool → UnitData → Taken → Bool → Bool → Bool → List Answer
+  answers unit started u t closed second many =
       refusing (no_bytes s) TooFewBytes
       ∷ refusing (unknown_kind s) UnknownKind
       ∷ refusing (too_few s) TooFewBytes
       ∷ refusing closed AfterClose
       ∷ refusing second SecondOne
-      ∷ refusing (before_unit t (kind_of s)) BeforeUnit
+      ∷ refusing ((eqb (kind_of s) 2 || eqb (kind_of s) 3) && not unit) BeforeUnit
       ∷ refusing many TooManyInstructions
-      ∷ refusing (not_ready t (kind_of s)) NotReady
+      ∷ refusing (eqb (kind_of s) 4 && not started) NotReady
       ∷ field_answer (kind_of s) (body_of s)
-      ∷ refusing (eqb (kind_of s) 2 && too_high t.unit (opening_of (body_of s))) OpeningTooHigh
-      ∷ refusing (eqb (kind_of s) 4 && quantity_too_high t.unit (found_in paper t)) QuantityTooHigh
+      ∷ refusing (eqb (kind_of s) 2 && too_high u (opening_of (body_of s))) OpeningTooHigh
+      ∷ refusing (eqb (kind_of s) 4 && quantity_too_high u (found_in paper t)) QuantityTooHigh
       ∷ []
 
   second_is : second_one (taken_in rs) (kind_of s) ≡ second_unit_or_opening rs s
-  unfolding taken_in second_one second_unit_or_opening is_kind
-  second_is = second_same (kind_of s) (has_kind 1 rs) (has_kind 2 rs)
+  unfolding second_one second_unit_or_opening is_kind
+  second_is =
+      (λ i. pick (eqb (kind_of s) 1) (had_unit rs i) (pick (eqb (kind_of s) 2) (had_start rs i) false))
+      ∙ second_same (kind_of s) (has_kind 1 rs) (has_kind 2 rs)
 
   many_is : too_many (taken_in rs) (kind_of s) ≡ forty_first_instruction rs s
   unfolding taken_in too_many forty_first_instruction is_kind
   many_is = ap (λ (n : ℕ). eqb (kind_of s) 3 && leb instruction_places n) (count_is rs)
 
-  number_is : number_of (first_refusal (answers (taken_in rs) (has_kind 4 rs) (second_unit_or_opening rs s) (forty_first_instruction rs s)))
+  number_is : number_of (first_refusal (answers (has_kind 1 rs) (has_kind 2 rs) (unit_in rs) (taken_in rs) (has_kind 4 rs) (second_unit_or_opening rs s) (forty_first_instruction rs s)))
       ≡ first_number (record_rulings rs s)
   unfolding record_rulings is_kind unit_out_of_range unit_disagreeing opening_out_of_range code_outside effective_time_outside issue_time_outside
-      level_or_rates_outside before_a_unit opening_too_high after_close close_without_opening quantity_above_maximum taken_in found_from before_unit not_ready
-      quantity_too_high first_number
+      level_or_rates_outside before_a_unit opening_too_high after_close close_without_opening quantity_above_maximum found_from quantity_too_high first_number
   number_is =
       let last : List Row = row OpeningTooHigh (opening_too_high rs s) ∷ row QuantityTooHigh (quantity_above_maximum rs s) ∷ [] in
       rows_ruled
@@ -198,19 +201,18 @@ module _ (d : Day) where
 -- ---- the day d that the records rs, let in, made
 module _ (d : Day) (rs : List (List ℕ)) (m : Made d rs) where
   sent : (s : List ℕ) → number_of (step_of d s).answer ≡ first_number (record_rulings rs s)
-  unfolding answer_by
+  unfolding answer_by before_unit not_ready
   sent s =
-      let t : Taken = taken_in rs in
       ap number_of (answer_is d s)
-      ∙ (ap (λ (x : Taken). number_of (first_refusal (answers rs s x d.closed (second_one x (kind_of s)) (too_many x (kind_of s))))) m.taken
-      ∙ (ap (λ (b : Bool). number_of (first_refusal (answers rs s t b (second_one t (kind_of s)) (too_many t (kind_of s))))) m.closed
-      ∙ (ap (λ (b : Bool). number_of (first_refusal (answers rs s t (has_kind 4 rs) b (too_many t (kind_of s))))) (second_is rs s)
-      ∙ (ap (λ (b : Bool). number_of (first_refusal (answers rs s t (has_kind 4 rs) (second_unit_or_opening rs s) b))) (many_is rs s) ∙ number_is rs s))))
+      ∙ (ap (λ (x : Taken). number_of (first_refusal (answers rs s (has_unit x) (has_start x) (own_unit x) x (is_closed d) (second_one x (kind_of s))
+      (too_many x (kind_of s))))) m.taken
+      ∙ ((λ i. number_of (first_refusal (answers rs s (had_unit rs i) (had_start rs i) (taken_unit rs i) (taken_in rs) (m.closed i) (second_is rs s i)
+      (many_is rs s i)))) ∙ number_is rs s))
 
   asked : (o : List ℕ) → number_of (list_of d o) ≡ first_number (listing_rulings rs o)
   unfolding list_of list_answer listing_rulings listing_before_close longer_than_lent first_number
-  asked o = number_same (length (printed_day d)) (list_answer d o) ∙ by_bool d.closed
-      (λ c. ap (λ (x : List ℕ). number_of (first_refusal (refusing (not d.closed) NotReady ∷ refusing (ltb (length o) (length x)) SliceTooShort ∷ [])))
+  asked o = number_same (length (printed_day d)) (list_answer d o) ∙ by_bool (is_closed d)
+      (λ c. ap (λ (x : List ℕ). number_of (first_refusal (refusing (not (is_closed d)) NotReady ∷ refusing (ltb (length o) (length x)) SliceTooShort ∷ [])))
       (printed_from d rs m c) ∙ rw (sym m.closed, c) (go (ltb (length o) (length (listing_from rs)))))
       (λ c. rw (sym m.closed, c) refl)
     where

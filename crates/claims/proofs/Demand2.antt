@@ -9,7 +9,7 @@ use Rattle.profile.proofs.Near.{all_map}
 use Rattle.profile.proofs.Cuts.{day_cuts}
 use Rattle.profile.proofs.Traced.{day_joined, day_starting, day_ending}
 use Rattle.day.specs.declared.Day.{Day}
-use Rattle.day.specs.Day.{day_seconds, empty}
+use Rattle.day.specs.Day.{day_seconds, empty, is_closed}
 use Rattle.listing.specs.Listing.{listing, printed_day}
 use Rattle.claims.specs.Calls.{day_after, records_of, listings_of}
 use Rattle.claims.specs.LetIn.{found_from, spans_from, listing_from}
@@ -20,7 +20,7 @@ use Rattle.claims.proofs.Claim.{chain, drives}
 use Rattle.claims.proofs.Room.{fates_stored, courses_stored, closing_stored, quantities_stored, printed_is}
 
 -- ---- a closed day that the records rs made
-module _ (d : Day) (rs : List (List ℕ)) (m : Made d rs) (c : d.closed ≡ true) where
+module _ (d : Day) (rs : List (List ℕ)) (m : Made d rs) (c : is_closed d ≡ true) where
   -- its listing is that of the records let in
   pub printed_from : printed_day d ≡ listing_from rs
   unfolding listing_from spans_from

@@ -15,7 +15,7 @@ use Rattle.records.specs.Answers.{Answer, refusal_number, number_of, accepted, b
 use Rattle.profile.specs.Profile.{paper}
 use Rattle.day.specs.declared.Day.{Day}
 use Rattle.day.specs.declared.Stepped.{Stepped}
-use Rattle.day.specs.Day.{empty, found_in, quantities_in}
+use Rattle.day.specs.Day.{empty, found_in, quantities_in, is_closed}
 use Rattle.day.specs.Step.{step_of}
 use Rattle.day.proofs.Answers.{never, number_same}
 use Rattle.day.proofs.ByKind.{step_used}
@@ -79,7 +79,7 @@ module _ (o : List ℕ) where
     left : e ≡ r.day
     listings : ws ≡ wrote r.day (asks o ∷ [])
     number : k ≡ ends_with r
-    closed : r.answer ≡ Ok tt → r.day.closed ≡ true
+    closed : r.answer ≡ Ok tt → is_closed r.day ≡ true
 
   abbrev CallsRun : Day → List Call → Ran → Type 0
   CallsRun d cs r = let c : List Call = cs ++ (asks o ∷ []) in Runs (after_calls d c) (wrote d c) (first_refused (numbers_of d c)) r
@@ -89,10 +89,10 @@ module _ (o : List ℕ) where
   calls_run zero d s h = absurd (omega arith)
   calls_run (suc n) d s h =
       let t : Stepped = step_of d s in
-      rw (run_onward (found_in paper) n d s) (go t.answer t.day t.day.closed (drop t.used s) refl
+      rw (run_onward (found_in paper) n d s) (go t.answer t.day (is_closed t.day) (drop t.used s) refl
       (λ a. omega (arith, used_some (found_in paper) d s a, step_used (found_in paper) d s, length-drop t.used s)) (λ e q l. calls_run n e q l))
     where
-      go : (a : Answer) (e : Day) (b : Bool) (q : List ℕ) → e.closed ≡ b → (accepted a ≡ true → length q < n) →
+      go : (a : Answer) (e : Day) (b : Bool) (q : List ℕ) → is_closed e ≡ b → (accepted a ≡ true → length q < n) →
           ((k : Day) (v : List ℕ) → length v < n → CallsRun k (in_turn n k v) (run_by (found_in paper) n k v)) →
           let c : List Call = pick (accepted a && not b) (in_turn n e q) [] ++ (asks o ∷ []) in
           Runs (after_calls e c) (wrote e c) (first_refused (number_of a ∷ numbers_of e c)) (onward (found_in paper) n a e b q)
@@ -116,13 +116,13 @@ runs s o r made =
 
 -- a run that is accepted leaves the day closed, and its listing has at most 46,080 bytes
 pub run_fits : (s : List ℕ) (r : Ran) → r ≡ ran_by (found_in paper) s → r.answer ≡ Ok tt →
-    (r.day.closed ≡ true) × (length (printed_day r.day) ≤ suffices)
+    (is_closed r.day ≡ true) × (length (printed_day r.day) ≤ suffices)
 run_fits s r made a =
     let k = runs s [] r made in
-    (k.closed a, rw k.left at (listing_suffices (calls_for s []) (ap (λ (d : Day). d.closed) k.left ∙ k.closed a)))
+    (k.closed a, rw k.left at (listing_suffices (calls_for s []) (ap (λ (d : Day). is_closed d) k.left ∙ k.closed a)))
 
 pub ran_fits : (s : List ℕ) → (ran_by (found_in paper) s).answer ≡ Ok tt →
-    ((ran_by (found_in paper) s).day.closed ≡ true) × (length (printed_day (ran_by (found_in paper) s).day) ≤ suffices)
+    (is_closed (ran_by (found_in paper) s).day ≡ true) × (length (printed_day (ran_by (found_in paper) s).day) ≤ suffices)
 ran_fits s a = run_fits s (ran_by (found_in paper) s) refl a
 
 -- ---- what the run gives with the lent slice
@@ -177,8 +177,8 @@ module _ (s o : List ℕ) where
     unfolding listed_result listed listed_lent
     gives = taken_gives o r no_refusal.0 no_refusal.1
 
-    closed : (day_after (calls_for s o)).closed ≡ true
-    closed = ap (λ (d : Day). d.closed) k.left ∙ k.closed no_refusal.0
+    closed : is_closed (day_after (calls_for s o)) ≡ true
+    closed = ap (λ (d : Day). is_closed d) k.left ∙ k.closed no_refusal.0
 
     written_is : written s o ≡ p
     written_is = rw (gives.0, gives.1) (take-append_seam p (drop (length p) o))

@@ -13,18 +13,20 @@ use Rattle.level.specs.Choice.{pick}
 use Rattle.level.specs.Lists.{those, some, filled}
 use Rattle.level.specs.Numbers.{instruction_places}
 use Rattle.level.proofs.Lists.{by_bool, some_append}
-use Rattle.std.specs.Prelude.{Ok}
+use Rattle.std.specs.Prelude.{Option, None, Some, Ok}
+use Rattle.std.specs.Option.{is_some, unwrap_or}
 use Rattle.records.specs.Records.{size_of, numbers, unit_of, column_of, trigger_of, opening_of, instruction_of, no_instruction}
 use Rattle.records.specs.Fields.{unit_answer}
 use Rattle.profile.specs.declared.Taken.{Taken}
 use Rattle.profile.specs.Bounds.{Low}
-use Rattle.profile.specs.Taken.{start_of, no_taken, taken_with}
+use Rattle.profile.specs.Taken.{start_of, no_taken, taken_with, has_unit, has_start, own_unit, own_start}
 use Rattle.profile.specs.Profile.{paper}
-use Rattle.profile.specs.Finding.{arrays_of}
+use Rattle.profile.specs.declared.Finding.{Finding}
+use Rattle.profile.specs.Finding.{no_finding, arrays_of}
 use Rattle.day.specs.declared.Day.{Day}
-use Rattle.day.specs.Day.{found_in, empty, day_with}
+use Rattle.day.specs.Day.{found_in, empty, day_with, is_closed, finding_in}
 use Rattle.day.specs.Step.{kind_of, body_of}
-use Rattle.day.proofs.Answers.{never}
+use Rattle.day.proofs.Answers.{never, some_or, some_if}
 use Rattle.day.proofs.ByKind.{RecordPasses, some_size}
 use Rattle.claims.specs.LetIn.{of_kind, has_kind, body_of_kind, unit_in, opening_in, instructions_in, taken_in, found_from}
 use Rattle.claims.proofs.Low.{start_low}
@@ -166,21 +168,46 @@ module _ (rs : List (List ℕ)) (s : List ℕ) (may : MayCome rs s) where
   pub taken_with_lem : taken_in (with_one rs s) ≡ taken_with (taken_in rs) k b
   unfolding taken_in taken_with unit_in opening_in
   taken_with_lem = λ i. record {
-    hasUnit = has_with 1 rs s i;
-    unit =
-        (ap (λ (x : List ℕ). unit_of (numbers x 62)) (body_with 1 rs s may.unit)
-        ∙ choose (λ (x : List ℕ). unit_of (numbers x 62)) (eqb k 1) b (body_of_kind 1 rs)) i;
-    hasStart = has_with 2 rs s i;
-    start =
-        (ap (λ (x : List ℕ). start_of (opening_of x)) (body_with 2 rs s may.opening)
-        ∙ choose (λ (x : List ℕ). start_of (opening_of x)) (eqb k 2) b (body_of_kind 2 rs)) i;
+    unit = came 1 (λ (x : List ℕ). unit_of (numbers x 62)) may.unit i;
+    start = came 2 (λ (x : List ℕ). start_of (opening_of x)) may.opening i;
     count = count_with i;
     instructions = places_with i;
   }
     where
-      choose : {A : Type 0} (read : List ℕ → A) (c : Bool) (x y : List ℕ) → read (pick c x y) ≡ pick c (read x) (read y)
-      choose read true x y = refl
-      choose read false x y = refl
+      -- what a record of the kind c says, and what those before it said
+      choose : {A : Type 0} (read : List ℕ → A) (c h : Bool) (x y : List ℕ) →
+          pick (c || h) (Some (read (pick c x y))) None ≡ pick c (Some (read x)) (pick h (Some (read y)) None)
+      choose read true h x y = refl
+      choose read false h x y = refl
+
+      came : {A : Type 0} (c : ℕ) (read : List ℕ → A) → (k ≡ c → has_kind c rs ≡ false) →
+          pick (has_kind c (with_one rs s)) (Some (read (body_of_kind c (with_one rs s)))) None
+          ≡ pick (eqb k c) (Some (read b)) (pick (has_kind c rs) (Some (read (body_of_kind c rs))) None)
+      came c read may =
+          (λ i. pick (has_with c rs s i) (Some (read (body_with c rs s may i))) None) ∙ choose read (eqb k c) (has_kind c rs) b (body_of_kind c rs)
+
+-- ---- what is in what was taken, of the records that came
+came_of : {A : Type 0} (k : ℕ) (read : List ℕ → A) (rs : List (List ℕ)) (z : A) → read [] ≡ z →
+    unwrap_or (pick (has_kind k rs) (Some (read (body_of_kind k rs))) None) z ≡ read (body_of_kind k rs)
+unfolding has_kind body_of_kind of_kind body_of kind_of size_of
+came_of k read rs z e = by_bool (has_kind k rs) (λ h. rw h refl)
+    (λ h. rw h (sym e ∙ ap (λ (l : List (List ℕ)). read (body_of (get_or l 0 []))) (sym (none_those (λ r. eqb (kind_of r) k) rs h))))
+
+pub taken_unit : (rs : List (List ℕ)) → own_unit (taken_in rs) ≡ unit_in rs
+unfolding taken_in unit_in numbers unit_of column_of trigger_of
+taken_unit rs = came_of 1 (λ (b : List ℕ). unit_of (numbers b 62)) rs (unit_of []) refl
+
+pub taken_start : (rs : List (List ℕ)) → own_start (taken_in rs) ≡ start_of (opening_in rs)
+unfolding taken_in opening_in
+taken_start rs = came_of 2 (λ (b : List ℕ). start_of (opening_of b)) rs (start_of (opening_of [])) refl
+
+pub had_unit : (rs : List (List ℕ)) → has_unit (taken_in rs) ≡ has_kind 1 rs
+unfolding taken_in
+had_unit rs = some_if (has_kind 1 rs) (unit_in rs)
+
+pub had_start : (rs : List (List ℕ)) → has_start (taken_in rs) ≡ has_kind 2 rs
+unfolding taken_in
+had_start rs = some_if (has_kind 2 rs) (start_of (opening_in rs))
 
 -- ---- what the refusals see to
 abbrev UnitFits : List ℕ → Type 0
@@ -188,9 +215,9 @@ UnitFits b = unit_answer (numbers b 62) ≡ Ok tt
 
 -- what the day starts from keeps to its unit, which came before
 abbrev LowStart : Taken → Type 0
-LowStart t = t.hasStart ≡ true → (t.hasUnit ≡ true) × Low t.unit t.start
+LowStart t = has_start t ≡ true → (has_unit t ≡ true) × Low (own_unit t) (own_start t)
 
-low_with : (t : Taken) (k : ℕ) (b : List ℕ) → (k ≡ 1 → t.hasUnit ≡ false) → (k ≡ 2 → (t.hasUnit ≡ true) × Low t.unit (start_of (opening_of b))) →
+low_with : (t : Taken) (k : ℕ) (b : List ℕ) → (k ≡ 1 → has_unit t ≡ false) → (k ≡ 2 → (has_unit t ≡ true) × Low (own_unit t) (start_of (opening_of b))) →
     LowStart t → LowStart (taken_with t k b)
 unfolding taken_with
 low_with t k b first new old = elim (ℕ_discrete k 1) [
@@ -206,13 +233,17 @@ pub record LetInBounds (rs : List (List ℕ)) : Type 0 where
   pub low : LowStart (taken_in rs)
   pub few : length (instructions_in rs) ≤ instruction_places
 
+-- of a day with an opening
+pub keeps : (rs : List (List ℕ)) → LetInBounds rs → has_kind 2 rs ≡ true → (has_kind 1 rs ≡ true) × Low (own_unit (taken_in rs)) (own_start (taken_in rs))
+keeps rs b h = let k = b.low (had_start rs ∙ h) in (sym (had_unit rs) ∙ k.0, k.1)
+
 -- ---- the day d is what the records rs, let in, make of an empty one
 pub record Made (d : Day) (rs : List (List ℕ)) : Type 0 where
   pub taken : d.taken ≡ taken_in rs
   pub fits : LetInBounds rs
-  pub closed : d.closed ≡ has_kind 4 rs
-  pub started : d.closed ≡ true → has_kind 2 rs ≡ true
-  pub stored : d.closed ≡ true → d.found ≡ arrays_of (found_from rs)
+  pub closed : is_closed d ≡ has_kind 4 rs
+  pub started : is_closed d ≡ true → has_kind 2 rs ≡ true
+  pub stored : is_closed d ≡ true → finding_in d ≡ arrays_of (found_from rs)
 
 pub made_empty : Made empty []
 unfolding empty no_taken taken_in has_kind some unit_in opening_in instructions_in body_of_kind of_kind those filled body_of kind_of size_of numbers unit_of
@@ -227,13 +258,14 @@ made_empty = record {
 
 -- ---- a record let in
 module _ (d : Day) (rs : List (List ℕ)) (s : List ℕ) (m : Made d rs) (p : RecordPasses (found_in paper) d s) where
-  has_unit : d.taken.hasUnit ≡ has_kind 1 rs
-  unfolding taken_in
-  has_unit = ap (λ (t : Taken). t.hasUnit) m.taken
+  taken_came : has_unit d.taken ≡ has_unit (taken_in rs)
+  taken_came = ap (λ (t : Taken). has_unit t) m.taken
 
-  has_start : d.taken.hasStart ≡ has_kind 2 rs
-  unfolding taken_in
-  has_start = ap (λ (t : Taken). t.hasStart) m.taken
+  unit_came : has_unit d.taken ≡ has_kind 1 rs
+  unit_came = taken_came ∙ had_unit rs
+
+  start_came : has_start d.taken ≡ has_kind 2 rs
+  start_came = ap (λ (t : Taken). has_start t) m.taken ∙ had_start rs
 
   has_count : d.taken.count ≡ length (instructions_in rs)
   unfolding taken_in
@@ -241,8 +273,8 @@ module _ (d : Day) (rs : List (List ℕ)) (s : List ℕ) (m : Made d rs) (p : Re
 
   may : MayCome rs s
   may = record {
-    unit = λ e. sym has_unit ∙ (p.unit e).first;
-    opening = λ e. sym has_start ∙ (p.opening e).first;
+    unit = λ e. sym unit_came ∙ (p.unit e).first;
+    opening = λ e. sym start_came ∙ (p.opening e).first;
     instruction = λ e. omega (arith, has_count, (p.instruction e).room);
   }
 
@@ -254,11 +286,11 @@ module _ (d : Day) (rs : List (List ℕ)) (s : List ℕ) (m : Made d rs) (p : Re
   fits_with = record {
     unit = once_with UnitFits 1 rs s may.unit (λ e. (p.unit e).fields) m.fits.unit;
     low = subst LowStart (sym (taken_with_lem rs s may))
-        (low_with (taken_in rs) kind (body_of s) may.unit
+        (low_with (taken_in rs) kind (body_of s) (λ e. sym taken_came ∙ (p.unit e).first)
         (λ e. (
-          sym has_unit ∙ (p.opening e).unit,
-          subst (λ (t : Taken). Low t.unit (start_of (opening_of (body_of s)))) m.taken
-              (start_low d.taken.unit (body_of s) (p.opening e).fields (p.opening e).low),
+          sym taken_came ∙ (p.opening e).unit,
+          subst (λ (t : Taken). Low (own_unit t) (start_of (opening_of (body_of s)))) m.taken
+              (start_low (own_unit d.taken) (body_of s) (p.opening e).fields (p.opening e).low),
         ))
         m.fits.low);
     few = go;
@@ -281,8 +313,12 @@ module _ (d : Day) (rs : List (List ℕ)) (s : List ℕ) (m : Made d rs) (p : Re
       ]
 
   -- only a close closes, and it takes nothing in
-  closes : (eqb kind 4 || d.closed) ≡ true → kind ≡ 4
-  closes h = by_bool (eqb kind 4) (λ e. eqb-true kind 4 e) (λ e. never (sym p.not_closed ∙ (sym (ap (λ (b : Bool). b || d.closed) e) ∙ h)))
+  abbrev found_with : Bool → Option Finding
+  found_with b = pick b (Some (arrays_of (found_in paper d.taken))) d.found
+
+  closes : is_some (found_with (eqb kind 4)) ≡ true → kind ≡ 4
+  closes h = by_bool (eqb kind 4) (λ e. eqb-true kind 4 e)
+      (λ e. never (sym p.not_closed ∙ (sym (ap (λ (b : Bool). is_some (found_with b)) e) ∙ h)))
 
   same_taken : kind ≡ 4 → taken_in (with_one rs s) ≡ d.taken
   unfolding taken_with
@@ -293,10 +329,11 @@ module _ (d : Day) (rs : List (List ℕ)) (s : List ℕ) (m : Made d rs) (p : Re
   made_with = record {
     taken = ap (λ (t : Taken). taken_with t kind (body_of s)) m.taken ∙ sym (taken_with_lem rs s may);
     fits = fits_with;
-    closed = ap (λ (b : Bool). eqb kind 4 || b) m.closed ∙ sym (has_with 4 rs s);
-    started = λ h. has_with 2 rs s ∙ (ap (λ (b : Bool). eqb kind 2 || b) (sym has_start ∙ (p.close (closes h)).started) ∙ go (eqb kind 2));
+    closed =
+        some_or (eqb kind 4) (arrays_of (found_in paper d.taken)) d.found ∙ (ap (λ (b : Bool). eqb kind 4 || b) m.closed ∙ sym (has_with 4 rs s));
+    started = λ h. has_with 2 rs s ∙ (ap (λ (b : Bool). eqb kind 2 || b) (sym start_came ∙ (p.close (closes h)).started) ∙ go (eqb kind 2));
     stored =
-        λ h. ap (λ (k : ℕ). pick (eqb k 4) (arrays_of (found_in paper d.taken)) d.found) (closes h)
+        λ h. ap (λ (k : ℕ). unwrap_or (found_with (eqb k 4)) no_finding) (closes h)
         ∙ ap (λ (t : Taken). arrays_of (found_in paper t)) (sym (same_taken (closes h)));
   }
     where

@@ -11,7 +11,7 @@ use Rattle.records.specs.declared.Refusal.TheVariants.{NotReady, SliceTooShort}
 use Rattle.records.specs.Answers.{accepted, refusing, first_refusal}
 use Rattle.profile.specs.Profile.{paper}
 use Rattle.day.specs.declared.Day.{Day}
-use Rattle.day.specs.Day.{found_in, day_with}
+use Rattle.day.specs.Day.{found_in, day_with, is_closed}
 use Rattle.day.specs.Step.{kind_of, body_of, step_by, step_of}
 use Rattle.day.specs.ByKind.{answer_of}
 use Rattle.level.proofs.Lists.{by_bool}
@@ -65,9 +65,9 @@ module _ (d : Day) (o : List ℕ) (cs : List Call) where
   wrote_none e = simp (accepted_same (length (printed_day d)) (list_answer d o), e)
 
   -- only a closed day is listed
-  listed_closed : accepted (list_answer d o) ≡ true → d.closed ≡ true
+  listed_closed : accepted (list_answer d o) ≡ true → is_closed d ≡ true
   unfolding list_answer
-  listed_closed = go d.closed (ltb (length o) (length (printed_day d)))
+  listed_closed = go (is_closed d) (ltb (length o) (length (printed_day d)))
     where
       go : (c b : Bool) → accepted (first_refusal (refusing (not c) NotReady ∷ refusing b SliceTooShort ∷ [])) ≡ true → c ≡ true
       go true b e = refl
@@ -92,7 +92,7 @@ made_after (sends s ∷ cs) d rs m =
     (λ e. rw (after_refused d s cs e, let_refused d s cs e) (made_after cs d rs m))
 
 -- a closed day stays as it is
-pub stays : (cs : List Call) (d : Day) → d.closed ≡ true → after_calls d cs ≡ d
+pub stays : (cs : List Call) (d : Day) → is_closed d ≡ true → after_calls d cs ≡ d
 stays [] d c = unfold after_calls in refl
 stays (asks o ∷ cs) d c = after_ask d o cs ∙ stays cs d c
 stays (sends s ∷ cs) d c =

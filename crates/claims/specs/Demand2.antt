@@ -4,7 +4,7 @@ use Rattle.level.specs.Lists.{All, some}
 use Rattle.course.specs.declared.Piece.{Piece}
 use Rattle.profile.specs.Profile.{Span, level_starting, level_ending, cut_at, Joined, OnLine, day_pieces, closing_by}
 use Rattle.day.specs.declared.Day.{Day}
-use Rattle.day.specs.Day.{day_seconds, fates_in, courses_in, quantities_in, closing_in}
+use Rattle.day.specs.Day.{day_seconds, fates_in, courses_in, quantities_in, closing_in, is_closed}
 use Rattle.claims.specs.Calls.{Call, day_after, records_of, listings_of}
 use Rattle.claims.specs.LetIn.{found_from, spans_from, listing_from}
 
@@ -34,4 +34,4 @@ pub record Demand2 (rs : List (List ℕ)) (d : Day) (listings : List (List ℕ))
   pub printed : All (λ w. w ≡ listing_from rs) listings
 
 abbrev pub Demand2Claim : Type 0
-Demand2Claim = (calls : List Call) → (day_after calls).closed ≡ true → Demand2 (records_of calls) (day_after calls) (listings_of calls)
+Demand2Claim = (calls : List Call) → is_closed (day_after calls) ≡ true → Demand2 (records_of calls) (day_after calls) (listings_of calls)

@@ -3,7 +3,7 @@ use Rattle.std.specs.Prelude.{ℕ, suc, ◌+◌, ◌*◌, ◌-◌, ◌≤◌, �
 use Rattle.level.specs.Lists.{All, sum}
 use Rattle.profile.specs.Profile.{Span, level_starting, level_ending, rate_starting}
 use Rattle.profile.specs.Allowance.{allowance, exact_area, Within}
-use Rattle.day.specs.Day.{half_hours, day_seconds, quantities_in}
+use Rattle.day.specs.Day.{half_hours, day_seconds, quantities_in, is_closed}
 use Rattle.listing.specs.Reader.{printed_at, printed_kw}
 use Rattle.claims.specs.Calls.{Call, day_after, records_of, listings_of}
 use Rattle.claims.specs.LetIn.{spans_from}
@@ -36,4 +36,4 @@ pub record Demand3 (ss : List Span) (quantities : List ℕ) (listings : List (Li
 -- following is true"
 abbrev pub Demand3Claim : Type 0
 Demand3Claim =
-    (calls : List Call) → (day_after calls).closed ≡ true → Demand3 (spans_from (records_of calls)) (quantities_in (day_after calls)) (listings_of calls)
+    (calls : List Call) → is_closed (day_after calls) ≡ true → Demand3 (spans_from (records_of calls)) (quantities_in (day_after calls)) (listings_of calls)

@@ -3,7 +3,7 @@ use Rattle.std.specs.Prelude.{ℕ, ◌≡◌, List, true}
 use Rattle.validation.specs.Kept.{numbered, validated}
 use Rattle.profile.specs.Profile.{Chain}
 use Rattle.profile.specs.Starts.{CoursesStart}
-use Rattle.day.specs.Day.{day_seconds, quantities_in}
+use Rattle.day.specs.Day.{day_seconds, quantities_in, is_closed}
 use Rattle.claims.specs.Calls.{Call, day_after, records_of, listings_of}
 use Rattle.claims.specs.LetIn.{unit_in, opening_in, instructions_in, found_from, spans_from}
 use Rattle.claims.specs.Demand3.{Demand3}
@@ -20,4 +20,4 @@ pub record Demand3Whole (rs : List (List ℕ)) (quantities : List ℕ) (listings
 
 abbrev pub Demand3WholeClaim : Type 0
 Demand3WholeClaim =
-    (calls : List Call) → (day_after calls).closed ≡ true → Demand3Whole (records_of calls) (quantities_in (day_after calls)) (listings_of calls)
+    (calls : List Call) → is_closed (day_after calls) ≡ true → Demand3Whole (records_of calls) (quantities_in (day_after calls)) (listings_of calls)

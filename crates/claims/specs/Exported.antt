@@ -3,7 +3,7 @@ use Rattle.std.specs.Prelude.{ℕ, zero, suc, ◌*◌, ◌≤◌, ◌≡◌, Lis
 use Rattle.level.specs.Choice.{pick}
 use Rattle.records.specs.Answers.{number_of, accepted}
 use Rattle.day.specs.declared.Day.{Day}
-use Rattle.day.specs.Day.{empty, quantities_in}
+use Rattle.day.specs.Day.{empty, quantities_in, is_closed}
 use Rattle.day.specs.Step.{step_of}
 use Rattle.listing.specs.Listing.{suffices, list_of}
 use Rattle.listing.specs.Result.{listed_result, listed_lent}
@@ -17,7 +17,7 @@ unfoldable pub in_turn : ℕ → Day → List ℕ → List Call
 in_turn zero d s = []
 in_turn (suc n) d s =
     sends s
-    ∷ pick (accepted (step_of d s).answer && not (step_of d s).day.closed) (in_turn n (step_of d s).day (drop (step_of d s).used s)) []
+    ∷ pick (accepted (step_of d s).answer && not (is_closed (step_of d s).day)) (in_turn n (step_of d s).day (drop (step_of d s).used s)) []
 
 -- from the empty day, then the listing into the lent slice o; a record has at least one byte
 unfoldable pub calls_for : List ℕ → List ℕ → List Call
@@ -49,7 +49,7 @@ written s o = take (listed_result s o) (listed_lent s o)
 -- where no call is refused: a count of bytes, far below the refusals' results, so many as were written; the calls' one listing wrote them, every
 -- other byte is as it was, and demands 2 and 3 hold of the calls and of the bytes written
 pub record Wrote (s o : List ℕ) : Type 0 where
-  pub closed : (day_after (calls_for s o)).closed ≡ true
+  pub closed : is_closed (day_after (calls_for s o)) ≡ true
   pub count : listed_result s o ≤ suffices
   pub whole : length (written s o) ≡ listed_result s o
   pub listing : listings_of (calls_for s o) ≡ written s o ∷ []

@@ -1,5 +1,6 @@
 -- Believed: document 01, The printed day (demand 3). What the rules yield from the records that the refusals let in, and from nothing else.
-use Rattle.std.specs.Prelude.{ℕ, List, [], map, Bool, eqb, length, get_or}
+use Rattle.std.specs.Prelude.{ℕ, List, [], map, Bool, eqb, length, get_or, None, Some}
+use Rattle.level.specs.Choice.{pick}
 use Rattle.level.specs.Lists.{those, some, filled}
 use Rattle.level.specs.Numbers.{instruction_places}
 use Rattle.records.specs.declared.UnitData.{UnitData}
@@ -36,10 +37,8 @@ instructions_in rs = map (λ r. instruction_of (body_of r)) (of_kind 3 rs)
 -- what was taken
 unfoldable pub taken_in : List (List ℕ) → Taken
 taken_in rs = record {
-  hasUnit = has_kind 1 rs;
-  unit = unit_in rs;
-  hasStart = has_kind 2 rs;
-  start = start_of (opening_in rs);
+  unit = pick (has_kind 1 rs) (Some (unit_in rs)) None;
+  start = pick (has_kind 2 rs) (Some (start_of (opening_in rs))) None;
   count = length (instructions_in rs);
   instructions = filled instruction_places no_instruction (instructions_in rs);
 }

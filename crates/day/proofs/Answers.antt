@@ -1,9 +1,11 @@
 -- The first refusal of several conditions: what an acceptance says of each of them.
 use mathlib.Core.Path.{◌≡◌, refl, ap, sym}
 use mathlib.Core.List.{List, [], ◌∷◌}
-use mathlib.Core.Bool.{Bool, true, false, not, true≢false}
+use mathlib.Core.Bool.{Bool, true, false, ◌||◌, not, true≢false}
 use Rattle.level.specs.Lists.{All}
-use Rattle.std.specs.Prelude.{Ok, Err}
+use Rattle.level.specs.Choice.{pick}
+use Rattle.std.specs.Prelude.{Option, None, Some, Ok, Err}
+use Rattle.std.specs.Option.{is_some}
 use Rattle.records.specs.declared.Refusal.{Refusal}
 use Rattle.records.specs.Answers.{Answer, number_of, accepted, refusing, answered, first_refusal}
 use Rattle.day.specs.declared.Day.{Day}
@@ -31,6 +33,15 @@ not_met false r e = refl
 pub met_not : (c : Bool) (r : Refusal) → refusing (not c) r ≡ Ok tt → c ≡ true
 met_not true r e = refl
 met_not false r e = never (ap accepted e)
+
+-- ---- a value that a condition gives
+pub some_or : {A : Type 0} (c : Bool) (x : A) (o : Option A) → is_some (pick c (Some x) o) ≡ (c || is_some o)
+some_or true x o = refl
+some_or false x o = refl
+
+pub some_if : {A : Type 0} (c : Bool) (x : A) → is_some (pick c (Some x) None) ≡ c
+some_if true x = refl
+some_if false x = refl
 
 -- ---- with a value
 module _ {A : Type 0} (x : A) where

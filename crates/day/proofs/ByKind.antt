@@ -18,8 +18,9 @@ use Rattle.records.specs.Records.{size_of, numbers, opening_of}
 use Rattle.records.specs.Fields.{unit_answer, opening_answer, instruction_answer}
 use Rattle.profile.specs.declared.Taken.{Taken}
 use Rattle.profile.specs.Profile.{Found}
+use Rattle.profile.specs.Taken.{has_unit, has_start, own_unit}
 use Rattle.day.specs.declared.Day.{Day}
-use Rattle.day.specs.Day.{day_seconds, day_with}
+use Rattle.day.specs.Day.{day_seconds, day_with, is_closed}
 use Rattle.day.specs.Step.{kind_of, body_of, a_kind, no_bytes, unknown_kind, too_few, second_one, before_unit, too_many, not_ready, field_answer, too_high, quantity_too_high, accept, settle, answer_by, step_by}
 use Rattle.day.specs.ByKind.{unit_refusals, opening_refusals, instruction_refusals, close_refusals, kind_refusals}
 use Rattle.day.proofs.Answers.{is_accepted, all_accepted, not_met, met_not}
@@ -34,8 +35,8 @@ module _ (find : Taken → Found) (t : Taken) (b : List ℕ) where
       ∷ refusing (too_many t k) TooManyInstructions
       ∷ refusing (not_ready t k) NotReady
       ∷ field_answer k b
-      ∷ refusing (eqb k 2 && too_high t.unit (opening_of b)) OpeningTooHigh
-      ∷ refusing (eqb k 4 && quantity_too_high t.unit (find t)) QuantityTooHigh
+      ∷ refusing (eqb k 2 && too_high (own_unit t) (opening_of b)) OpeningTooHigh
+      ∷ refusing (eqb k 4 && quantity_too_high (own_unit t) (find t)) QuantityTooHigh
       ∷ [])
 
   -- that of the kind k, and of no other
@@ -61,58 +62,58 @@ pub by_kind : (find : Taken → Found) (d : Day) (s : List ℕ) → answer_by fi
     (refusing (no_bytes s) TooFewBytes
     ∷ refusing (unknown_kind s) UnknownKind
     ∷ refusing (too_few s) TooFewBytes
-    ∷ refusing d.closed AfterClose
+    ∷ refusing (is_closed d) AfterClose
     ∷ kind_refusals find d.taken (kind_of s) (body_of s))
 unfolding answer_by
 by_kind find d s =
     ap (λ (a : Answer). before (refusing (no_bytes s) TooFewBytes)
-    (before (refusing (unknown_kind s) UnknownKind) (before (refusing (too_few s) TooFewBytes) (before (refusing d.closed AfterClose) a))))
+    (before (refusing (unknown_kind s) UnknownKind) (before (refusing (too_few s) TooFewBytes) (before (refusing (is_closed d) AfterClose) a))))
     (order_kind find d.taken (body_of s) (kind_of s))
 
 -- ---- what an acceptance says, kind by kind
 module _ (t : Taken) (b : List ℕ) where
   pub record UnitPasses : Type 0 where
-    pub first : t.hasUnit ≡ false
+    pub first : has_unit t ≡ false
     pub fields : unit_answer (numbers b 62) ≡ Ok tt
 
   pub record OpeningPasses : Type 0 where
-    pub first : t.hasStart ≡ false
-    pub unit : t.hasUnit ≡ true
+    pub first : has_start t ≡ false
+    pub unit : has_unit t ≡ true
     pub fields : opening_answer b ≡ Ok tt
-    pub low : too_high t.unit (opening_of b) ≡ false
+    pub low : too_high (own_unit t) (opening_of b) ≡ false
 
   pub record InstructionPasses : Type 0 where
-    pub unit : t.hasUnit ≡ true
+    pub unit : has_unit t ≡ true
     pub room : t.count < instruction_places
     pub fields : instruction_answer day_seconds b ≡ Ok tt
 
   pub unit_passes : first_refusal (unit_refusals t b) ≡ Ok tt → UnitPasses
-  unit_passes e = let a = all_accepted (unit_refusals t b) e in record { first = not_met t.hasUnit SecondOne a.0; fields = a.1.0 }
+  unit_passes e = let a = all_accepted (unit_refusals t b) e in record { first = not_met (has_unit t) SecondOne a.0; fields = a.1.0 }
 
   pub opening_passes : first_refusal (opening_refusals t b) ≡ Ok tt → OpeningPasses
   opening_passes e = let a = all_accepted (opening_refusals t b) e in record {
-    first = not_met t.hasStart SecondOne a.0;
-    unit = met_not t.hasUnit BeforeUnit a.1.0;
+    first = not_met (has_start t) SecondOne a.0;
+    unit = met_not (has_unit t) BeforeUnit a.1.0;
     fields = a.1.1.0;
-    low = not_met (too_high t.unit (opening_of b)) OpeningTooHigh a.1.1.1.0;
+    low = not_met (too_high (own_unit t) (opening_of b)) OpeningTooHigh a.1.1.1.0;
   }
 
   pub instruction_passes : first_refusal (instruction_refusals t b) ≡ Ok tt → InstructionPasses
   instruction_passes e = let a = all_accepted (instruction_refusals t b) e in record {
-    unit = met_not t.hasUnit BeforeUnit a.0;
+    unit = met_not (has_unit t) BeforeUnit a.0;
     room = leb-false instruction_places t.count (not_met (leb instruction_places t.count) TooManyInstructions a.1.0);
     fields = a.1.1.0;
   }
 
 module _ (t : Taken) (f : Found) where
   pub record ClosePasses : Type 0 where
-    pub started : t.hasStart ≡ true
-    pub low : quantity_too_high t.unit f ≡ false
+    pub started : has_start t ≡ true
+    pub low : quantity_too_high (own_unit t) f ≡ false
 
   pub close_passes : first_refusal (close_refusals t f) ≡ Ok tt → ClosePasses
   close_passes e = let a = all_accepted (close_refusals t f) e in record {
-    started = met_not t.hasStart NotReady a.0;
-    low = not_met (quantity_too_high t.unit f) QuantityTooHigh a.1.0;
+    started = met_not (has_start t) NotReady a.0;
+    low = not_met (quantity_too_high (own_unit t) f) QuantityTooHigh a.1.0;
   }
 
 -- ---- a record that no refusal meets
@@ -136,7 +137,7 @@ module _ (find : Taken → Found) (d : Day) (s : List ℕ) where
   pub record RecordPasses : Type 0 where
     pub some : 1 ≤ length s
     pub long : size_of (kind_of s) ≤ length s
-    pub not_closed : d.closed ≡ false
+    pub not_closed : is_closed d ≡ false
     pub unit : kind_of s ≡ 1 → UnitPasses d.taken (body_of s)
     pub opening : kind_of s ≡ 2 → OpeningPasses d.taken (body_of s)
     pub instruction : kind_of s ≡ 3 → InstructionPasses d.taken (body_of s)
@@ -147,14 +148,14 @@ module _ (find : Taken → Found) (d : Day) (s : List ℕ) where
   passed e =
       let k : ℕ = kind_of s in
       let a =
-      all_accepted (refusing (no_bytes s) TooFewBytes ∷ refusing (unknown_kind s) UnknownKind ∷ refusing (too_few s) TooFewBytes ∷ refusing d.closed
+      all_accepted (refusing (no_bytes s) TooFewBytes ∷ refusing (unknown_kind s) UnknownKind ∷ refusing (too_few s) TooFewBytes ∷ refusing (is_closed d)
       AfterClose ∷ first_refusal (kind_refusals find d.taken k (body_of s)) ∷ [])
       (last ∙ (sym (by_kind find d s) ∙ e)) in
       let own : first_refusal (kind_refusals find d.taken k (body_of s)) ≡ Ok tt = a.1.1.1.1.0 in
       record {
         some = not_zero (length s) (not_met (no_bytes s) TooFewBytes a.0);
         long = ltb-false (length s) (size_of k) (not_met (too_few s) TooFewBytes a.1.1.0);
-        not_closed = not_met d.closed AfterClose a.1.1.1.0;
+        not_closed = not_met (is_closed d) AfterClose a.1.1.1.0;
         unit = λ h. unit_passes d.taken (body_of s) (kind_is k 1 h own);
         opening = λ h. opening_passes d.taken (body_of s) (kind_is k 2 h own);
         instruction = λ h. instruction_passes d.taken (body_of s) (kind_is k 3 h own);
@@ -162,12 +163,12 @@ module _ (find : Taken → Found) (d : Day) (s : List ℕ) where
       }
     where
       last : first_refusal (refusing (no_bytes s) TooFewBytes ∷ refusing (unknown_kind s) UnknownKind ∷ refusing (too_few s) TooFewBytes ∷ refusing
-          d.closed AfterClose ∷ first_refusal (kind_refusals find d.taken (kind_of s) (body_of s)) ∷ [])
+          (is_closed d) AfterClose ∷ first_refusal (kind_refusals find d.taken (kind_of s) (body_of s)) ∷ [])
           ≡ first_refusal (refusing (no_bytes s) TooFewBytes ∷ refusing (unknown_kind s) UnknownKind ∷ refusing (too_few s) TooFewBytes ∷ refusing
-          d.closed AfterClose ∷ kind_refusals find d.taken (kind_of s) (body_of s))
+          (is_closed d) AfterClose ∷ kind_refusals find d.taken (kind_of s) (body_of s))
       last =
           ap (λ (x : Answer). before (refusing (no_bytes s) TooFewBytes)
-          (before (refusing (unknown_kind s) UnknownKind) (before (refusing (too_few s) TooFewBytes) (before (refusing d.closed AfterClose) x))))
+          (before (refusing (unknown_kind s) UnknownKind) (before (refusing (too_few s) TooFewBytes) (before (refusing (is_closed d) AfterClose) x))))
           (end (first_refusal (kind_refusals find d.taken (kind_of s) (body_of s))))
         where
           end : (x : Answer) → before x (Ok tt) ≡ x
@@ -204,7 +205,7 @@ module _ (find : Taken → Found) (d : Day) (s : List ℕ) where
     -- of the kind k: 2, 24, then those of the kind
     pub kind_step : (k : ℕ) → get_or s 0 0 ≡ k → a_kind k ≡ true →
         let b : List ℕ = take (size_of k - 1) (drop 1 s) in
-        settle (first_refusal (refusing (ltb (length s) (size_of k)) TooFewBytes ∷ refusing d.closed AfterClose ∷ kind_refusals find d.taken k b))
+        settle (first_refusal (refusing (ltb (length s) (size_of k)) TooFewBytes ∷ refusing (is_closed d) AfterClose ∷ kind_refusals find d.taken k b))
         d (accept (day_with find d k b) (size_of k))
         ≡ step_by find d s
     unfolding step_by too_few body_of kind_of

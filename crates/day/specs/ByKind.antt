@@ -9,6 +9,7 @@ use Rattle.records.specs.Records.{numbers, opening_of}
 use Rattle.records.specs.Fields.{unit_answer, opening_answer, instruction_answer}
 use Rattle.profile.specs.declared.Taken.{Taken}
 use Rattle.profile.specs.Profile.{Found, paper}
+use Rattle.profile.specs.Taken.{has_unit, has_start, own_unit}
 use Rattle.day.specs.declared.Day.{Day}
 use Rattle.day.specs.Day.{day_seconds, found_in}
 use Rattle.day.specs.Step.{too_high, quantity_too_high, answer_by}
@@ -19,28 +20,28 @@ answer_of d s = answer_by (found_in paper) d s
 
 -- kind 1, unit: 20; 3 and 4
 abbrev pub unit_refusals : Taken → List ℕ → List Answer
-unit_refusals t b = refusing t.hasUnit SecondOne ∷ unit_answer (numbers b 62) ∷ []
+unit_refusals t b = refusing (has_unit t) SecondOne ∷ unit_answer (numbers b 62) ∷ []
 
 -- kind 2, opening: 20, 21; 5; 22
 abbrev pub opening_refusals : Taken → List ℕ → List Answer
 opening_refusals t b =
-    refusing t.hasStart SecondOne
-    ∷ refusing (not t.hasUnit) BeforeUnit
+    refusing (has_start t) SecondOne
+    ∷ refusing (not (has_unit t)) BeforeUnit
     ∷ opening_answer b
-    ∷ refusing (too_high t.unit (opening_of b)) OpeningTooHigh
+    ∷ refusing (too_high (own_unit t) (opening_of b)) OpeningTooHigh
     ∷ []
 
 -- kind 3, instruction: 21, 23; 6 to 9
 abbrev pub instruction_refusals : Taken → List ℕ → List Answer
 instruction_refusals t b =
-    refusing (not t.hasUnit) BeforeUnit
+    refusing (not (has_unit t)) BeforeUnit
     ∷ refusing (leb instruction_places t.count) TooManyInstructions
     ∷ instruction_answer day_seconds b
     ∷ []
 
 -- kind 4, close: 25; 27
 abbrev pub close_refusals : Taken → Found → List Answer
-close_refusals t f = refusing (not t.hasStart) NotReady ∷ refusing (quantity_too_high t.unit f) QuantityTooHigh ∷ []
+close_refusals t f = refusing (not (has_start t)) NotReady ∷ refusing (quantity_too_high (own_unit t) f) QuantityTooHigh ∷ []
 
 -- of the kind k
 unfoldable pub kind_refusals : (Taken → Found) → Taken → ℕ → List ℕ → List Answer

@@ -12,9 +12,10 @@ use Rattle.records.specs.Records.{size_of, numbers, opening_of}
 use Rattle.records.specs.Fields.{unit_answer, opening_answer, instruction_answer}
 use Rattle.profile.specs.declared.Taken.{Taken}
 use Rattle.profile.specs.Profile.{Found, paper}
+use Rattle.profile.specs.Taken.{has_unit, has_start, own_unit}
 use Rattle.day.specs.declared.Day.{Day}
 use Rattle.day.specs.declared.Stepped.{Stepped}
-use Rattle.day.specs.Day.{day_seconds, found_in, day_with}
+use Rattle.day.specs.Day.{day_seconds, found_in, day_with, is_closed}
 
 -- "A record is one byte of kind, then a body whose length the kind fixes"
 unfoldable pub kind_of : List ℕ → ℕ
@@ -44,11 +45,11 @@ too_few s = ltb (length s) (size_of (kind_of s))
 
 -- "20 second unit or opening"
 unfoldable pub second_one : Taken → ℕ → Bool
-second_one t k = pick (eqb k 1) t.hasUnit (pick (eqb k 2) t.hasStart false)
+second_one t k = pick (eqb k 1) (has_unit t) (pick (eqb k 2) (has_start t) false)
 
 -- "21 opening or instruction before a unit"
 unfoldable pub before_unit : Taken → ℕ → Bool
-before_unit t k = (eqb k 2 || eqb k 3) && not t.hasUnit
+before_unit t k = (eqb k 2 || eqb k 3) && not (has_unit t)
 
 -- "23 forty-first instruction"
 unfoldable pub too_many : Taken → ℕ → Bool
@@ -56,7 +57,7 @@ too_many t k = eqb k 3 && leb instruction_places t.count
 
 -- "25 close without an opening"
 unfoldable pub not_ready : Taken → ℕ → Bool
-not_ready t k = eqb k 4 && not t.hasStart
+not_ready t k = eqb k 4 && not (has_start t)
 
 -- 3 to 9: the fields, as the kind has them
 unfoldable pub field_answer : ℕ → List ℕ → Answer
@@ -93,14 +94,14 @@ module _ (find : Taken → Found) where
       (refusing (no_bytes s) TooFewBytes
       ∷ refusing (unknown_kind s) UnknownKind
       ∷ refusing (too_few s) TooFewBytes
-      ∷ refusing d.closed AfterClose
+      ∷ refusing (is_closed d) AfterClose
       ∷ refusing (second_one t k) SecondOne
       ∷ refusing (before_unit t k) BeforeUnit
       ∷ refusing (too_many t k) TooManyInstructions
       ∷ refusing (not_ready t k) NotReady
       ∷ field_answer k b
-      ∷ refusing (eqb k 2 && too_high t.unit (opening_of b)) OpeningTooHigh
-      ∷ refusing (eqb k 4 && quantity_too_high t.unit (find t)) QuantityTooHigh
+      ∷ refusing (eqb k 2 && too_high (own_unit t) (opening_of b)) OpeningTooHigh
+      ∷ refusing (eqb k 4 && quantity_too_high (own_unit t) (find t)) QuantityTooHigh
       ∷ [])
 
   unfoldable pub step_by : Day → List ℕ → Stepped

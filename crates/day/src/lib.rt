@@ -1,14 +1,13 @@
-// The day: what was let in, whether it is closed, what close found.
+// The day: what was let in, and once it is closed, what close found.
 #![tactic(auto)]
 
 use records::Refusal;
 
-// A day: what was let in, whether it is closed, what close found.
+// A day: what was let in, and what close found. It is closed where there is a finding.
 #[derive(Clone, Copy)]
 pub struct Day {
     pub taken: profile::Taken,
-    pub closed: bool,
-    pub found: profile::Finding,
+    pub found: Option<profile::Finding>,
 }
 
 // What taking a record gives: the answer, the day after it, and how many bytes it used.

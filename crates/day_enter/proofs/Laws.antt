@@ -13,6 +13,7 @@ use Rattle.records.specs.Answers.{Answer, refusing, before, answered, first_refu
 use Rattle.records.specs.Records.{unit_size, opening_size, instruction_size, size_of, numbers, unit_of, opening_of, instruction_of}
 use Rattle.records.specs.Fields.{unit_answer, opening_answer, instruction_answer}
 use Rattle.profile.specs.declared.Taken.{Taken}
+use Rattle.profile.specs.Taken.{has_unit, has_start, own_unit}
 use Rattle.day.specs.Day.{day_seconds}
 use Rattle.day.specs.Step.{too_high}
 use Rattle.day.specs.ByKind.{instruction_refusals, kind_refusals}
@@ -45,29 +46,29 @@ module _ {A : Type 0} (x : A) where
 
 -- ---- at the front of s, of what was taken, t
 module _ (t : Taken) (closed : Bool) (s : List ℕ) where
-  pub unit_front_is : unit_front t.hasUnit closed s ≡ answered (front_answer 1 t closed s) (unit_of (numbers (body unit_size s) 62))
+  pub unit_front_is : unit_front (has_unit t) closed s ≡ answered (front_answer 1 t closed s) (unit_of (numbers (body unit_size s) 62))
   unfolding unit_front kind_refusals size_of
   unit_front_is =
       let ns : List ℕ = numbers (body unit_size s) 62 in
-      let xs : List Answer = refusing t.hasUnit SecondOne ∷ [] in
+      let xs : List Answer = refusing (has_unit t) SecondOne ∷ [] in
       ap (λ (a : Answer). before (early unit_size closed s xs) (answered a (unit_of ns))) (sym (last_is (unit_answer ns)))
       ∙ read_behind (unit_of ns) unit_size closed s xs (unit_answer ns ∷ [])
 
-  pub opening_front_is : opening_front t.hasUnit t.hasStart closed t.unit s ≡ answered (front_answer 2 t closed s) (opening_of (body opening_size s))
+  pub opening_front_is : opening_front t.unit (has_start t) closed s ≡ answered (front_answer 2 t closed s) (opening_of (body opening_size s))
   unfolding opening_front kind_refusals size_of
   opening_front_is =
       let b : List ℕ = body opening_size s in
-      let xs : List Answer = refusing t.hasStart SecondOne ∷ refusing (not t.hasUnit) BeforeUnit ∷ [] in
-      let high : Answer = refusing (too_high t.unit (opening_of b)) OpeningTooHigh in
+      let xs : List Answer = refusing (has_start t) SecondOne ∷ refusing (not (has_unit t)) BeforeUnit ∷ [] in
+      let high : Answer = refusing (too_high (own_unit t) (opening_of b)) OpeningTooHigh in
       ap (λ (a : Answer). before (early opening_size closed s xs) (answered (before (opening_answer b) a) (opening_of b))) (sym (last_is high))
       ∙ read_behind (opening_of b) opening_size closed s xs (opening_answer b ∷ high ∷ [])
 
-  pub instruction_front_is : instruction_front t.hasUnit closed t.count s
+  pub instruction_front_is : instruction_front (has_unit t) closed t.count s
       ≡ answered (front_answer 3 t closed s) (instruction_of (body instruction_size s))
   unfolding instruction_front kind_refusals size_of
   instruction_front_is =
       let b : List ℕ = body instruction_size s in
-      let xs : List Answer = refusing (not t.hasUnit) BeforeUnit ∷ refusing (leb instruction_places t.count) TooManyInstructions ∷ [] in
+      let xs : List Answer = refusing (not (has_unit t)) BeforeUnit ∷ refusing (leb instruction_places t.count) TooManyInstructions ∷ [] in
       let a : Answer = instruction_answer day_seconds b in
       ap (λ (r : Answer). before (early instruction_size closed s xs) (answered r (instruction_of b))) (sym (last_is a))
       ∙ read_behind (instruction_of b) instruction_size closed s xs (a ∷ [])

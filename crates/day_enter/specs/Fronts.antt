@@ -1,6 +1,7 @@
 -- Working. A unit, an opening, an instruction at the front of bytes, as a day in this state answers it: the refusals by the state, then those by the
 -- fields, in the paper's order, and what the record says. (proofs/Laws: they are the definition's answer.)
-use Rattle.std.specs.Prelude.{ℕ, ◌-◌, List, [], ◌∷◌, Bool, not, leb, ltb, length, take, drop, Result}
+use Rattle.std.specs.Prelude.{ℕ, ◌-◌, List, [], ◌∷◌, Bool, not, leb, ltb, length, take, drop, Option, Result}
+use Rattle.std.specs.Option.{is_some, unwrap_or}
 use Rattle.level.specs.Numbers.{instruction_places}
 use Rattle.records.specs.declared.UnitData.{UnitData}
 use Rattle.records.specs.declared.Opening.{Opening}
@@ -8,7 +9,7 @@ use Rattle.records.specs.declared.Instruction.{Instruction}
 use Rattle.records.specs.declared.Refusal.{Refusal}
 use Rattle.records.specs.declared.Refusal.TheVariants.{TooFewBytes, SecondOne, BeforeUnit, OpeningTooHigh, TooManyInstructions, AfterClose, NotReady}
 use Rattle.records.specs.Answers.{Answer, refusing, before, answered, first_refusal}
-use Rattle.records.specs.Records.{unit_size, opening_size, instruction_size, size_of, opening_of}
+use Rattle.records.specs.Records.{unit_size, opening_size, instruction_size, size_of, unit_of, opening_of}
 use Rattle.records.specs.Fields.{opening_answer}
 use Rattle.records_unit.specs.Decoded.{unit_read}
 use Rattle.records_fields.specs.Decoded.{instruction_read}
@@ -33,10 +34,10 @@ unit_front has_unit closed s = before (early unit_size closed s (refusing has_un
 abbrev pub opening_read_below : UnitData → List ℕ → Result Opening Refusal
 opening_read_below u b = answered (before (opening_answer b) (refusing (too_high u (opening_of b)) OpeningTooHigh)) (opening_of b)
 
-unfoldable pub opening_front : Bool → Bool → Bool → UnitData → List ℕ → Result Opening Refusal
-opening_front has_unit has_start closed u s =
-    before (early opening_size closed s (refusing has_start SecondOne ∷ refusing (not has_unit) BeforeUnit ∷ []))
-    (opening_read_below u (body opening_size s))
+unfoldable pub opening_front : Option UnitData → Bool → Bool → List ℕ → Result Opening Refusal
+opening_front unit has_start closed s =
+    before (early opening_size closed s (refusing has_start SecondOne ∷ refusing (not (is_some unit)) BeforeUnit ∷ []))
+    (opening_read_below (unwrap_or unit (unit_of [])) (body opening_size s))
 
 unfoldable pub instruction_front : Bool → Bool → ℕ → List ℕ → Result Instruction Refusal
 instruction_front has_unit closed count s =

@@ -2,36 +2,17 @@
 // paper's order, and what the record says. A slice of any kind is read as one of the kind asked for.
 #![tactic(auto)]
 
-ghost use Rattle.std.specs.Prelude.{◌≡◌, []};
-ghost use Rattle.records.specs.Records.{unit_of, opening_of};
+ghost use Rattle.std.specs.Prelude.{◌≡◌, option_copied};
 ghost use Rattle.day.specs.Step.{too_high};
 ghost use Rattle.day_enter.specs.Fronts.{unit_front, opening_front, instruction_front, close_front};
 ghost use Rattle.profile.specs.Taken.{start_of, no_taken};
-ghost use Rattle.profile.specs.Finding.{no_finding};
 ghost use Rattle.day.specs.Day.{empty};
 
-use course::Course;
 use day::Day;
-use profile::{Finding, Start, State, Taken, UnderWay};
+use profile::{Start, Taken};
 use records::{Instruction, Opening, Refusal, UnitData};
 
 // ---- nothing let in
-
-// A unit of zeros.
-#[tactic(auto, unfolding(records::specs::Records::unit_of, records::specs::Records::column_of, records::specs::Records::trigger_of))]
-pub fn no_unit() -> UnitData
-    ensures { result ≡ unit_of [] }
-{
-    UnitData::default()
-}
-
-// An opening of zeros.
-#[tactic(auto, unfolding(records::specs::Records::opening_of))]
-pub fn no_opening() -> Opening
-    ensures { result ≡ opening_of [] }
-{
-    Opening::default()
-}
 
 // What an opening starts: no rate replaced, not maximised. (No `From`: both types are of crates below.)
 #[tactic(auto, unfolding(profile::specs::Taken::start_of))]
@@ -56,27 +37,10 @@ pub fn no_taken() -> Taken
     ensures { result ≡ no_taken }
 {
     Taken {
-        hasUnit: false,
-        unit: no_unit(),
-        hasStart: false,
-        start: start_of(no_opening()),
+        unit: None,
+        start: None,
         count: 0,
         instructions: [records_bytes::no_instruction(); level::INSTRUCTIONS],
-    }
-}
-
-// Nothing found. (By hand: of a derived `Default` no proof was found for its arrays.)
-#[tactic(auto, unfolding(profile::specs::Finding::no_finding))]
-fn no_finding() -> Finding
-    ensures { result ≡ no_finding }
-{
-    Finding {
-        fates: [0; level::INSTRUCTIONS],
-        started: 0,
-        courses: [Course::default(); level::COURSES],
-        sums: [0; level::BOUNDARIES],
-        last: UnderWay::default(),
-        end: State::default(),
     }
 }
 
@@ -87,8 +51,7 @@ pub fn empty_day() -> Day
 {
     Day {
         taken: no_taken(),
-        closed: false,
-        found: no_finding(),
+        found: None,
     }
 }
 
@@ -124,13 +87,12 @@ fn too_high(unit: &UnitData, o: &Opening) -> bool
 // An opening at the front of the input.
 #[tactic(auto, unfolding(crate::specs::Fronts::opening_front))]
 pub fn opening_front(
-    has_unit: bool,
+    unit: Option<&UnitData>,
     has_start: bool,
     closed: bool,
-    unit: &UnitData,
     input: &[u8],
 ) -> Result<Opening, Refusal>
-    ensures { result ≡ opening_front has_unit has_start closed unit.now input.now }
+    ensures { result ≡ opening_front (option_copied unit.entry) has_start closed input.now }
 {
     if input.len() < records::OPENING_SIZE {
         return Err(Refusal::TooFewBytes);
@@ -141,9 +103,9 @@ pub fn opening_front(
     if has_start {
         return Err(Refusal::SecondOne);
     }
-    if !has_unit {
+    let Some(unit) = unit else {
         return Err(Refusal::BeforeUnit);
-    }
+    };
     let opening = records_fields::read_opening(&input[1..records::OPENING_SIZE])?;
     if too_high(unit, &opening) {
         return Err(Refusal::OpeningTooHigh);

@@ -7,7 +7,7 @@ use mathlib.Core.Bool.{Bool, true, false, not}
 use lib.Dec.{eqb}
 use lib.ListN.{length, get_or, set}
 use borrow.Author.Tests.{le-ltb}
-use Rattle.std.specs.Prelude.{Result, Ok, Err}
+use Rattle.std.specs.Prelude.{Some, Result, Ok, Err}
 use Rattle.level.specs.Choice.{pick}
 use Rattle.level.specs.Lists.{some}
 use Rattle.level.specs.Numbers.{instruction_places}
@@ -20,14 +20,15 @@ use Rattle.records.specs.declared.Kind.{Kind}
 use Rattle.records.proofs.ByKind.{kind_number, kind_is, kind_none}
 use Rattle.records.specs.Answers.{Answer, accepted, refusing, before, answered, first_refusal}
 use Rattle.records.specs.Records.{unit_size, opening_size, instruction_size, close_size, size_of, numbers, unit_of, opening_of, instruction_of}
+use Rattle.profile.specs.declared.Start.{Start}
 use Rattle.profile.specs.declared.Taken.{Taken}
 use Rattle.profile.specs.declared.Finding.{Finding}
-use Rattle.profile.specs.Taken.{start_of, taken_with}
+use Rattle.profile.specs.Taken.{start_of, taken_with, has_unit, has_start, own_unit}
 use Rattle.profile.specs.Profile.{paper}
 use Rattle.profile.specs.Finding.{arrays_of}
 use Rattle.day.specs.declared.Day.{Day}
 use Rattle.day.specs.declared.Stepped.{Stepped}
-use Rattle.day.specs.Day.{found_in, day_with}
+use Rattle.day.specs.Day.{found_in, day_with, is_closed}
 use Rattle.day.specs.Step.{a_kind, quantity_too_high, accept, settle, step_of}
 use Rattle.day.specs.ByKind.{close_refusals, kind_refusals}
 use Rattle.day.proofs.ByKind.{no_kinds, step_empty, no_kind, kind_step}
@@ -61,55 +62,49 @@ module _ (k : ℕ) (t : Taken) (closed : Bool) (s : List ℕ) where
   }
 
 module _ (t : Taken) (closed : Bool) (s : List ℕ) where
-  pub unit_refused : (r : Refusal) → Err r ≡ unit_front t.hasUnit closed s → TakenBy 1 t closed s (Err r) t
+  pub unit_refused : (r : Refusal) → Err r ≡ unit_front (has_unit t) closed s → TakenBy 1 t closed s (Err r) t
   unit_refused r e = refused 1 t closed s r (of_err _ _ r (e ∙ unit_front_is t closed s))
 
-  pub unit_taken : (u : UnitData) → Ok u ≡ unit_front t.hasUnit closed s →
+  pub unit_taken : (u : UnitData) → Ok u ≡ unit_front (has_unit t) closed s →
       TakenBy 1 t closed s (Ok unit_size)
-      (record { hasUnit = true; unit = u; hasStart = t.hasStart; start = t.start; count = t.count; instructions = t.instructions })
+      (record { unit = Some u; start = t.start; count = t.count; instructions = t.instructions })
   unfolding taken_with size_of
   unit_taken u e =
       let o = of_ok (unit_of (numbers (body unit_size s) 62)) (front_answer 1 t closed s) u (e ∙ unit_front_is t closed s) in
       let_in 1 t closed s _ o.0 (λ i. record {
-        hasUnit = true;
-        unit = o.1 i;
-        hasStart = t.hasStart;
+        unit = Some (o.1 i);
         start = t.start;
         count = t.count;
         instructions = t.instructions;
       })
 
-  pub opening_refused : (r : Refusal) → Err r ≡ opening_front t.hasUnit t.hasStart closed t.unit s → TakenBy 2 t closed s (Err r) t
+  pub opening_refused : (r : Refusal) → Err r ≡ opening_front t.unit (has_start t) closed s → TakenBy 2 t closed s (Err r) t
   opening_refused r e = refused 2 t closed s r (of_err _ _ r (e ∙ opening_front_is t closed s))
 
-  pub opening_taken : (o : Opening) → Ok o ≡ opening_front t.hasUnit t.hasStart closed t.unit s →
+  pub opening_taken : (o : Opening) (start : Start) → start ≡ start_of o → Ok o ≡ opening_front t.unit (has_start t) closed s →
       TakenBy 2 t closed s (Ok opening_size)
-      (record { hasUnit = t.hasUnit; unit = t.unit; hasStart = true; start = start_of o; count = t.count; instructions = t.instructions })
+      (record { unit = t.unit; start = Some start; count = t.count; instructions = t.instructions })
   unfolding taken_with size_of
-  opening_taken o e =
+  opening_taken o start is e =
       let q = of_ok (opening_of (body opening_size s)) (front_answer 2 t closed s) o (e ∙ opening_front_is t closed s) in
       let_in 2 t closed s _ q.0 (λ i. record {
-        hasUnit = t.hasUnit;
         unit = t.unit;
-        hasStart = true;
-        start = start_of (q.1 i);
+        start = Some ((is ∙ ap start_of q.1) i);
         count = t.count;
         instructions = t.instructions;
       })
 
-  pub instruction_refused : (r : Refusal) → Err r ≡ instruction_front t.hasUnit closed t.count s → TakenBy 3 t closed s (Err r) t
+  pub instruction_refused : (r : Refusal) → Err r ≡ instruction_front (has_unit t) closed t.count s → TakenBy 3 t closed s (Err r) t
   instruction_refused r e = refused 3 t closed s r (of_err _ _ r (e ∙ instruction_front_is t closed s))
 
-  module _ (i : Instruction) (e : Ok i ≡ instruction_front t.hasUnit closed t.count s) where
+  module _ (i : Instruction) (e : Ok i ≡ instruction_front (has_unit t) closed t.count s) where
     pub instruction_fits : t.count < instruction_places
     instruction_fits = instruction_room t closed s
         (of_ok (instruction_of (body instruction_size s)) (front_answer 3 t closed s) i (e ∙ instruction_front_is t closed s)).0
 
     pub instruction_taken : TakenBy 3 t closed s (Ok instruction_size)
         (record {
-          hasUnit = t.hasUnit;
           unit = t.unit;
-          hasStart = t.hasStart;
           start = t.start;
           count = t.count + 1;
           instructions = set t.instructions t.count i;
@@ -118,9 +113,7 @@ module _ (t : Taken) (closed : Bool) (s : List ℕ) where
     instruction_taken =
         let q = of_ok (instruction_of (body instruction_size s)) (front_answer 3 t closed s) i (e ∙ instruction_front_is t closed s) in
         let_in 3 t closed s _ q.0 (λ j. record {
-          hasUnit = t.hasUnit;
           unit = t.unit;
-          hasStart = t.hasStart;
           start = t.start;
           count = t.count + 1;
           instructions = set t.instructions t.count (q.1 j);
@@ -129,71 +122,71 @@ module _ (t : Taken) (closed : Bool) (s : List ℕ) where
 -- ---- a close
 module _ (d : Day) where
   abbrev high : Answer
-  high = refusing (quantity_too_high d.taken.unit (found_in paper d.taken)) QuantityTooHigh
+  high = refusing (quantity_too_high (own_unit d.taken) (found_in paper d.taken)) QuantityTooHigh
 
   abbrev closed : Stepped
   closed = accept (day_with (found_in paper) d 4 []) close_size
 
-  in_two : settle (before (close_front d.taken.hasStart d.closed) high) d closed ≡ close_taken (found_in paper) d
+  in_two : settle (before (close_front (has_start d.taken) (is_closed d)) high) d closed ≡ close_taken (found_in paper) d
   unfolding close_front
   in_two =
       ap (λ (a : Answer). settle a d closed)
-      (ap (before (close_front d.taken.hasStart d.closed)) (sym (last_is high))
-      ∙ first_append (refusing d.closed AfterClose ∷ refusing (not d.taken.hasStart) NotReady ∷ []) (high ∷ []))
+      (ap (before (close_front (has_start d.taken) (is_closed d))) (sym (last_is high))
+      ∙ first_append (refusing (is_closed d) AfterClose ∷ refusing (not (has_start d.taken)) NotReady ∷ []) (high ∷ []))
 
-  pub close_early : (r : Refusal) → Err r ≡ close_front d.taken.hasStart d.closed → stepped (Err r) d ≡ close_taken (found_in paper) d
+  pub close_early : (r : Refusal) → Err r ≡ close_front (has_start d.taken) (is_closed d) → stepped (Err r) d ≡ close_taken (found_in paper) d
   close_early r e = ap (λ (a : Answer). settle (before a high) d closed) e ∙ in_two
 
-  module _ (e : Ok tt ≡ close_front d.taken.hasStart d.closed) where
+  module _ (e : Ok tt ≡ close_front (has_start d.taken) (is_closed d)) where
     pub close_refused : (r : Refusal) → Err r ≡ close_read d.taken → stepped (Err r) d ≡ close_taken (found_in paper) d
     unfolding close_read
     close_refused r f =
         ap (λ (a : Answer). settle a d closed) (sym (of_err _ high r f)) ∙ (ap (λ (a : Answer). settle (before a high) d closed) e ∙ in_two)
 
     pub close_is : (f : Finding) → Ok f ≡ close_read d.taken →
-        accept (record { taken = d.taken; closed = true; found = f }) close_size ≡ close_taken (found_in paper) d
+        accept (record { taken = d.taken; found = Some f }) close_size ≡ close_taken (found_in paper) d
     unfolding close_read day_with taken_with
     close_is f h =
         let q = of_ok (arrays_of (found_in paper d.taken)) high f h in
-        (λ i. accept (record { taken = d.taken; closed = true; found = q.1 i }) close_size)
+        (λ i. accept (record { taken = d.taken; found = Some (q.1 i) }) close_size)
         ∙ (ap (λ (a : Answer). settle a d closed) (sym q.0) ∙ (ap (λ (a : Answer). settle (before a high) d closed) e ∙ in_two))
 
 -- ---- the step
 module _ (d : Day) (s : List ℕ) (some_byte : 1 ≤ length s) where
   -- of a record of the kind k, no close
   pub taken_step : (k : ℕ) → get_or s 0 0 ≡ k → a_kind k ≡ true → eqb k 4 ≡ false → (r : Result ℕ Refusal) (u : Taken) →
-      TakenBy k d.taken d.closed s r u → stepped r (record { taken = u; closed = d.closed; found = d.found }) ≡ step_of d s
+      TakenBy k d.taken (is_closed d) s r u → stepped r (record { taken = u; found = d.found }) ≡ step_of d s
   unfolding day_with
   taken_step k e is other r u t =
-      (λ i. stepped (t.used i) (record { taken = t.taken i; closed = d.closed; found = d.found }))
-      ∙ (go (front_answer k d.taken d.closed s) ∙ kind_step (found_in paper) d s some_byte k e is)
+      (λ i. stepped (t.used i) (record { taken = t.taken i; found = d.found }))
+      ∙ (go (front_answer k d.taken (is_closed d) s) ∙ kind_step (found_in paper) d s some_byte k e is)
     where
       go : (a : Answer) →
           stepped (answered a (size_of k))
-          (record { taken = pick (accepted a) (taken_with d.taken k (body (size_of k) s)) d.taken; closed = d.closed; found = d.found })
+          (record { taken = pick (accepted a) (taken_with d.taken k (body (size_of k) s)) d.taken; found = d.found })
           ≡ settle a d (accept (day_with (found_in paper) d k (body (size_of k) s)) (size_of k))
       go (Ok _) = rw other refl
       go (Err r) = refl
 
-  pub unit_step : get_or s 0 0 ≡ 1 → (r : Result ℕ Refusal) (u : Taken) → TakenBy 1 d.taken d.closed s r u →
-      stepped r (record { taken = u; closed = d.closed; found = d.found }) ≡ step_of d s
+  pub unit_step : get_or s 0 0 ≡ 1 → (r : Result ℕ Refusal) (u : Taken) → TakenBy 1 d.taken (is_closed d) s r u →
+      stepped r (record { taken = u; found = d.found }) ≡ step_of d s
   unfolding a_kind some
   unit_step e = taken_step 1 e refl refl
 
-  pub opening_step : get_or s 0 0 ≡ 2 → (r : Result ℕ Refusal) (u : Taken) → TakenBy 2 d.taken d.closed s r u →
-      stepped r (record { taken = u; closed = d.closed; found = d.found }) ≡ step_of d s
+  pub opening_step : get_or s 0 0 ≡ 2 → (r : Result ℕ Refusal) (u : Taken) → TakenBy 2 d.taken (is_closed d) s r u →
+      stepped r (record { taken = u; found = d.found }) ≡ step_of d s
   unfolding a_kind some
   opening_step e = taken_step 2 e refl refl
 
-  pub instruction_step : get_or s 0 0 ≡ 3 → (r : Result ℕ Refusal) (u : Taken) → TakenBy 3 d.taken d.closed s r u →
-      stepped r (record { taken = u; closed = d.closed; found = d.found }) ≡ step_of d s
+  pub instruction_step : get_or s 0 0 ≡ 3 → (r : Result ℕ Refusal) (u : Taken) → TakenBy 3 d.taken (is_closed d) s r u →
+      stepped r (record { taken = u; found = d.found }) ≡ step_of d s
   unfolding a_kind some
   instruction_step e = taken_step 3 e refl refl
 
   pub close_step : get_or s 0 0 ≡ 4 → close_taken (found_in paper) d ≡ step_of d s
   unfolding kind_refusals size_of a_kind some day_with
   close_step e =
-      ap (λ (b : Bool). settle (before (refusing b TooFewBytes) (first_refusal (refusing d.closed AfterClose ∷ close_refusals d.taken (found_in paper
+      ap (λ (b : Bool). settle (before (refusing b TooFewBytes) (first_refusal (refusing (is_closed d) AfterClose ∷ close_refusals d.taken (found_in paper
       d.taken)))) d (accept (day_with (found_in paper) d 4 (body close_size s)) close_size)) (sym (le-ltb (length s) close_size some_byte))
       ∙ kind_step (found_in paper) d s some_byte 4 e refl
 

@@ -12,7 +12,7 @@ use Rattle.profile.specs.Taken.{taken_with}
 use Rattle.profile.specs.Profile.{Found}
 use Rattle.day.specs.declared.Day.{Day}
 use Rattle.day.specs.declared.Stepped.{Stepped}
-use Rattle.day.specs.Day.{day_with}
+use Rattle.day.specs.Day.{day_with, is_closed}
 use Rattle.day.specs.Step.{accept, settle}
 use Rattle.day.specs.ByKind.{close_refusals}
 use Rattle.day_enter.specs.Fronts.{body, front_answer}
@@ -35,4 +35,4 @@ pub record TakenBy (k : ℕ) (t : Taken) (closed : Bool) (s : List ℕ) (r : Res
 -- a close of the day d, find giving what is found
 abbrev pub close_taken : (Taken → Found) → Day → Stepped
 close_taken find d =
-    settle (first_refusal (refusing d.closed AfterClose ∷ close_refusals d.taken (find d.taken))) d (accept (day_with find d 4 []) close_size)
+    settle (first_refusal (refusing (is_closed d) AfterClose ∷ close_refusals d.taken (find d.taken))) d (accept (day_with find d 4 []) close_size)

@@ -16,9 +16,8 @@ use records::{Kind, Refusal};
 fn take_unit(taken: &mut Taken, closed: bool, input: &[u8]) -> Result<usize, Refusal>
     ensures { TakenBy 1 taken.old closed input.now result taken.new }
 {
-    let unit = day_enter::unit_front(taken.hasUnit, closed, input)?;
-    taken.hasUnit = true;
-    taken.unit = unit;
+    let unit = day_enter::unit_front(taken.unit.is_some(), closed, input)?;
+    taken.unit = Some(unit);
     Ok(records::UNIT_SIZE)
 }
 
@@ -26,15 +25,9 @@ fn take_unit(taken: &mut Taken, closed: bool, input: &[u8]) -> Result<usize, Ref
 fn take_opening(taken: &mut Taken, closed: bool, input: &[u8]) -> Result<usize, Refusal>
     ensures { TakenBy 2 taken.old closed input.now result taken.new }
 {
-    let opening = day_enter::opening_front(
-        taken.hasUnit,
-        taken.hasStart,
-        closed,
-        &taken.unit,
-        input,
-    )?;
-    taken.hasStart = true;
-    taken.start = day_enter::start_of(opening);
+    let unit = taken.unit.as_ref();
+    let opening = day_enter::opening_front(unit, taken.start.is_some(), closed, input)?;
+    taken.start = Some(day_enter::start_of(opening));
     Ok(records::OPENING_SIZE)
 }
 
@@ -42,7 +35,12 @@ fn take_opening(taken: &mut Taken, closed: bool, input: &[u8]) -> Result<usize, 
 fn take_instruction(taken: &mut Taken, closed: bool, input: &[u8]) -> Result<usize, Refusal>
     ensures { TakenBy 3 taken.old closed input.now result taken.new }
 {
-    let instruction = day_enter::instruction_front(taken.hasUnit, closed, taken.count, input)?;
+    let instruction = day_enter::instruction_front(
+        taken.unit.is_some(),
+        closed,
+        taken.count,
+        input,
+    )?;
     taken.instructions[taken.count] = instruction;
     taken.count += 1;
     Ok(records::INSTRUCTION_SIZE)
@@ -52,10 +50,9 @@ fn take_instruction(taken: &mut Taken, closed: bool, input: &[u8]) -> Result<usi
 fn take_close(day: &mut Day) -> Result<usize, Refusal>
     ensures { stepped result day.new ≡ close_taken (found_in paper) day.old }
 {
-    day_enter::close_front(day.taken.hasStart, day.closed)?;
+    day_enter::close_front(day.taken.start.is_some(), day.found.is_some())?;
     let found = day_close::find_close(day.taken)?;
-    day.found = found;
-    day.closed = true;
+    day.found = Some(found);
     Ok(records::CLOSE_SIZE)
 }
 
@@ -73,10 +70,11 @@ fn kind_at(input: &[u8]) -> Result<Kind, Refusal>
 pub fn take_record(day: &mut Day, input: &[u8]) -> Result<usize, Refusal>
     ensures { stepped result day.new ≡ step_of day.old input.now }
 {
+    let closed = day.found.is_some();
     match kind_at(input)? {
-        Kind::Unit => take_unit(&mut day.taken, day.closed, input),
-        Kind::Opening => take_opening(&mut day.taken, day.closed, input),
-        Kind::Instruction => take_instruction(&mut day.taken, day.closed, input),
+        Kind::Unit => take_unit(&mut day.taken, closed, input),
+        Kind::Opening => take_opening(&mut day.taken, closed, input),
+        Kind::Instruction => take_instruction(&mut day.taken, closed, input),
         Kind::Close => take_close(day),
     }
 }

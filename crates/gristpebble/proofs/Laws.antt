@@ -12,7 +12,7 @@ use Rattle.records.specs.Answers.{accepted}
 use Rattle.profile.specs.Profile.{paper}
 use Rattle.day.specs.declared.Day.{Day}
 use Rattle.day.specs.declared.Stepped.{Stepped}
-use Rattle.day.specs.Day.{empty, found_in}
+use Rattle.day.specs.Day.{empty, found_in, is_closed}
 use Rattle.day.specs.Step.{accept, step_of}
 use Rattle.day.proofs.ByKind.{step_empty, step_used}
 use Rattle.day_step.specs.Taking.{stepped}
@@ -22,18 +22,18 @@ use Rattle.listing.proofs.Onward.{onward, run_onward, used_some, enough}
 
 -- what the bytes s come to from a day on, closed or not
 abbrev pub from : Day → List ℕ → Ran
-from d s = onward (found_in paper) (length s) (Ok tt) d d.closed s
+from d s = onward (found_in paper) (length s) (Ok tt) d (is_closed d) s
 
 pub run_first : (s : List ℕ) → from empty s ≡ ran_by (found_in paper) s
 unfolding empty ran_by onward
 run_first s = refl
 
-pub run_last : (d : Day) (s : List ℕ) → d.closed ≡ true → from d s ≡ record { answer = Ok tt; day = d }
+pub run_last : (d : Day) (s : List ℕ) → is_closed d ≡ true → from d s ≡ record { answer = Ok tt; day = d }
 unfolding onward
 run_last d s e = rw e
 
 -- the day d is not closed: the next of its records
-module _ (d : Day) (s : List ℕ) (not_closed : d.closed ≡ false) where
+module _ (d : Day) (s : List ℕ) (not_closed : is_closed d ≡ false) where
   open_run : from d s ≡ run_by (found_in paper) (length s) d s
   unfolding onward
   open_run = rw not_closed
@@ -47,7 +47,7 @@ module _ (d : Day) (s : List ℕ) (not_closed : d.closed ≡ false) where
       go [] h = ap (λ (x : Stepped). record { answer = x.answer; day = x.day }) (step_empty (found_in paper) d [] refl ∙ sym h)
       go (x ∷ xs) h =
           run_onward (found_in paper) (length xs) d (x ∷ xs)
-          ∙ ap (λ (t : Stepped). onward (found_in paper) (length xs) t.answer t.day t.day.closed (drop t.used (x ∷ xs))) (sym h)
+          ∙ ap (λ (t : Stepped). onward (found_in paper) (length xs) t.answer t.day (is_closed t.day) (drop t.used (x ∷ xs))) (sym h)
 
   -- or taken
   module _ (e : Day) (n : ℕ) (h : accept e n ≡ step_of d s) where
@@ -72,8 +72,8 @@ module _ (d : Day) (s : List ℕ) (not_closed : d.closed ≡ false) where
         go [] q one all = absurd (omega arith)
         go (x ∷ xs) q one all =
             run_onward (found_in paper) (length xs) d (x ∷ xs)
-            ∙ (ap (λ (t : Stepped). onward (found_in paper) (length xs) t.answer t.day t.day.closed (drop t.used (x ∷ xs))) (sym q)
-            ∙ same (length xs) (drop n (x ∷ xs)) (omega (arith, length-drop n (x ∷ xs))) e.closed)
+            ∙ (ap (λ (t : Stepped). onward (found_in paper) (length xs) t.answer t.day (is_closed t.day) (drop t.used (x ∷ xs))) (sym q)
+            ∙ same (length xs) (drop n (x ∷ xs)) (omega (arith, length-drop n (x ∷ xs))) (is_closed e))
 
 -- ---- what a call gives with the lent slice o, of a run of the input s
 module _ (s o : List ℕ) (r : Ran) (made : r ≡ ran_by (found_in paper) s) where

@@ -17,11 +17,11 @@ pub fn listing(input: &[u8], out: &mut [u8]) -> Result<usize, Refusal>
 {
     let mut day = day_enter::empty_day();
     let mut rest = input;
-    while !day.closed {
+    while day.found.is_none() {
         let used = take_record(&mut day, rest)?;
         rest = &rest[used..];
     }
-    listing_print::list_closed(&day, out, listing::SUFFICES <= out.len())
+    listing_print::list_fitting(&day, out, listing::SUFFICES <= out.len())
 }
 
 // The same with the result in one number: the count of bytes written, or, at a refusal, its number times 2^32.

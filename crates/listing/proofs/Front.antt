@@ -17,7 +17,7 @@ use Rattle.profile.specs.declared.Taken.{Taken}
 use Rattle.profile.specs.Profile.{Found}
 use Rattle.day.specs.declared.Day.{Day}
 use Rattle.day.specs.declared.Stepped.{Stepped}
-use Rattle.day.specs.Day.{empty, day_with}
+use Rattle.day.specs.Day.{empty, day_with, is_closed}
 use Rattle.day.specs.Step.{kind_of, body_of, a_kind, no_bytes, unknown_kind, too_few, accept, settle, answer_by, step_by}
 use Rattle.day.specs.ByKind.{kind_refusals}
 use Rattle.level.proofs.Lists.{by_bool}
@@ -34,7 +34,7 @@ Few a = a ≡ Err TooFewBytes
 module _ (find : Taken → Found) (d : Day) where
   step_from : Bool → Bool → Bool → ℕ → List ℕ → Stepped
   step_from none unknown few k b =
-      settle (first_refusal (refusing none TooFewBytes ∷ refusing unknown UnknownKind ∷ refusing few TooFewBytes ∷ refusing d.closed AfterClose ∷
+      settle (first_refusal (refusing none TooFewBytes ∷ refusing unknown UnknownKind ∷ refusing few TooFewBytes ∷ refusing (is_closed d) AfterClose ∷
       kind_refusals find d.taken k b)) d
       (accept (day_with find d k b) (size_of k))
 
@@ -113,7 +113,7 @@ module _ (find : Taken → Found) where
   run_few : (n : ℕ) (d : Day) (s : List ℕ) → Few (step_by find d s).answer → Few (run_by find (suc n) d s).answer
   run_few n d s e =
       let t : Stepped = step_by find d s in
-      ap (λ (r : Ran). r.answer) (run_onward find n d s) ∙ refused_onward n t.answer t.day t.day.closed (drop t.used s) e
+      ap (λ (r : Ran). r.answer) (run_onward find n d s) ∙ refused_onward n t.answer t.day (is_closed t.day) (drop t.used s) e
 
   run_front : (n m : ℕ) → n ≤ m → (d : Day) (s t : List ℕ) → (Few (run_by find n d s).answer → ⊥) → run_by find m d (s ++ t) ≡ run_by find n d s
   unfolding run_by onward
@@ -125,8 +125,8 @@ module _ (find : Taken → Found) where
       let st : Stepped = step_by find d s in
       let e : step_by find d (s ++ t) ≡ st = step_front find d x xs t (λ f. h (run_few n d s f)) in
       run_onward find m d (s ++ t)
-      ∙ ap (λ (r : Stepped). onward find m r.answer r.day r.day.closed (drop r.used (s ++ t))) e
-      ∙ go st.answer st.day st.day.closed (drop st.used s) (drop st.used (s ++ t))
+      ∙ ap (λ (r : Stepped). onward find m r.answer r.day (is_closed r.day) (drop r.used (s ++ t))) e
+      ∙ go st.answer st.day (is_closed st.day) (drop st.used s) (drop st.used (s ++ t))
       (drop-append-le st.used s t (step_used find d s)) (λ f. h (ap (λ (r : Ran). r.answer) (run_onward find n d s) ∙ f))
       (λ k r g. run_front n m (omega arith) k r t g)
       ∙ sym (run_onward find n d s)

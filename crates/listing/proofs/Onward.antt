@@ -12,7 +12,7 @@ use Rattle.profile.specs.declared.Taken.{Taken}
 use Rattle.profile.specs.Profile.{Found}
 use Rattle.day.specs.declared.Day.{Day}
 use Rattle.day.specs.declared.Stepped.{Stepped}
-use Rattle.day.specs.Day.{day_with}
+use Rattle.day.specs.Day.{day_with, is_closed}
 use Rattle.day.specs.Step.{kind_of, body_of, no_bytes, accept, settle, answer_by, step_by}
 use Rattle.day.proofs.Answers.{never}
 use Rattle.day.proofs.ByKind.{some_size}
@@ -27,9 +27,9 @@ module _ (find : Taken → Found) where
 
   pub run_onward : (n : ℕ) (d : Day) (s : List ℕ) →
       let t : Stepped = step_by find d s in
-      run_by find (suc n) d s ≡ onward n t.answer t.day t.day.closed (drop t.used s)
+      run_by find (suc n) d s ≡ onward n t.answer t.day (is_closed t.day) (drop t.used s)
   unfolding run_by onward
-  run_onward n d s = let t : Stepped = step_by find d s in go t.answer t.day t.day.closed (drop t.used s)
+  run_onward n d s = let t : Stepped = step_by find d s in go t.answer t.day (is_closed t.day) (drop t.used s)
     where
       go : (a : Answer) (e : Day) (b : Bool) (r : List ℕ) → elim a [
         | Err x ↦ record { answer = Err x; day = e }
@@ -60,7 +60,7 @@ module _ (find : Taken → Found) where
   enough (suc n) (suc m) d s p q =
       let t : Stepped = step_by find d s in
       run_onward n d s
-      ∙ (go t.answer t.day t.day.closed (drop t.used s)
+      ∙ (go t.answer t.day (is_closed t.day) (drop t.used s)
       (λ a. let u = used_some d s a in (omega (arith, u, length-drop t.used s), omega (arith, u, length-drop t.used s)))
       (λ e r a b. enough n m e r a b)
       ∙ sym (run_onward m d s))

@@ -7,8 +7,9 @@ use Rattle.records.specs.Answers.{Answer, accepted, refusing, answered, first_re
 use Rattle.course.specs.declared.Piece.{Piece}
 use Rattle.profile.specs.declared.Closing.{Closing}
 use Rattle.profile.specs.Profile.{spans_of, day_pieces}
+use Rattle.profile.specs.Taken.{own_unit}
 use Rattle.day.specs.declared.Day.{Day}
-use Rattle.day.specs.Day.{day_seconds, fates_in, courses_in, quantities_in, closing_in}
+use Rattle.day.specs.Day.{day_seconds, fates_in, courses_in, quantities_in, closing_in, is_closed}
 use Rattle.lines.specs.Lines.{f_line, s_line, q_line, e_line}
 use Rattle.lines.specs.Text.{laid}
 
@@ -37,7 +38,7 @@ listing fates pieces quantities e =
     f_lines 1 fates ++ (s_lines pieces ++ (q_lines quantities ++ e_line e.level.grains e.target e.heat e.off))
 
 unfoldable pub printed_day : Day → List ℕ
-printed_day d = listing (fates_in d) (day_pieces (spans_of d.taken.unit day_seconds (courses_in d))) (quantities_in d) (closing_in d)
+printed_day d = listing (fates_in d) (day_pieces (spans_of (own_unit d.taken) day_seconds (courses_in d))) (quantities_in d) (closing_in d)
 
 -- "46,080 bytes always suffice"
 abbrev pub suffices : ℕ
@@ -45,7 +46,7 @@ suffices = 46080
 
 -- asking for it, with a lent slice o: the count of bytes written, or the refusal. "25 .. a listing before close. 26 listing longer than the lent slice"; "for a listing 25, 26"
 unfoldable pub list_answer : Day → List ℕ → Answer
-list_answer d o = first_refusal (refusing (not d.closed) NotReady ∷ refusing (ltb (length o) (length (printed_day d))) SliceTooShort ∷ [])
+list_answer d o = first_refusal (refusing (not (is_closed d)) NotReady ∷ refusing (ltb (length o) (length (printed_day d))) SliceTooShort ∷ [])
 
 unfoldable pub list_of : Day → List ℕ → Result ℕ Refusal
 list_of d o = answered (list_answer d o) (length (printed_day d))

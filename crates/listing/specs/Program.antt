@@ -7,7 +7,7 @@ use Rattle.profile.specs.declared.Taken.{Taken}
 use Rattle.profile.specs.Profile.{Found, paper}
 use Rattle.day.specs.declared.Day.{Day}
 use Rattle.day.specs.declared.Stepped.{Stepped}
-use Rattle.day.specs.Day.{empty, found_in}
+use Rattle.day.specs.Day.{empty, found_in, is_closed}
 use Rattle.day.specs.Step.{step_by}
 use Rattle.lines.specs.Lines.{x_line}
 use Rattle.lines.specs.Text.{laid}
@@ -26,7 +26,7 @@ run_by find (suc n) d s =
     let t : Stepped = step_by find d s in
     elim t.answer [
       | Err r ↦ record { answer = Err r; day = t.day }
-      | Ok _ ↦ elim t.day.closed [ true ↦ record { answer = Ok tt; day = t.day } | false ↦ run_by find n t.day (drop t.used s) ]
+      | Ok _ ↦ elim (is_closed t.day) [ true ↦ record { answer = Ok tt; day = t.day } | false ↦ run_by find n t.day (drop t.used s) ]
     ]
 
 -- each record has at least one byte

@@ -1,22 +1,28 @@
 -- A whole listing from its parts, and asking for it.
 use Prim.Native.Nat.{ℕ, ◌+◌, ◌≤◌, ◌<◌}
-use mathlib.Core.Path.{◌≡◌, refl}
+use mathlib.Core.Path.{◌≡◌, refl, ap, sym, ◌∙◌, subst}
 use mathlib.Core.List.{List, [], ◌++◌}
-use mathlib.Core.Bool.{true, false, not}
 use native.Mathlib.Omega.{arith}
 use borrow.Author.Tests.{lt-ltb, le-ltb}
-use lib.ListN.{length}
-use Rattle.std.specs.Prelude.{Ok, Err}
+use lib.ListN.{length, take}
+use Rattle.std.specs.Prelude.{Option, None, Some, Ok, Err, option_copied}
+use Rattle.std.specs.Borrow.{Bor}
+use Rattle.std.specs.Option.{unwrap_or}
 use Rattle.records.specs.declared.Refusal.TheVariants.{NotReady, SliceTooShort}
 use Rattle.day.specs.declared.Day.{Day}
 use Rattle.profile.specs.declared.Closing.{Closing}
-use Rattle.day.specs.Day.{fates_in, courses_in, quantities_in, closing_in}
+use Rattle.profile.specs.declared.Finding.{Finding}
+use Rattle.profile.specs.declared.Taken.{Taken}
+use Rattle.profile.specs.Finding.{no_finding}
+use Rattle.records.specs.declared.UnitData.{UnitData}
+use Rattle.profile.specs.Taken.{own_unit}
+use Rattle.day.specs.Day.{day_seconds, fates_in, courses_in, quantities_in, closing_in, finding_in}
 use Rattle.lines.specs.Text.{laid}
 use Rattle.lines.specs.Writing.{SinkLaws}
 use Rattle.lines.proofs.Laying.{Next, next_append, next_last}
 use Rattle.lines.proofs.Sinks.{Putting, put_none, put_next, put_more, put_all}
 use Rattle.listing.specs.Listing.{listing, printed_day, list_answer, list_of, lent_after}
-use Rattle.listing_print.specs.Parts.{lines_f, lines_s, lines_q, line_e, most_f, most_s, most_q, most_e, most_bytes}
+use Rattle.listing_print.specs.Parts.{lines_f, lines_s, lines_q, line_e, most_f, most_s, most_q, most_e, most_bytes, with_finding}
 use Rattle.listing_parts.specs.Rest.{courses_lines, closing_line}
 
 -- ---- the parts of a day's listing
@@ -49,8 +55,10 @@ module _ {S : Type 0} {has_room : S → List ℕ → ℕ → Type 0} {takes : S 
   after_f : {t : S} → takes s (lines_f d) most_f t → Left (from_s d) (most_s + (most_q + most_e)) t
   after_f f = put_more laws (in_parts d) before (omega arith) f
 
-  pub room_s : {t : S} → takes s (lines_f d) most_f t → has_room t (lines_s d) most_s
-  room_s f = put_next laws next_append (after_f f) (omega arith)
+  -- of the unit that is read
+  pub room_s : {t : S} {u : UnitData} → u ≡ own_unit d.taken → takes s (lines_f d) most_f t →
+      has_room t (courses_lines u day_seconds (take (finding_in d).started (finding_in d).courses)) most_s
+  room_s is f = rw is (put_next laws next_append (after_f f) (omega arith))
 
   after_s : {t u : S} → takes s (lines_f d) most_f t → takes t (lines_s d) most_s u → Left (from_q d) (most_q + most_e) u
   after_s f x = put_more laws next_append (after_f f) (omega arith) x
@@ -73,17 +81,49 @@ module _ {S : Type 0} {has_room : S → List ℕ → ℕ → Type 0} {takes : S 
     pub put_day : {w : S} → takes v (closing_line e) most_e w → takes s (printed_day d) most_bytes w
     put_day y = put_all laws refl (put_more laws {k = 0} last (after_q f x q) (omega arith) y)
 
+-- ---- what close found, by reference
+module _ (d : Day) where
+  pub same_day : printed_day (with_finding d.taken (finding_in d)) ≡ printed_day d
+  unfolding printed_day fates_in courses_in quantities_in
+  same_day = refl
+
+  -- that of the day, or none
+  pub found_is : (o : Option (Bor Finding)) (none : Bor Finding) → option_copied o ≡ d.found → none.now ≡ no_finding →
+      (unwrap_or o none).now ≡ finding_in d
+  found_is (Some f) none e z = ap (λ (x : Option Finding). unwrap_or x no_finding) e
+  found_is None none e z = z ∙ ap (λ (x : Option Finding). unwrap_or x no_finding) e
+
 -- ---- asking for it
 module _ (d : Day) (o : List ℕ) where
-  pub ask_open : d.closed ≡ false → (Err NotReady ≡ list_of d o) × (o ≡ lent_after d o)
+  pub ask_open : d.found ≡ None → (Err NotReady ≡ list_of d o) × (o ≡ lent_after d o)
   unfolding list_of lent_after list_answer
   ask_open e = (simp e, simp e)
 
-  pub ask_short : d.closed ≡ true → length o < length (printed_day d) → (Err SliceTooShort ≡ list_of d o) × (o ≡ lent_after d o)
-  unfolding list_of lent_after list_answer
-  ask_short e h = (simp (e, lt-ltb (length o) (length (printed_day d)) h), simp (e, lt-ltb (length o) (length (printed_day d)) h))
+-- that of a day that is closed, with what close found
+module _ (t : Taken) (f : Finding) (o : List ℕ) where
+  abbrev printed : List ℕ
+  printed = printed_day (with_finding t f)
 
-  pub ask_room : d.closed ≡ true → length (printed_day d) ≤ length o →
-      (Ok (length (printed_day d)) ≡ list_of d o) × (laid (printed_day d) o ≡ lent_after d o)
+  short : length o < length printed → (Err SliceTooShort ≡ list_of (with_finding t f) o) × (o ≡ lent_after (with_finding t f) o)
   unfolding list_of lent_after list_answer
-  ask_room e h = (simp (e, le-ltb (length o) (length (printed_day d)) h), simp (e, le-ltb (length o) (length (printed_day d)) h))
+  short h = (simp (lt-ltb (length o) (length printed) h), simp (lt-ltb (length o) (length printed) h))
+
+  room : length printed ≤ length o → (Ok (length printed) ≡ list_of (with_finding t f) o) × (laid printed o ≡ lent_after (with_finding t f) o)
+  unfolding list_of lent_after list_answer
+  room h = (simp (le-ltb (length o) (length printed) h), simp (le-ltb (length o) (length printed) h))
+
+module _ (d : Day) (o : List ℕ) {f : Finding} (e : d.found ≡ Some f) where
+  same : with_finding d.taken f ≡ d
+  same = λ i. record { taken = d.taken; found = sym e i }
+
+  pub printed_is : printed_day (with_finding d.taken f) ≡ printed_day d
+  printed_is = ap printed_day same
+
+  pub ask_short : length o < length (printed_day (with_finding d.taken f)) → (Err SliceTooShort ≡ list_of d o) × (o ≡ lent_after d o)
+  ask_short h = subst (λ (x : Day). (Err SliceTooShort ≡ list_of x o) × (o ≡ lent_after x o)) same (short d.taken f o h)
+
+  pub ask_room : length (printed_day (with_finding d.taken f)) ≤ length o →
+      (Ok (length (printed_day (with_finding d.taken f))) ≡ list_of d o) × (laid (printed_day (with_finding d.taken f)) o ≡ lent_after d o)
+  ask_room h =
+      let p : List ℕ = printed_day (with_finding d.taken f) in
+      subst (λ (x : Day). (Ok (length p) ≡ list_of x o) × (laid p o ≡ lent_after x o)) same (room d.taken f o h)

@@ -1,19 +1,26 @@
 -- Working. The parts of a listing.
-use Rattle.std.specs.Prelude.{ℕ, ◌+◌, ◌*◌, List, take}
+use Rattle.std.specs.Prelude.{ℕ, ◌+◌, ◌*◌, List, take, Some}
 use Rattle.level.specs.Numbers.{most_half_hours, instruction_places, course_places}
+use Rattle.profile.specs.declared.Taken.{Taken}
+use Rattle.profile.specs.declared.Finding.{Finding}
+use Rattle.profile.specs.Taken.{own_unit}
 use Rattle.day.specs.declared.Day.{Day}
-use Rattle.day.specs.Day.{half_hours, day_seconds, closing_in}
+use Rattle.day.specs.Day.{half_hours, day_seconds, closing_in, finding_in}
 use Rattle.listing_parts.specs.Rest.{fate_lines, courses_lines, quantity_lines, closing_line}
+
+-- the closed day of what was let in and what close found
+abbrev pub with_finding : Taken → Finding → Day
+with_finding t f = record { taken = t; found = Some f }
 
 -- the F, S and Q lines of a day, and its E line
 abbrev pub lines_f : Day → List ℕ
-lines_f d = fate_lines d.taken.count d.found.fates
+lines_f d = fate_lines d.taken.count (finding_in d).fates
 
 abbrev pub lines_s : Day → List ℕ
-lines_s d = courses_lines d.taken.unit day_seconds (take d.found.started d.found.courses)
+lines_s d = courses_lines (own_unit d.taken) day_seconds (take (finding_in d).started (finding_in d).courses)
 
 abbrev pub lines_q : Day → List ℕ
-lines_q d = quantity_lines half_hours d.found.sums
+lines_q d = quantity_lines half_hours (finding_in d).sums
 
 abbrev pub line_e : Day → List ℕ
 line_e d = closing_line (closing_in d)

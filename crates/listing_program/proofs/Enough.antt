@@ -16,12 +16,13 @@ use Rattle.records.specs.Answers.{Answer, accepted, number_of}
 use Rattle.records.specs.Records.{unit_size, opening_size, instruction_size, size_of}
 use Rattle.profile.specs.declared.Taken.{Taken}
 use Rattle.profile.specs.Profile.{Found, paper}
-use Rattle.profile.specs.Taken.{no_taken, taken_with}
+use Rattle.profile.specs.Taken.{no_taken, taken_with, has_unit, has_start}
+use Rattle.profile.specs.Finding.{arrays_of}
 use Rattle.day.specs.declared.Day.{Day}
 use Rattle.day.specs.declared.Stepped.{Stepped}
-use Rattle.day.specs.Day.{empty, found_in, day_with}
+use Rattle.day.specs.Day.{empty, found_in, day_with, is_closed}
 use Rattle.day.specs.Step.{kind_of, body_of, accept, settle, answer_by, step_by}
-use Rattle.day.proofs.Answers.{never}
+use Rattle.day.proofs.Answers.{never, some_or}
 use Rattle.day.proofs.ByKind.{RecordPasses, passed, no_kinds, some_size}
 use Rattle.listing.specs.Program.{Ran, run_by, ran_by, ends_early}
 use Rattle.listing.proofs.Onward.{onward, run_onward}
@@ -29,15 +30,15 @@ use Rattle.listing_program.proofs.Records.{longest, Own, step_own, known_kind}
 
 -- the bytes of the records that may still come before close
 unfoldable left : Taken → ℕ
-left t = pick t.hasUnit 0 unit_size + pick t.hasStart 0 opening_size + (instruction_places - t.count) * instruction_size
+left t = pick (has_unit t) 0 unit_size + pick (has_start t) 0 opening_size + (instruction_places - t.count) * instruction_size
 
 -- a record that comes takes its bytes of them
 module _ (t : Taken) (b : List ℕ) where
-  unit_left : t.hasUnit ≡ false → left (taken_with t 1 b) + size_of 1 ≤ left t
+  unit_left : has_unit t ≡ false → left (taken_with t 1 b) + size_of 1 ≤ left t
   unfolding left taken_with size_of
   unit_left h = simp h (omega arith)
 
-  opening_left : t.hasStart ≡ false → left (taken_with t 2 b) + size_of 2 ≤ left t
+  opening_left : has_start t ≡ false → left (taken_with t 2 b) + size_of 2 ≤ left t
   unfolding left taken_with size_of
   opening_left h = simp h (omega arith)
 
@@ -49,11 +50,13 @@ module _ (find : Taken → Found) (d : Day) (s : List ℕ) where
   abbrev next : Day
   next = day_with find d (kind_of s) (body_of s)
 
-  not_close : next.closed ≡ false → kind_of s ≡ 4 → ⊥
+  not_close : is_closed next ≡ false → kind_of s ≡ 4 → ⊥
   unfolding day_with
-  not_close c e = never (sym (or_false (eqb (kind_of s) 4) d.closed c).0 ∙ eq-eqb (kind_of s) 4 e)
+  not_close c e =
+      let o = some_or (eqb (kind_of s) 4) (arrays_of (find d.taken)) d.found in
+      never (sym (or_false (eqb (kind_of s) 4) (is_closed d) (sym o ∙ c)).0 ∙ eq-eqb (kind_of s) 4 e)
 
-  step_left : answer_by find d s ≡ Ok tt → next.closed ≡ false → left next.taken + size_of (kind_of s) ≤ left d.taken
+  step_left : answer_by find d s ≡ Ok tt → is_closed next ≡ false → left next.taken + size_of (kind_of s) ≤ left d.taken
   unfolding day_with
   step_left a c =
       let t : Taken = d.taken in
@@ -77,11 +80,11 @@ module _ (find : Taken → Found) (d : Day) (s : List ℕ) where
       go (Ok _) x e = (refl, refl)
       go (Err r) x e = never (ap accepted e)
 
-  step_room : (step_by find d s).answer ≡ Ok tt → (step_by find d s).day.closed ≡ false →
+  step_room : (step_by find d s).answer ≡ Ok tt → is_closed (step_by find d s).day ≡ false →
       (left (step_by find d s).day.taken + (step_by find d s).used ≤ left d.taken) × (1 ≤ (step_by find d s).used)
   step_room a =
       let q = step_taken a in
-      subst (λ (x : Stepped). x.day.closed ≡ false → (left x.day.taken + x.used ≤ left d.taken) × (1 ≤ x.used)) q.1
+      subst (λ (x : Stepped). is_closed x.day ≡ false → (left x.day.taken + x.used ≤ left d.taken) × (1 ≤ x.used)) q.1
       (λ c. (step_left q.0 c, some_size (kind_of s)))
 
   -- no record has too few bytes where the longest has enough
@@ -99,7 +102,7 @@ module _ (find : Taken → Found) where
   run_some zero d s few h e = omega arith
   run_some (suc n) d s few h e =
       let t : Stepped = step_by find d s in
-      go t.answer t.day t.day.closed (drop t.used s) (step_some find d s (omega arith))
+      go t.answer t.day (is_closed t.day) (drop t.used s) (step_some find d s (omega arith))
       (λ a c. let r = step_room find d s a c in
       (omega (arith, r.1, length-drop t.used s), omega (arith, r.0, length-drop t.used s)))
       (λ k v f g. run_some n k v f g)

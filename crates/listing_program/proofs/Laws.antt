@@ -15,7 +15,7 @@ use Rattle.records.specs.declared.Refusal.TheVariants.{SliceTooShort}
 use Rattle.records.specs.Answers.{Answer, refusal_number, number_of}
 use Rattle.profile.specs.Profile.{paper}
 use Rattle.day.specs.declared.Day.{Day}
-use Rattle.day.specs.Day.{found_in}
+use Rattle.day.specs.Day.{found_in, is_closed}
 use Rattle.lines.specs.Text.{laid}
 use Rattle.lines.specs.Lines.{x_line}
 use Rattle.lines.specs.Writing.{Written}
@@ -69,7 +69,7 @@ says_refused r other f = record {
 }
 
 -- asking a closed day for its listing
-module _ (d : Day) (o : List ℕ) (closed : d.closed ≡ true) where
+module _ (d : Day) (o : List ℕ) (closed : is_closed d ≡ true) where
   asked_long : length o < length (printed_day d) → (list_of d o ≡ Err SliceTooShort) × (lent_after d o ≡ o)
   unfolding list_of lent_after list_answer
   asked_long h = (simp (closed, lt-ltb (length o) (length (printed_day d)) h), simp (closed, lt-ltb (length o) (length (printed_day d)) h))
@@ -79,13 +79,13 @@ module _ (d : Day) (o : List ℕ) (closed : d.closed ≡ true) where
   asked_room h = (simp (closed, le-ltb (length o) (length (printed_day d)) h), simp (closed, le-ltb (length o) (length (printed_day d)) h))
 
 -- of a run with this answer and this day
-says_run : (a : Answer) (d : Day) {o : List ℕ} → Own 0 a → (a ≡ Ok tt → d.closed ≡ true) →
+says_run : (a : Answer) (d : Day) {o : List ℕ} → Own 0 a → (a ≡ Ok tt → is_closed d ≡ true) →
     Says (printed_run (record { answer = a; day = d })) o (eqb (number_of a) 2) (list_ran (record { answer = a; day = d }) o)
     (lent_ran (record { answer = a; day = d }) o)
 unfolding printed_run
 says_run (Err r) d own closed = says_refused r own.2 refl
 says_run (Ok _) d {o} own closed =
-    let c : d.closed ≡ true = closed refl in
+    let c : is_closed d ≡ true = closed refl in
     by_bool (leb (length (printed_day d)) (length o))
     (λ b. let room = leb-true (length (printed_day d)) (length o) b in
     let h = asked_room d o c room in
@@ -123,7 +123,7 @@ module _ (s o : List ℕ) where
 line_few : (n : ℕ) → n ≤ 27 → length (x_line n) ≤ suffices
 line_few n h = omega (arith, x_length n, word_width n (omega arith))
 
-run_few : (a : Answer) (d : Day) → Own 0 a → (a ≡ Ok tt → (d.closed ≡ true) × (length (printed_day d) ≤ suffices)) →
+run_few : (a : Answer) (d : Day) → Own 0 a → (a ≡ Ok tt → (is_closed d ≡ true) × (length (printed_day d) ≤ suffices)) →
     length (printed_run (record { answer = a; day = d })) ≤ suffices
 unfolding printed_run
 run_few (Err r) d own fits = line_few (refusal_number r) own.1

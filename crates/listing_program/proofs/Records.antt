@@ -20,9 +20,10 @@ use Rattle.records.specs.Records.{unit_size, size_of, unit_of, opening_of, instr
 use Rattle.records.specs.Fields.{fit_from, unit_ranges, disagrees, opening_fits, figures_fit, unit_answer, opening_answer, instruction_answer}
 use Rattle.profile.specs.declared.Taken.{Taken}
 use Rattle.profile.specs.Profile.{Found}
+use Rattle.profile.specs.Taken.{own_unit}
 use Rattle.day.specs.declared.Day.{Day}
 use Rattle.day.specs.declared.Stepped.{Stepped}
-use Rattle.day.specs.Day.{empty, day_seconds, day_with}
+use Rattle.day.specs.Day.{empty, day_seconds, day_with, is_closed}
 use Rattle.day.specs.Step.{kind_of, body_of, a_kind, no_bytes, unknown_kind, too_few, second_one, before_unit, too_many, not_ready, field_answer, too_high, quantity_too_high, accept, settle, answer_by, step_by}
 use Rattle.day.specs.ByKind.{kind_refusals}
 use Rattle.day.proofs.Answers.{all_accepted, not_met}
@@ -122,9 +123,9 @@ module _ (find : Taken → Found) where
       let k : ℕ = kind_of s in
       let b : List ℕ = body_of s in
       let last : List Condition =
-      (eqb k 2 && too_high t.unit (opening_of b), OpeningTooHigh) ∷ (eqb k 4 && quantity_too_high t.unit (find t), QuantityTooHigh) ∷ [] in
+      (eqb k 2 && too_high (own_unit t) (opening_of b), OpeningTooHigh) ∷ (eqb k 4 && quantity_too_high (own_unit t) (find t), QuantityTooHigh) ∷ [] in
       let early : List Condition =
-      (d.closed, AfterClose)
+      ((is_closed d), AfterClose)
       ∷ (second_one t k, SecondOne)
       ∷ (before_unit t k, BeforeUnit)
       ∷ (too_many t k, TooManyInstructions)
@@ -151,7 +152,7 @@ module _ (find : Taken → Found) where
   run_own (suc n) d s =
       let t : Stepped = step_by find d s in
       subst (λ (r : Ran). Own 0 r.answer) (sym (run_onward find n d s))
-      (go t.answer t.day t.day.closed (drop t.used s) (own_none (length s) t.answer (step_own d s)) (λ e v. run_own n e v))
+      (go t.answer t.day (is_closed t.day) (drop t.used s) (own_none (length s) t.answer (step_own d s)) (λ e v. run_own n e v))
     where
       go : (a : Answer) (e : Day) (b : Bool) (v : List ℕ) → Own 0 a → ((k : Day) (w : List ℕ) → Own 0 (run_by find n k w).answer) →
           Own 0 (onward find n a e b v).answer
@@ -168,6 +169,6 @@ module _ (find : Taken → Found) where
   unfolding unknown_kind
   known_kind d s e =
       let a =
-      all_accepted (refusing (no_bytes s) TooFewBytes ∷ refusing (unknown_kind s) UnknownKind ∷ refusing (too_few s) TooFewBytes ∷ refusing d.closed
+      all_accepted (refusing (no_bytes s) TooFewBytes ∷ refusing (unknown_kind s) UnknownKind ∷ refusing (too_few s) TooFewBytes ∷ refusing (is_closed d)
       AfterClose ∷ kind_refusals find d.taken (kind_of s) (body_of s)) (sym (by_kind find d s) ∙ e) in
       not-false (a_kind (kind_of s)) (not_met (unknown_kind s) UnknownKind a.1.0)

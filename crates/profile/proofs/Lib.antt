@@ -12,3 +12,4 @@ pub mod Found
 pub mod Room
 pub mod Cuts
 pub mod Traced
+pub mod Zeros

@@ -13,7 +13,7 @@ use Rattle.level.proofs.Lists.{and_true}
 use Rattle.level.specs.Level.{grains}
 use Rattle.records.specs.declared.Column.{Column}
 use Rattle.records.specs.declared.UnitData.{UnitData}
-use Rattle.std.specs.Prelude.{Ok, Err}
+use Rattle.std.specs.Prelude.{Ok}
 use Rattle.records.specs.declared.Refusal.TheVariants.{UnitField, UnitDisagrees}
 use Rattle.records.specs.Answers.{refusing, first_refusal, accepted}
 use Rattle.records.specs.Records.{unit_of, column_of}

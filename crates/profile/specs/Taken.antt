@@ -1,7 +1,9 @@
 -- Believed: document 01, Units and records. What was let in, and what a day starts from.
-use Rattle.std.specs.Prelude.{ℕ, ◌+◌, List, [], false, ◌||◌, eqb, take, set, replicate}
+use Rattle.std.specs.Prelude.{ℕ, ◌+◌, List, [], Bool, false, eqb, take, set, replicate, None, Some}
+use Rattle.std.specs.Option.{is_some, unwrap_or}
 use Rattle.level.specs.Choice.{pick}
 use Rattle.level.specs.Numbers.{instruction_places}
+use Rattle.records.specs.declared.UnitData.{UnitData}
 use Rattle.records.specs.declared.Opening.{Opening}
 use Rattle.records.specs.declared.Instruction.{Instruction}
 use Rattle.records.specs.Records.{numbers, unit_of, opening_of, instruction_of, no_instruction}
@@ -14,10 +16,8 @@ start_of o = record { level = o.level; target = o.target; heat = o.heat; up = 0;
 
 unfoldable pub no_taken : Taken
 no_taken = record {
-  hasUnit = false;
-  unit = unit_of [];
-  hasStart = false;
-  start = start_of (opening_of []);
+  unit = None;
+  start = None;
   count = 0;
   instructions = replicate instruction_places no_instruction;
 }
@@ -25,13 +25,25 @@ no_taken = record {
 -- with a record of the kind k and the body b: each field by the kind that sets it
 unfoldable pub taken_with : Taken → ℕ → List ℕ → Taken
 taken_with t k b = record {
-  hasUnit = eqb k 1 || t.hasUnit;
-  unit = pick (eqb k 1) (unit_of (numbers b 62)) t.unit;
-  hasStart = eqb k 2 || t.hasStart;
-  start = pick (eqb k 2) (start_of (opening_of b)) t.start;
+  unit = pick (eqb k 1) (Some (unit_of (numbers b 62))) t.unit;
+  start = pick (eqb k 2) (Some (start_of (opening_of b))) t.start;
   count = pick (eqb k 3) (t.count + 1) t.count;
   instructions = pick (eqb k 3) (set t.instructions t.count (instruction_of b)) t.instructions;
 }
+
+-- whether a unit, and an opening, were let in
+abbrev pub has_unit : Taken → Bool
+has_unit t = is_some t.unit
+
+abbrev pub has_start : Taken → Bool
+has_start t = is_some t.start
+
+-- the unit, and what its opening starts; zeros while there is none
+abbrev pub own_unit : Taken → UnitData
+own_unit t = unwrap_or t.unit (unit_of [])
+
+abbrev pub own_start : Taken → Start
+own_start t = unwrap_or t.start (start_of (opening_of []))
 
 -- the instructions let in, in order
 unfoldable pub entered : Taken → List Instruction

@@ -1,12 +1,18 @@
 // The operating profile of a day.
 #![tactic(auto)]
 
+ghost use Rattle.std.specs.Prelude.{◌≡◌, []};
+ghost use Rattle.records.specs.Records.{unit_of};
+
+use course::Course;
+use records::{Instruction, UnitData};
+
 // The course under way: whether the unit is maximised, the target (kW) that MXOF goes back to, and the seconds off where
 // the course began. (What is maximised, ordered and off is not a struct of its own in this, `Setting` and `Start`: each definition
 // that builds or reads one would go a step further, as `now.unit.ordered`.)
 #[derive(Clone, Copy, Default)]
 pub struct UnderWay {
-    pub course: course::Course,
+    pub course: Course,
     pub maximised: bool,
     pub ordered: u32,
     pub off: u32,
@@ -35,7 +41,7 @@ pub struct Setting {
 // What a day starts from at 06:00: the level (grains), the target (kW), the heat, the rates that replace all five of their kind (0
 // for none), whether the unit is maximised, the target that MXOF goes back to, and the seconds off. The level has the 32 bits of the
 // record, so that the sums of no day overflow.
-#[derive(Clone, Copy)]
+#[derive(Clone, Copy, Default)]
 pub struct Start {
     pub level: u32,
     pub target: u32,
@@ -47,16 +53,42 @@ pub struct Start {
     pub off: u32,
 }
 
-// What was let in: the unit, what the day starts from, and the instructions, `count` of them. (Here and in `Finding` an array and its
-// count are no `level::Few`: the calls promise for a count above the places, too.)
+// What was let in: the unit and what the day starts from, each once it is, and the instructions, `count` of them. (Here and in
+// `Finding` an array and its count are no `level::Few`: the calls promise for a count above the places, too.)
 #[derive(Clone, Copy)]
 pub struct Taken {
-    pub hasUnit: bool,
-    pub unit: records::UnitData,
-    pub hasStart: bool,
-    pub start: Start,
+    pub unit: Option<UnitData>,
+    pub start: Option<Start>,
     pub count: usize,
-    pub instructions: [records::Instruction; level::INSTRUCTIONS],
+    pub instructions: [Instruction; level::INSTRUCTIONS],
+}
+
+// A unit of zeros.
+#[tactic(auto, unfolding(records::specs::Records::unit_of, records::specs::Records::column_of, records::specs::Records::trigger_of))]
+pub fn no_unit() -> UnitData
+    ensures { result ≡ unit_of [] }
+{
+    UnitData::default()
+}
+
+impl Taken {
+    ghost use Rattle.std.specs.Prelude.{◌≡◌};
+    ghost use Rattle.profile.specs.Taken.{own_unit, own_start};
+
+    // The unit; zeros while there is none.
+    pub fn own_unit(&self) -> UnitData
+        ensures { result ≡ own_unit self.now }
+    {
+        self.unit.unwrap_or(no_unit())
+    }
+
+    // What the opening starts; zeros while there is none.
+    #[tactic(auto, unfolding(crate::specs::Taken::start_of, records::specs::Records::opening_of))]
+    pub fn own_start(&self) -> Start
+        ensures { result ≡ own_start self.now }
+    {
+        self.start.unwrap_or(Start::default())
+    }
 }
 
 // What close found: the fates by number, the courses (`started` of them), twice the recorded area from 06:00 to each half-hour
@@ -65,10 +97,30 @@ pub struct Taken {
 pub struct Finding {
     pub fates: [u8; level::INSTRUCTIONS],
     pub started: usize,
-    pub courses: [course::Course; level::COURSES],
+    pub courses: [Course; level::COURSES],
     pub sums: [u64; level::BOUNDARIES],
     pub last: UnderWay,
     pub end: State,
+}
+
+impl Finding {
+    ghost use Rattle.std.specs.Prelude.{◌≡◌};
+    ghost use Rattle.profile.specs.Finding.{no_finding};
+
+    // Nothing found. (By hand: of a derived `Default` no proof was found for its arrays.)
+    #[tactic(auto, unfolding(crate::specs::Finding::no_finding))]
+    pub fn none() -> Finding
+        ensures { result ≡ no_finding }
+    {
+        Finding {
+            fates: [0; level::INSTRUCTIONS],
+            started: 0,
+            courses: [Course::default(); level::COURSES],
+            sums: [0; level::BOUNDARIES],
+            last: UnderWay::default(),
+            end: State::default(),
+        }
+    }
 }
 
 // The closing state, which E prints: level, target (kW), heat, seconds off.

@@ -1,8 +1,9 @@
-use Rattle.std.proofs.Common.{◌≡◌, ◌*◌, ℕ, List, ◌++◌, length, take, drop, ap, ◌∙◌, arith}
+use Rattle.std.proofs.Common.{rules, ◌≡◌, sym, ◌*◌, ℕ, List, ◌++◌, length, take, drop, ap, ◌∙◌, arith}
 use Rattle.level.specs.Numbers.{half_hour, instruction_places}
 use Rattle.validation_kept.specs.declared.Validation.{Validation}
 use Rattle.validation_kept.specs.Outcome.{validation_of}
 use Rattle.profile.specs.Effects.{start_course}
+use Rattle.profile.specs.Taken.{own_unit, own_start}
 use Rattle.profile_follow.specs.Following.{FollowedBy}
 use Rattle.day_close.specs.Laying.{over_all, marks_of}
 use Rattle.day_close.proofs.Whole.{Words, acts_fit, fates_enough, find_is}
@@ -11,16 +12,16 @@ use Rattle.day_close.proofs.find.Goals as goal
 pub follow_day-f-requires : goal.follow_day-f-requires
 follow_day-f-requires c =
     let t = c.args.t in
-    let places : length t.instructions ≡ instruction_places = c.well_formed.0.1.1.1.1.1.1.1.0.1.0.1 in
-    let words : Words t = omega (arith, c.well_formed.0) in
-    rw (c.start_course-first.ensures, c.as_slice-acts.ensures.value, c.validate-v.ensures)
+    let places : length t.instructions ≡ instruction_places = search rules in
+    let words : Words (own_unit t) (own_start t) = rw (sym c.own_unit-unit.ensures, sym c.own_start.ensures) (omega (arith, c.own_unit-unit.type_inv, c.own_start.type_inv)) in
+    rw (c.start_course-first.ensures, c.own_unit-unit.ensures, c.own_start.ensures, c.as_slice-acts.ensures.value, c.validate-v.ensures)
     (acts_fit t c.args.halves places c.requires words)
 
 pub lay_fates-requires : goal.lay_fates-requires
 lay_fates-requires c =
     let t = c.args.t in
-    let places : length t.instructions ≡ instruction_places = c.well_formed.0.1.1.1.1.1.1.1.0.1.0.1 in
-    let by = rw (c.start_course-first.ensures, c.as_slice-acts.ensures.value, c.validate-v.ensures) at c.follow_day-f.ensures in
+    let places : length t.instructions ≡ instruction_places = search rules in
+    let by = rw (c.start_course-first.ensures, c.own_unit-unit.ensures, c.own_start.ensures, c.as_slice-acts.ensures.value, c.validate-v.ensures) at c.follow_day-f.ensures in
     rw (c.as_slice.ensures.value, c.as_slice-acts.ensures.value, c.validate-v.ensures)
     (fates_enough t c.args.halves places c.follow_day-f.result by)
 
@@ -28,12 +29,12 @@ pub returns : goal.returns
 returns c =
     let t = c.args.t in
     let n = c.args.halves in
-    let places : length t.instructions ≡ instruction_places = c.well_formed.0.1.1.1.1.1.1.1.0.1.0.1 in
+    let places : length t.instructions ≡ instruction_places = search rules in
     let kept : Validation = validation_of t.instructions t.count (half_hour * n) in
     let r = c.follow_day-f.result in
     -- those kept that act are followed, and their fates laid over
-    let by : FollowedBy t.unit (start_course t.unit t.start) kept.acts.these n r =
-    rw (c.start_course-first.ensures, c.as_slice-acts.ensures.value, c.validate-v.ensures) at c.follow_day-f.ensures in
+    let by : FollowedBy (own_unit t) (start_course (own_unit t) (own_start t)) kept.acts.these n r =
+    rw (c.start_course-first.ensures, c.own_unit-unit.ensures, c.own_start.ensures, c.as_slice-acts.ensures.value, c.validate-v.ensures) at c.follow_day-f.ensures in
     let acts = c.as_slice-acts.ensures.value ∙ ap (λ (x : Validation). x.acts.these) c.validate-v.ensures in
     let own = c.as_slice.ensures.value in
     let fates = ap (λ (xs : List ℕ). xs ++ drop c.min-given.result c.validate-v.result.fates) c.lay_fates.ensures

@@ -6,8 +6,8 @@ use Rattle.gristpebble.proofs.Laws.{from}
 use Rattle.gristpebble.proofs.listing.Given as goal
 
 -- from here on the run comes to what the whole input comes to
-abbrev pub invariant-loop-day : goal.invariant-loop-day
-invariant-loop-day l = from l.day l.rest ≡ ran_by (found_in paper) l.input
+abbrev pub invariant-loop-rest : goal.invariant-loop-rest
+invariant-loop-rest l = from l.day l.rest ≡ ran_by (found_in paper) l.input
 
-abbrev pub decreases-loop-day : goal.decreases-loop-day
-decreases-loop-day l = length l.rest
+abbrev pub decreases-loop-rest : goal.decreases-loop-rest
+decreases-loop-rest l = length l.rest

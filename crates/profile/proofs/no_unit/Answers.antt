@@ -1,6 +1,6 @@
 use Rattle.records.specs.Records.{unit_of, column_of, trigger_of}
-use Rattle.day_enter.proofs.Zeros.{all_of}
-use Rattle.day_enter.proofs.no_unit.Goals as goal
+use Rattle.profile.proofs.Zeros.{all_of}
+use Rattle.profile.proofs.no_unit.Goals as goal
 
 pub returns : goal.returns
 unfolding unit_of column_of trigger_of
