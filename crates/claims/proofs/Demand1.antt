@@ -154,7 +154,9 @@ module _ (rs : List (List ℕ)) (s : List ℕ) where
   unfolding taken_in too_many forty_first_instruction is_kind
   many_is = ap (λ (n : ℕ). eqb (kind_of s) 3 && leb instruction_places n) (count_is rs)
 
-  number_is : number_of (first_refusal (answers (has_kind 1 rs) (has_kind 2 rs) (unit_in rs) (taken_in rs) (has_kind 4 rs) (second_unit_or_opening rs s) (forty_first_instruction rs s)))
+  number_is :
+      number_of (first_refusal (answers (has_kind 1 rs) (has_kind 2 rs) (unit_in rs) (taken_in rs) (has_kind 4 rs) (second_unit_or_opening rs s)
+      (forty_first_instruction rs s)))
       ≡ first_number (record_rulings rs s)
   unfolding record_rulings is_kind unit_out_of_range unit_disagreeing opening_out_of_range code_outside effective_time_outside issue_time_outside
       level_or_rates_outside before_a_unit opening_too_high after_close close_without_opening quantity_above_maximum found_from quantity_too_high first_number

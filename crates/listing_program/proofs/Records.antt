@@ -125,7 +125,7 @@ module _ (find : Taken → Found) where
       let last : List Condition =
       (eqb k 2 && too_high (own_unit t) (opening_of b), OpeningTooHigh) ∷ (eqb k 4 && quantity_too_high (own_unit t) (find t), QuantityTooHigh) ∷ [] in
       let early : List Condition =
-      ((is_closed d), AfterClose)
+      (is_closed d, AfterClose)
       ∷ (second_one t k, SecondOne)
       ∷ (before_unit t k, BeforeUnit)
       ∷ (too_many t k, TooManyInstructions)

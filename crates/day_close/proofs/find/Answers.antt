@@ -13,7 +13,8 @@ pub follow_day-f-requires : goal.follow_day-f-requires
 follow_day-f-requires c =
     let t = c.args.t in
     let places : length t.instructions ≡ instruction_places = search rules in
-    let words : Words (own_unit t) (own_start t) = rw (sym c.own_unit-unit.ensures, sym c.own_start.ensures) (omega (arith, c.own_unit-unit.type_inv, c.own_start.type_inv)) in
+    let words : Words (own_unit t) (own_start t) =
+    rw (sym c.own_unit-unit.ensures, sym c.own_start.ensures) (omega (arith, c.own_unit-unit.type_inv, c.own_start.type_inv)) in
     rw (c.start_course-first.ensures, c.own_unit-unit.ensures, c.own_start.ensures, c.as_slice-acts.ensures.value, c.validate-v.ensures)
     (acts_fit t c.args.halves places c.requires words)
 
@@ -21,7 +22,9 @@ pub lay_fates-requires : goal.lay_fates-requires
 lay_fates-requires c =
     let t = c.args.t in
     let places : length t.instructions ≡ instruction_places = search rules in
-    let by = rw (c.start_course-first.ensures, c.own_unit-unit.ensures, c.own_start.ensures, c.as_slice-acts.ensures.value, c.validate-v.ensures) at c.follow_day-f.ensures in
+    let by =
+    rw (c.start_course-first.ensures, c.own_unit-unit.ensures, c.own_start.ensures, c.as_slice-acts.ensures.value, c.validate-v.ensures)
+    at c.follow_day-f.ensures in
     rw (c.as_slice.ensures.value, c.as_slice-acts.ensures.value, c.validate-v.ensures)
     (fates_enough t c.args.halves places c.follow_day-f.result by)
 
@@ -34,7 +37,8 @@ returns c =
     let r = c.follow_day-f.result in
     -- those kept that act are followed, and their fates laid over
     let by : FollowedBy (own_unit t) (start_course (own_unit t) (own_start t)) kept.acts.these n r =
-    rw (c.start_course-first.ensures, c.own_unit-unit.ensures, c.own_start.ensures, c.as_slice-acts.ensures.value, c.validate-v.ensures) at c.follow_day-f.ensures in
+    rw (c.start_course-first.ensures, c.own_unit-unit.ensures, c.own_start.ensures, c.as_slice-acts.ensures.value, c.validate-v.ensures)
+    at c.follow_day-f.ensures in
     let acts = c.as_slice-acts.ensures.value ∙ ap (λ (x : Validation). x.acts.these) c.validate-v.ensures in
     let own = c.as_slice.ensures.value in
     let fates = ap (λ (xs : List ℕ). xs ++ drop c.min-given.result c.validate-v.result.fates) c.lay_fates.ensures

@@ -9,13 +9,16 @@ returns-in_err-instruction c =
 
 -- an instruction that is taken is one of the first forty
 pub offset_bounds-taken-taken : goal.offset_bounds-taken-taken
-offset_bounds-taken-taken c = omega (arith, instruction_fits c.args.taken.now c.args.closed c.args.input.now _ (rw c.is_some.ensures at c.in_ok-instruction.ensures))
+offset_bounds-taken-taken c =
+    omega (arith, instruction_fits c.args.taken.now c.args.closed c.args.input.now _ (rw c.is_some.ensures at c.in_ok-instruction.ensures))
 
 pub bounds-taken-taken : goal.bounds-taken-taken
-bounds-taken-taken c = omega (arith, instruction_fits c.args.taken.now c.args.closed c.args.input.now _ (rw c.is_some.ensures at c.in_ok-instruction.ensures))
+bounds-taken-taken c =
+    omega (arith, instruction_fits c.args.taken.now c.args.closed c.args.input.now _ (rw c.is_some.ensures at c.in_ok-instruction.ensures))
 
 pub overflow_add-taken : goal.overflow_add-taken
-overflow_add-taken c = omega (arith, instruction_fits c.args.taken.now c.args.closed c.args.input.now _ (rw c.is_some.ensures at c.in_ok-instruction.ensures))
+overflow_add-taken c =
+    omega (arith, instruction_fits c.args.taken.now c.args.closed c.args.input.now _ (rw c.is_some.ensures at c.in_ok-instruction.ensures))
 
 pub returns : goal.returns
 returns c = instruction_taken c.args.taken.now c.args.closed c.args.input.now _ (rw c.is_some.ensures at c.in_ok-instruction.ensures)

@@ -12,21 +12,25 @@ loop-rest-init c = ap (λ (d : Day). from d c.args.input.now) c.empty_day-day.en
 pub returns-in_err-used : goal.returns-in_err-used
 returns-in_err-used c =
     let e : c.from_residual.result ≡ Err c.in_err-used.field-0.0 = grind arith in
-    let ran = sym (run_refused c.loop-rest.day c.loop-rest.rest.now (c.is_none.ensures ∙ ap not c.loop-rest-test.true) _ _ c.in_err-used.ensures) ∙ c.loop-rest.invariant in
+    let ran =
+    sym (run_refused c.loop-rest.day c.loop-rest.rest.now (c.is_none.ensures ∙ ap not c.loop-rest-test.true) _ _ c.in_err-used.ensures)
+    ∙ c.loop-rest.invariant in
     rw e (gives c.args.input.now c.args.out.now _ ran)
 
 pub slice_bounds-rest-count : goal.slice_bounds-rest-count
 slice_bounds-rest-count c = used_all c.loop-rest.day c.loop-rest.rest.now (c.is_none.ensures ∙ ap not c.loop-rest-test.true) _ _ c.in_ok-used.ensures
 
 pub slice_bounds-rest-start : goal.slice_bounds-rest-start
-slice_bounds-rest-start c = omega (arith, used_all c.loop-rest.day c.loop-rest.rest.now (c.is_none.ensures ∙ ap not c.loop-rest-test.true) _ _ c.in_ok-used.ensures)
+slice_bounds-rest-start c =
+    omega (arith, used_all c.loop-rest.day c.loop-rest.rest.now (c.is_none.ensures ∙ ap not c.loop-rest-test.true) _ _ c.in_ok-used.ensures)
 
 pub loop-rest-smaller : goal.loop-rest-smaller
 loop-rest-smaller c = run_smaller c.loop-rest.day c.loop-rest.rest.now (c.is_none.ensures ∙ ap not c.loop-rest-test.true) _ _ c.in_ok-used.ensures
 
 pub loop-rest-preserved : goal.loop-rest-preserved
 loop-rest-preserved c =
-    sym (run_taken c.loop-rest.day c.loop-rest.rest.now (c.is_none.ensures ∙ ap not c.loop-rest-test.true) _ _ c.in_ok-used.ensures) ∙ c.loop-rest.invariant
+    sym (run_taken c.loop-rest.day c.loop-rest.rest.now (c.is_none.ensures ∙ ap not c.loop-rest-test.true) _ _ c.in_ok-used.ensures)
+    ∙ c.loop-rest.invariant
 
 pub list_fitting-requires : goal.list_fitting-requires
 list_fitting-requires c =

@@ -12,9 +12,10 @@ put_quantities-requires-clause-room g c = room_q g.met.S.Sink.laws _ c.requires 
 
 pub put_closing-requires : goal.put_closing-requires
 put_closing-requires g c =
-    room_e g.met.S.Sink.laws _ c.requires c.closing_of.ensures c.put_fates.ensures (rw c.own_unit.ensures at c.put_courses.ensures) c.put_quantities.ensures
+    room_e g.met.S.Sink.laws _ c.requires c.closing_of.ensures c.put_fates.ensures (rw c.own_unit.ensures at c.put_courses.ensures)
+    c.put_quantities.ensures
 
 pub returns : goal.returns
 returns g c =
-    put_day g.met.S.Sink.laws _ c.requires c.closing_of.ensures c.put_fates.ensures (rw c.own_unit.ensures at c.put_courses.ensures) c.put_quantities.ensures
-    c.put_closing.ensures
+    put_day g.met.S.Sink.laws _ c.requires c.closing_of.ensures c.put_fates.ensures (rw c.own_unit.ensures at c.put_courses.ensures)
+    c.put_quantities.ensures c.put_closing.ensures
