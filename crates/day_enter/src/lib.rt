@@ -5,31 +5,14 @@
 ghost use Rattle.std.specs.Prelude.{◌≡◌, option_copied};
 ghost use Rattle.day.specs.Step.{too_high};
 ghost use Rattle.day_enter.specs.Fronts.{unit_front, opening_front, instruction_front, close_front};
-ghost use Rattle.profile.specs.Taken.{start_of, no_taken};
+ghost use Rattle.profile.specs.Taken.{no_taken};
 ghost use Rattle.day.specs.Day.{empty};
 
 use day::Day;
-use profile::{Start, Taken};
+use profile::Taken;
 use records::{Instruction, Opening, Refusal, UnitData};
 
 // ---- nothing let in
-
-// What an opening starts: no rate replaced, not maximised. (No `From`: both types are of crates below.)
-#[tactic(auto, unfolding(profile::specs::Taken::start_of))]
-pub fn start_of(o: Opening) -> Start
-    ensures { result ≡ start_of o }
-{
-    Start {
-        level: o.level,
-        target: o.target,
-        heat: o.heat,
-        up: 0,
-        down: 0,
-        maximised: false,
-        ordered: o.target,
-        off: o.off,
-    }
-}
 
 // Nothing let in. By hand, since an instruction has no `Default` (`records_bytes::no_instruction`).
 #[tactic(auto, unfolding(profile::specs::Taken::no_taken))]

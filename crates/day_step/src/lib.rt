@@ -9,7 +9,7 @@ ghost use Rattle.day.specs.Step.{step_of};
 ghost use Rattle.day_step.specs.Taking.{kind_at, stepped, TakenBy, close_taken};
 
 use day::{Day, Stepped};
-use profile::Taken;
+use profile::{Start, Taken};
 use records::{Kind, Refusal};
 
 // A unit at the front of the input: the bytes used, or its refusal, which leaves what was taken as it was.
@@ -27,7 +27,7 @@ fn take_opening(taken: &mut Taken, closed: bool, input: &[u8]) -> Result<usize, 
 {
     let unit = taken.unit.as_ref();
     let opening = day_enter::opening_front(unit, taken.start.is_some(), closed, input)?;
-    taken.start = Some(day_enter::start_of(opening));
+    taken.start = Some(Start::from(opening));
     Ok(records::OPENING_SIZE)
 }
 

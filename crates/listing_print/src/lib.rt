@@ -1,4 +1,4 @@
-// The listing of a day into a lent slice: measured first, then written.
+// The listing of a day into a lent slice: measured first, where it is not known to fit, then written.
 #![tactic(auto)]
 
 ghost use Rattle.std.specs.Prelude.{◌≡◌, true, ◌+◌, ◌-◌, ◌<◌, ◌≤◌, length};
@@ -30,21 +30,18 @@ fn put_lines<S: Sink>(sink: &mut S, taken: &Taken, found: &Finding)
     listing_parts::put_closing(sink, listing_parts::closing_of(found.last, found.end));
 }
 
-// Their width.
-fn lines_width(taken: &Taken, found: &Finding) -> usize
-    ensures { result ≡ length (printed_day (with_finding taken.now found.now)) }
-{
-    let mut measure = Measure::default();
-    put_lines(&mut measure, taken, found);
-    measure.width
-}
-
 // The width of the listing of a day.
 pub fn day_width(day: &Day) -> usize
     ensures { result ≡ length (printed_day day.now) }
 {
     let none = Finding::none();
-    lines_width(&day.taken, day.found.as_ref().unwrap_or(&none))
+    let mut measure = Measure::default();
+    put_lines(
+        &mut measure,
+        &day.taken,
+        day.found.as_ref().unwrap_or(&none),
+    );
+    measure.width
 }
 
 // The whole listing where there is room for it.
@@ -68,7 +65,7 @@ pub fn list_fitting(day: &Day, out: &mut [u8], fits: bool) -> Result<usize, Refu
     let Some(found) = &day.found else {
         return Err(Refusal::NotReady);
     };
-    if !fits && out.len() < lines_width(&day.taken, found) {
+    if !fits && out.len() < day_width(day) {
         return Err(Refusal::SliceTooShort);
     }
     Ok(put_day(out, &day.taken, found))

@@ -5,11 +5,11 @@ ghost use Rattle.std.specs.Prelude.{◌≡◌, []};
 ghost use Rattle.records.specs.Records.{unit_of};
 
 use course::Course;
-use records::{Instruction, UnitData};
+use records::{Instruction, Opening, UnitData};
 
 // The course under way: whether the unit is maximised, the target (kW) that MXOF goes back to, and the seconds off where
-// the course began. (What is maximised, ordered and off is not a struct of its own in this, `Setting` and `Start`: each definition
-// that builds or reads one would go a step further, as `now.unit.ordered`.)
+// the course began. (What `Course`, `Setting`, `Start` and this share is no struct of its own: each definition that builds or reads
+// one would go a step further, as `now.unit.ordered`.)
 #[derive(Clone, Copy, Default)]
 pub struct UnderWay {
     pub course: Course,
@@ -53,8 +53,30 @@ pub struct Start {
     pub off: u32,
 }
 
-// What was let in: the unit and what the day starts from, each once it is, and the instructions, `count` of them. (Here and in
-// `Finding` an array and its count are no `level::Few`: the calls promise for a count above the places, too.)
+// The opening starts a course: no rate replaced, not maximised.
+impl From<Opening> for Start {
+    ghost use Rattle.std.specs.Prelude.{◌≡◌};
+    ghost use Rattle.profile.specs.Taken.{start_of};
+
+    ghost from_gives = { λ o s. s ≡ start_of o };
+
+    #[tactic(auto, unfolding(crate::specs::Taken::start_of))]
+    fn from(o: Opening) -> Self {
+        Start {
+            level: o.level,
+            target: o.target,
+            heat: o.heat,
+            up: 0,
+            down: 0,
+            maximised: false,
+            ordered: o.target,
+            off: o.off,
+        }
+    }
+}
+
+// What was let in: the unit, what the day starts from, and the instructions, `count` of them. (Here and in `Finding` an array and
+// its count are no `level::Few`: the calls promise for a count above the places, too.)
 #[derive(Clone, Copy)]
 pub struct Taken {
     pub unit: Option<UnitData>,
@@ -87,13 +109,13 @@ impl Taken {
     pub fn own_start(&self) -> Start
         ensures { result ≡ own_start self.now }
     {
-        self.start.unwrap_or(Start::default())
+        self.start.unwrap_or_default()
     }
 }
 
 // What close found: the fates by number, the courses (`started` of them), twice the recorded area from 06:00 to each half-hour
 // boundary (grain-seconds), the last course under way, and the state at the day's end.
-#[derive(Clone, Copy)]
+#[derive(Clone, Copy, Default)]
 pub struct Finding {
     pub fates: [u8; level::INSTRUCTIONS],
     pub started: usize,
@@ -107,19 +129,11 @@ impl Finding {
     ghost use Rattle.std.specs.Prelude.{◌≡◌};
     ghost use Rattle.profile.specs.Finding.{no_finding};
 
-    // Nothing found. (By hand: of a derived `Default` no proof was found for its arrays.)
-    #[tactic(auto, unfolding(crate::specs::Finding::no_finding))]
+    // Nothing found.
     pub fn none() -> Finding
         ensures { result ≡ no_finding }
     {
-        Finding {
-            fates: [0; level::INSTRUCTIONS],
-            started: 0,
-            courses: [Course::default(); level::COURSES],
-            sums: [0; level::BOUNDARIES],
-            last: UnderWay::default(),
-            end: State::default(),
-        }
+        Finding::default()
     }
 }
 

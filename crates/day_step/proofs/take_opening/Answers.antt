@@ -10,5 +10,5 @@ returns-in_err-opening c =
 
 pub returns : goal.returns
 returns c =
-    opening_taken c.args.taken.now c.args.closed c.args.input.now _ _ c.start_of.ensures
+    opening_taken c.args.taken.now c.args.closed c.args.input.now _ _ c.from.ensures
     (rw (c.as_ref-unit.ensures.value, c.is_some.ensures) at c.in_ok-opening.ensures)
