@@ -1,7 +1,7 @@
 -- A record taken where it is, by its front: what is returned and left is the definition's step.
 use Prim.Native.Nat.{ℕ, ◌+◌, ◌≤◌, ◌<◌}
 use native.Mathlib.Omega.{arith}
-use mathlib.Core.Path.{◌≡◌, refl, ap, sym, ◌∙◌}
+use mathlib.Core.Path.{◌≡◌, refl, ap, sym, ◌∙◌, subst}
 use mathlib.Core.List.{List, [], ◌∷◌}
 use mathlib.Core.Bool.{Bool, true, false, not}
 use lib.Dec.{eqb}
@@ -168,20 +168,20 @@ module _ (d : Day) (s : List ℕ) (some_byte : 1 ≤ length s) where
       go (Ok _) = rw other refl
       go (Err r) = refl
 
-  pub unit_step : get_or s 0 0 ≡ 1 → (r : Result ℕ Refusal) (u : Taken) → TakenBy 1 d.taken (is_closed d) s r u →
-      stepped r (record { taken = u; found = d.found }) ≡ step_of d s
+  pub unit_step : get_or s 0 0 ≡ 1 → {closed : Bool} → closed ≡ is_closed d → (r : Result ℕ Refusal) (u : Taken) →
+      TakenBy 1 d.taken closed s r u → stepped r (record { taken = u; found = d.found }) ≡ step_of d s
   unfolding a_kind some
-  unit_step e = taken_step 1 e refl refl
+  unit_step e is r u t = taken_step 1 e refl refl r u (subst (λ (b : Bool). TakenBy 1 d.taken b s r u) is t)
 
-  pub opening_step : get_or s 0 0 ≡ 2 → (r : Result ℕ Refusal) (u : Taken) → TakenBy 2 d.taken (is_closed d) s r u →
-      stepped r (record { taken = u; found = d.found }) ≡ step_of d s
+  pub opening_step : get_or s 0 0 ≡ 2 → {closed : Bool} → closed ≡ is_closed d → (r : Result ℕ Refusal) (u : Taken) →
+      TakenBy 2 d.taken closed s r u → stepped r (record { taken = u; found = d.found }) ≡ step_of d s
   unfolding a_kind some
-  opening_step e = taken_step 2 e refl refl
+  opening_step e is r u t = taken_step 2 e refl refl r u (subst (λ (b : Bool). TakenBy 2 d.taken b s r u) is t)
 
-  pub instruction_step : get_or s 0 0 ≡ 3 → (r : Result ℕ Refusal) (u : Taken) → TakenBy 3 d.taken (is_closed d) s r u →
-      stepped r (record { taken = u; found = d.found }) ≡ step_of d s
+  pub instruction_step : get_or s 0 0 ≡ 3 → {closed : Bool} → closed ≡ is_closed d → (r : Result ℕ Refusal) (u : Taken) →
+      TakenBy 3 d.taken closed s r u → stepped r (record { taken = u; found = d.found }) ≡ step_of d s
   unfolding a_kind some
-  instruction_step e = taken_step 3 e refl refl
+  instruction_step e is r u t = taken_step 3 e refl refl r u (subst (λ (b : Bool). TakenBy 3 d.taken b s r u) is t)
 
   pub close_step : get_or s 0 0 ≡ 4 → close_taken (found_in paper) d ≡ step_of d s
   unfolding kind_refusals size_of a_kind some day_with

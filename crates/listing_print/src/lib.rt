@@ -35,12 +35,9 @@ pub fn day_width(day: &Day) -> usize
     ensures { result ≡ length (printed_day day.now) }
 {
     let none = Finding::none();
+    let found = day.found.as_ref().unwrap_or(&none);
     let mut measure = Measure::default();
-    put_lines(
-        &mut measure,
-        &day.taken,
-        day.found.as_ref().unwrap_or(&none),
-    );
+    put_lines(&mut measure, &day.taken, found);
     measure.width
 }
 

@@ -14,19 +14,19 @@ pub returns-in-Unit : goal.returns-in-Unit
 returns-in-Unit c =
     let e : Ok Unit ≡ kind_at c.args.input.now = ap (λ (v : Kind). Ok v) (sym c.in-Unit.is) ∙ c.in_ok-kind_at.ensures in
     let k = of_kind c.args.day.now c.args.input.now Unit e in
-    unit_step c.args.day.now c.args.input.now k.0 k.1 _ _ (rw c.is_some-closed.ensures at c.take_unit.ensures)
+    unit_step c.args.day.now c.args.input.now k.0 k.1 c.is_some-closed.ensures _ _ c.take_unit.ensures
 
 pub returns-in-Opening : goal.returns-in-Opening
 returns-in-Opening c =
     let e : Ok Opening ≡ kind_at c.args.input.now = ap (λ (v : Kind). Ok v) (sym c.in-Opening.is) ∙ c.in_ok-kind_at.ensures in
     let k = of_kind c.args.day.now c.args.input.now Opening e in
-    opening_step c.args.day.now c.args.input.now k.0 k.1 _ _ (rw c.is_some-closed.ensures at c.take_opening.ensures)
+    opening_step c.args.day.now c.args.input.now k.0 k.1 c.is_some-closed.ensures _ _ c.take_opening.ensures
 
 pub returns-in-Instruction : goal.returns-in-Instruction
 returns-in-Instruction c =
     let e : Ok Instruction ≡ kind_at c.args.input.now = ap (λ (v : Kind). Ok v) (sym c.in-Instruction.is) ∙ c.in_ok-kind_at.ensures in
     let k = of_kind c.args.day.now c.args.input.now Instruction e in
-    instruction_step c.args.day.now c.args.input.now k.0 k.1 _ _ (rw c.is_some-closed.ensures at c.take_instruction.ensures)
+    instruction_step c.args.day.now c.args.input.now k.0 k.1 c.is_some-closed.ensures _ _ c.take_instruction.ensures
 
 pub returns-in-Close : goal.returns-in-Close
 returns-in-Close c =

@@ -9,8 +9,8 @@ use Rattle.listing_print.proofs.day_width.Goals as goal
 pub returns : goal.returns
 returns c =
     let d = c.args.day.now in
-    let found : c.unwrap_or.result.now ≡ finding_in d =
-    ap (λ (b : Bor Finding). b.now) c.unwrap_or.ensures ∙ found_is d c.as_ref.result _ c.as_ref.ensures.value c.none-none.ensures in
+    let found : c.unwrap_or-found.result.now ≡ finding_in d =
+    ap (λ (b : Bor Finding). b.now) c.unwrap_or-found.ensures ∙ found_is d c.as_ref.result _ c.as_ref.ensures.value c.none-none.ensures in
     omega (
       arith,
       c.put_lines.ensures.count_is,
