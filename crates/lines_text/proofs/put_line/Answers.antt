@@ -1,4 +1,4 @@
-use Rattle.std.proofs.Common.{◌<◌, ◌≤◌, ◌+◌, refl, List, ℕ, length, get_or, arith, length-set, length-take, length-drop}
+use Rattle.std.proofs.Common.{◌<◌, ◌≤◌, ◌+◌, refl, List, ℕ, length, get_or, arith, length-take, length-drop}
 use Rattle.lines.specs.Text.{field, line}
 use Rattle.lines.proofs.Laying.{line_left, number_next, feed_next}
 use Rattle.lines.proofs.Sinks.{Putting, slice, fits, fills, filling, put_none, put_next, put_more, put_all, filled_byte, filled_tail, filled_front}
@@ -29,12 +29,6 @@ loop-v-init c =
       lines = put_more filling {j = 0} {l = 0} (record { parts = refl }) (put_none filling (omega arith) (omega arith)) (omega arith) letter;
     }
 
-pub slice_bounds-put_field-count : goal.slice_bounds-put_field-count
-slice_bounds-put_field-count c = omega (arith, number_room _ _ _ _ _ _ c.loop-v-test.true c.loop-v.invariant.lines)
-
-pub slice_bounds-put_field-start : goal.slice_bounds-put_field-start
-slice_bounds-put_field-start c = omega (arith, number_room _ _ _ _ _ _ c.loop-v-test.true c.loop-v.invariant.lines)
-
 pub put_field-at-requires : goal.put_field-at-requires
 put_field-at-requires c = simp (length-take, length-drop) (omega (arith, number_room _ _ _ _ _ _ c.loop-v-test.true c.loop-v.invariant.lines))
 
@@ -46,13 +40,6 @@ loop-v-preserved c =
       within = omega arith;
       lines = put_more filling {j = 0} (number_next c.args.vs.now c.loop-v.v-index c.loop-v-test.true) p (omega arith) number;
     }
-
-pub bounds-out-at : goal.bounds-out-at
-bounds-out-at c = feed_room c.args.vs.now c.args.letter c.loop-v.v-index _ _ _ (omega arith) c.loop-v.invariant.lines
-
-pub overflow_add-result : goal.overflow_add-result
-overflow_add-result c =
-    omega (arith, length-set {A = ℕ}, feed_room c.args.vs.now c.args.letter c.loop-v.v-index _ _ _ (omega arith) c.loop-v.invariant.lines)
 
 pub returns : goal.returns
 returns c =
