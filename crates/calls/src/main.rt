@@ -35,11 +35,7 @@ fn put_answer(rt: &HostRuntime, answer: Result<(), Refusal>, number: usize) -> R
 // Reads until the buffer is full or the input ends; how many bytes there were. (A `while`: a read says how far it came.)
 fn read_full(rt: &HostRuntime, buf: &mut [u8]) -> Result<usize, Failure> {
     let mut at: usize = 0;
-    while at < buf.len() {
-        let to = streams::read_on(&mut rt.stdin(), buf, at)?;
-        if to <= at {
-            break;
-        }
+    while let Some(to) = streams::read_on(&mut rt.stdin(), buf, at)? {
         at = to;
     }
     Ok(at)

@@ -11,12 +11,12 @@ use listing::Printed;
 use std::io::{Print, Read, Write};
 use streams::Failure;
 
-// What is printed for the first n bytes.
-fn print_first(buf: &[u8], n: usize, out: &mut [u8]) -> Printed
-    requires { (n ≤ length buf.now) × (suffices ≤ length out.old) }
-    ensures { Shown (take n buf.now) result.count out.new × (result.more ≡ ends_early (take n buf.now)) }
+// What is printed for the bytes read: the call below, with the contract that the loop carries on.
+fn print_first(read: &[u8], out: &mut [u8]) -> Printed
+    requires { suffices ≤ length out.old }
+    ensures { Shown read.now result.count out.new × (result.more ≡ ends_early read.now) }
 {
-    listing_program::print(&buf[..n], out)
+    listing_program::print(read, out)
 }
 
 // How many bytes were read, and how many are to be written.
@@ -34,14 +34,13 @@ fn print_input<R: Read>(input: &mut R, buf: &mut [u8], out: &mut [u8]) -> Result
     ensures { IfOk result (λ a. Shown (take a.at buf.new) a.count out.new) }
 {
     let mut at: usize = 0;
-    let mut printed = print_first(buf, at, out);
-    while printed.more && at < buf.len() {
-        let to = streams::read_on(input, buf, at)?;
-        if to <= at {
+    let mut printed = print_first(&buf[..at], out);
+    while printed.more {
+        let Some(to) = streams::read_on(input, buf, at)? else {
             break;
-        }
+        };
         at = to;
-        printed = print_first(buf, at, out);
+        printed = print_first(&buf[..at], out);
     }
     Ok(Answered {
         at,

@@ -1,7 +1,7 @@
 // Reading for the two programs, and why either of them ends early.
 #![tactic(auto)]
 
-ghost use Rattle.std.specs.Prelude.{◌≡◌, ◌≤◌, IfOk, length, take};
+ghost use Rattle.std.specs.Prelude.{◌≡◌, ◌<◌, ◌≤◌, IfOk, IfSome, length, take};
 
 use std::fmt;
 use std::io::Read;
@@ -22,14 +22,16 @@ impl fmt::Display for Failure {
     }
 }
 
-// One read into the buffer from a place on, none where there is no such place: the place that it came to. What was read before stays.
-pub fn read_on<R: Read>(input: &mut R, buf: &mut [u8], at: usize) -> Result<usize, Failure>
-    ensures within { at ≤ length buf.old → IfOk result (λ to. (at ≤ to) × (to ≤ length buf.new)) }
+// One read into the buffer from a place on: the place that it came to, which lies further on; none where the buffer is full or the
+// input ends. What was read before stays: it takes the buffer with the place, and not its rest, so that the contract can say so. The
+// loop around it is in each program: the program of calls does nothing between two reads, and the listing program prints.
+pub fn read_on<R: Read>(input: &mut R, buf: &mut [u8], at: usize) -> Result<Option<usize>, Failure>
+    ensures within { IfOk result (λ read. IfSome read (λ to. (at < to) × (to ≤ length buf.new))) }
     ensures before { take at buf.new ≡ take at buf.old }
 {
-    if buf.len() < at {
-        return Ok(at);
+    if buf.len() <= at {
+        return Ok(None);
     }
     let got = input.read(&mut buf[at..]).map_err(|_| Failure::Unread)?;
-    Ok(at + got)
+    Ok((got != 0).then_some(at + got))
 }

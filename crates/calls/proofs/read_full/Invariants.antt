@@ -1,8 +1,8 @@
 use Rattle.std.proofs.Common.{◌-◌, ◌≤◌, length}
 use Rattle.calls.proofs.read_full.Given as goal
 
-abbrev pub invariant-loop-at : goal.invariant-loop-at
-invariant-loop-at l = l.at ≤ length l.buf
+abbrev pub invariant-loop-to : goal.invariant-loop-to
+invariant-loop-to l = l.at ≤ length l.buf
 
-abbrev pub decreases-loop-at : goal.decreases-loop-at
-decreases-loop-at l = length l.buf - l.at
+abbrev pub decreases-loop-to : goal.decreases-loop-to
+decreases-loop-to l = length l.buf - l.at
