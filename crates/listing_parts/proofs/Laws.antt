@@ -1,14 +1,15 @@
 -- What is left to print of each kind of line, and which line comes next.
 use Prim.Native.Nat.{ℕ, zero, suc, ◌+◌, ◌-◌, min, ◌≤◌, ◌<◌}
 use mathlib.Core.Path.{◌≡◌, refl, sym, ap, ◌∙◌}
+use mathlib.Core.Bool.{Bool, true, false, not, ◌&&◌}
 use mathlib.Core.List.{List, [], ◌∷◌, ◌++◌, append_assoc, append-nil}
 use native.Mathlib.Omega.{arith}
 use native.Mathlib.Numerals.{add-one}
 use lib.ListN.{length, get_or, take, drop, drop_of_length-le}
 use lib.Seq.{drop-cons}
 use lib.Dec.{eqb}
-use borrow.Author.Tests.{eq-eqb, ne_eqb}
-use Rattle.std.proofs.Common.{Option, Some, None, is_some, slice_get, unwrap_or, true≢false, length-drop}
+use borrow.Author.Tests.{eq-eqb, ne_eqb, eqb-true, eqb-false, not-true, not-false}
+use Rattle.std.proofs.Common.{Option, Some, None, MatchOption, is_some, slice_get, unwrap_or, true≢false, length-drop}
 use Rattle.std.proofs.lemmas.List.{take_min}
 use Rattle.std.proofs.lemmas.Option.{slice_get_within}
 use Rattle.std.proofs.Math.Seq.{take-length}
@@ -225,10 +226,60 @@ module _ (f : ℕ → ℕ) where
   end_here k i zero h e = absurd (omega arith)
   end_here k i (suc n) h e = simp (ne_eqb (f i) k e)
 
-  pub end_none : (k i n : ℕ) → n ≤ 0 → run_end f k i n ≡ i
+  end_none : (k i n : ℕ) → n ≤ 0 → run_end f k i n ≡ i
   unfolding run_end
   end_none k i zero h = refl
   end_none k i (suc n) h = absurd (omega arith)
+
+  -- a run of k goes on over m half-hours of the quantity k
+  end_over : (k i n m : ℕ) → m ≤ n → ((j : ℕ) → i ≤ j → j < i + m → f j ≡ k) → run_end f k i n ≡ run_end f k (i + m) (n - m)
+  end_over k i n zero h e = λ j. run_end f k (here j) (all j)
+    where
+      here : i ≡ i + zero
+      here = omega arith
+
+      all : n ≡ n - zero
+      all = omega arith
+  end_over k i n (suc m) h e =
+      end_on k i n (omega arith) (e i (omega arith) (omega arith))
+      ∙ (end_over k (i + 1) (n - 1) m (omega arith) (λ j a b. e j (omega arith) (omega arith)) ∙ (λ j. run_end f k (here j) (left j)))
+    where
+      here : i + 1 + m ≡ i + suc m
+      here = omega arith
+
+      left : n - 1 - m ≡ n - suc m
+      left = omega arith
+
+  -- up to the boundary i it goes on, the last being `end`
+  end_to : (k from end i : ℕ) → from ≤ i → i ≤ end → ((j : ℕ) → from ≤ j → j < i → f j ≡ k) → run_end f k from (end - from) ≡ run_end f k i (end - i)
+  end_to k from end i a b e =
+      end_over k from (end - from) (i - from) (omega arith) (λ j c d. e j c (omega arith)) ∙ (λ j. run_end f k (here j) (left j))
+    where
+      here : from + (i - from) ≡ i
+      here = omega arith
+
+      left : end - from - (i - from) ≡ end - i
+      left = omega arith
+
+  -- it ends at the first half-hour of another quantity, or with the last half-hour
+  pub run_found : (k from end : ℕ) (r : Option ℕ) → from ≤ end →
+      MatchOption r ((j : ℕ) → from ≤ j → j < end → false ≡ not (eqb (f j) k))
+      (λ i. (from ≤ i) × (i < end) × (true ≡ not (eqb (f i) k)) × ((j : ℕ) → from ≤ j → j < i → false ≡ not (eqb (f j) k))) →
+      RunEnds f k from end (unwrap_or r end)
+  run_found k from end None h p = record {
+    at =
+        sym (end_to k from end end h (omega arith) (λ j a b. eqb-true (f j) k (not-false _ (sym (p j a b))))
+        ∙ end_none k end (end - end) (omega arith));
+    later = h;
+    within = omega arith;
+  }
+  run_found k from end (Some i) h p = record {
+    at =
+        sym (end_to k from end i p.0 (omega (arith, p.1)) (λ j a b. eqb-true (f j) k (not-false _ (sym (p.3 j a b))))
+        ∙ end_here k i (end - i) (omega (arith, p.1)) (eqb-false (f i) k (not-true _ (sym p.2))));
+    later = p.0;
+    within = omega (arith, p.1);
+  }
 
 -- of a day of so many half-hours
 module _ (f : ℕ → ℕ) (halves : ℕ) where
@@ -264,12 +315,14 @@ module _ (sums : List ℕ) (i : ℕ) where
   quantities_next {twice} {kw} {e} halves h t q r =
       record { parts = quantities_more (quantity_at sums) halves i kw e h (quantity_here twice kw t q) r.at }
 
-  -- a run of kw goes on, or ends here
-  module _ (halves kw : ℕ) (within : i < halves) where
-    pub run_on : quantity_at sums i ≡ kw → run_end (quantity_at sums) kw (i + 1) (halves - (i + 1)) ≡ run_end (quantity_at sums) kw i (halves - i)
-    run_on e =
-        ap (run_end (quantity_at sums) kw (i + 1)) {x = halves - (i + 1)} {y = halves - i - 1} (omega arith)
-        ∙ sym (end_on (quantity_at sums) kw i (halves - i) (omega arith) e)
+  -- the half-hour has another quantity than kw, which twice the area `twice` gives: as the code asks it, and as it is
+  module _ (twice kw : ℕ) (given : kw ≡ rounded twice) where
+    abbrev area : ℕ
+    area = get_or sums (i + 1) 0 - get_or sums i 0
 
-    pub run_ends : (quantity_at sums i ≡ kw → ⊥) → i ≡ run_end (quantity_at sums) kw i (halves - i)
-    run_ends ne = sym (end_here (quantity_at sums) kw i (halves - i) (omega arith) ne)
+    asked : (b : Bool) → eqb area twice ≡ b → (not b && not (eqb (rounded area) kw)) ≡ not (eqb (rounded area) kw)
+    asked true e = ap not (sym (eq-eqb (rounded area) kw (ap rounded (eqb-true area twice e) ∙ sym given)))
+    asked false e = refl
+
+    pub other_is : (not (eqb area twice) && not (eqb (rounded area) kw)) ≡ not (eqb (quantity_at sums i) kw)
+    other_is = asked (eqb area twice) refl ∙ ap (λ (q : ℕ). not (eqb q kw)) (quantity_is sums i)

@@ -94,17 +94,16 @@ fn run_end(sums: &[u64; level::BOUNDARIES], twice: u64, kw: u64, from: usize, en
     requires { RunAsked twice kw from end }
     ensures { RunEnds (quantity_at sums.now) kw from end result }
 {
-    for i in from..end {
-        let x = twice_at(sums, i);
-        if x != twice && profile_quantity::quantity_of(x) != kw {
-            return i;
-        }
-    }
-    end
+    (from..end)
+        .find(|&i| {
+            let x = twice_at(sums, i);
+            x != twice && profile_quantity::quantity_of(x) != kw
+        })
+        .unwrap_or(end)
 }
 
-// The lines of the quantities, of a day of so many half-hours.
-// Kept as a `while`: it goes from the end of one run to the end of the next.
+// The lines of the quantities, of a day of so many half-hours. (A `while`: it goes from the end of one run to the end of the next.
+// `chunk_by` would ask for a slice of quantities, and there is none: each is rounded from two of the sums where it is needed.)
 pub fn put_quantities<S: Sink>(sink: &mut S, sums: &[u64; level::BOUNDARIES], halves: u32)
     requires halves_le_most_half_hours { halves ≤ most_half_hours }
     requires room { S.has_room sink.old (quantity_lines halves sums.now) (65 * most_half_hours) }
