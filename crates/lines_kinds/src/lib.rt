@@ -45,7 +45,8 @@ impl Sink for Measure {
     }
 }
 
-// The bytes of the lines, in a lent slice up to the byte `at`.
+// The bytes of the lines, in a lent slice up to the byte `at`. (The slice with the place, and not its rest: its maker asks how many
+// bytes were written, and its laws say what the whole slice holds.)
 #[derive(Drop)]
 pub struct Writer<'a> {
     pub out: &'a mut [u8],

@@ -14,7 +14,8 @@ use lines_kinds::Sink;
 
 // ---- F lines
 
-// The lines of the first `count` fates.
+// The lines of the first `count` fates. (An array with its count, as the day holds it, and no slice: a day may be handed in with any
+// count, and one above the places means all of them.)
 pub fn put_fates<S: Sink>(sink: &mut S, fates: &[u8; level::INSTRUCTIONS], count: usize)
     requires { S.has_room sink.old (fate_lines count fates.now) (44 * instruction_places) }
     ensures { S.takes sink.old (fate_lines count fates.now) (44 * instruction_places) sink.new }
@@ -60,7 +61,7 @@ fn end_of(later: &[course::Course], end: u32) -> u32
     }
 }
 
-// The lines of the first `started` courses, of a day that ends at the second `end`.
+// The lines of the first `started` courses, of a day that ends at the second `end`. (An array with its count, as at `put_fates`.)
 pub fn put_courses<S: Sink>(
     sink: &mut S,
     u: records::UnitData,
@@ -103,7 +104,8 @@ fn run_end(sums: &[u64; level::BOUNDARIES], twice: u64, kw: u64, from: usize, en
 }
 
 // The lines of the quantities, of a day of so many half-hours. (A `while`: it goes from the end of one run to the end of the next.
-// `chunk_by` would ask for a slice of quantities, and there is none: each is rounded from two of the sums where it is needed.)
+// `chunk_by` would ask for a slice of quantities, and there is none: each is rounded from two of the sums where it is needed. And an
+// array with `halves`: so many half-hours have a boundary more, so that a slice would be cut one longer than the day by each caller.)
 pub fn put_quantities<S: Sink>(sink: &mut S, sums: &[u64; level::BOUNDARIES], halves: u32)
     requires halves_le_most_half_hours { halves ≤ most_half_hours }
     requires room { S.has_room sink.old (quantity_lines halves sums.now) (65 * most_half_hours) }

@@ -15,7 +15,7 @@ pub fn quantity_of(twice: u64) -> u64
 }
 
 // A quantity of the first so many half-hours lies above the short-term maximum. Rounding takes twice an area above it from half a kW
-// more on.
+// more on. (An array with `halves`: so many half-hours have a boundary more, so that a slice would be cut one longer by each caller.)
 pub fn quantity_too_high(u: records::UnitData, sums: [u64; level::BOUNDARIES], halves: u32) -> bool
     requires { halves ≤ most_half_hours }
     ensures { result ≡ some_above u.maximum sums halves }
