@@ -35,8 +35,8 @@ pub fn take<'a>(day: Day, input: &'a [u8]) -> TakenRest<'a>
     TakenRest { stepped, rest }
 }
 
-// `take` for a caller that cuts its slice itself: plain parameters, and what is handed back holds no reference. The bytes used are
-// as the rest shows them: so many as the input has more.
+// What `day_step::step` promises, by way of `take`: the program of calls takes its records by this, so that `take` is what runs when
+// it is tested. The bytes used are as the rest shows them: so many as the input has more.
 #[tactic(auto, using(crate::proofs::Laws::counted_is))]
 pub fn take_front(day: Day, input: &[u8]) -> Stepped
     ensures { result ≡ step_of day input.now }

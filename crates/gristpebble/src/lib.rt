@@ -24,7 +24,8 @@ pub fn listing(input: &[u8], out: &mut [u8]) -> Result<usize, Refusal>
     listing_print::list_fitting(&day, out, listing::SUFFICES <= out.len())
 }
 
-// The same with the result in one number: the count of bytes written, or, at a refusal, its number times 2^32.
+// The same with the result in one number, for C, which has no `Result`: the count of bytes written, or, at a refusal, its number times
+// 2^32.
 #[tactic(auto, unfolding(listing::specs::Result::listed_result))]
 pub fn gristpebble_listing(input: &[u8], out: &mut [u8]) -> u64
     ensures { (result ≡ listed_result input.now out.old) × (out.new ≡ listed_lent input.now out.old) }

@@ -1,4 +1,5 @@
-// The C function: the library's call, exported.
+// The C function: the library's call, exported. (In a crate of its own, with the library's clauses: a crate is a library or a static
+// library, and C hands over each slice as a pointer and a length and gets one number of 64 bits.)
 #![tactic(auto)]
 
 ghost use Rattle.std.specs.Prelude.{◌≡◌};

@@ -83,7 +83,8 @@ fn sync(u: UnitData, now: UnderWay, i: Instruction, s: State) -> Option<Setting>
     (s.level == 0).then_some(set)
 }
 
-// What an instruction comes to, read with the state just before.
+// What an instruction comes to, read with the state just before. (One `match` over the effects: its arms are the rows of Table 7, and
+// that of FAIL, which never acts.)
 #[tactic(auto, unfolding(profile::specs::Effects::outcome_by))]
 pub fn outcome_of(u: UnitData, now: UnderWay, o: Numbered, s: State) -> Option<Setting>
     ensures { result ≡ outcome u now o.instruction s }
