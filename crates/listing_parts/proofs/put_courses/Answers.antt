@@ -1,12 +1,7 @@
 use Rattle.std.proofs.Common.{arith, length-take}
-use Rattle.lines.proofs.Sinks.{put_none, put_next, put_more, put_all}
-use Rattle.listing_parts.proofs.Laws.{take_few, courses_none, course_next}
+use Rattle.lines.proofs.Sinks.{put_next, put_more, put_all}
+use Rattle.listing_parts.proofs.Laws.{courses_none, course_next}
 use Rattle.listing_parts.proofs.put_courses.Goals as goal
-
-pub loop-i-init : goal.loop-i-init
-loop-i-init g c =
-    let cs = take_few c.args.cs.now c.min.result c.args.started (omega arith) c.min.ensures in
-    record { within = omega arith; lines = rw cs (put_none g.met.S.Sink.laws (omega arith) c.requires) }
 
 pub put_course-requires : goal.put_course-requires
 put_course-requires g c =
