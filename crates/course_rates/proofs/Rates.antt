@@ -1,10 +1,13 @@
 -- The list in use at a level, the breaks passed, and the rate.
 use Rattle.std.proofs.Common.{◌≡◌, ℕ, zero, suc, ◌+◌, ◌≤◌, ◌<◌, List, [], ◌∷◌, map, length, get_or, Bool, true, false, cond, leb, ltb, eqb, count_by, refl, le-ltb, lt-ltb, eq-eqb, ne_eqb, arith}
+use Rattle.std.specs.Prelude.{Ok, Err}
+use Rattle.std.specs.Result.{result_unwrap_or}
 use Rattle.std.proofs.lemmas.List.Recursion.{is_count_by}
 use Rattle.level.specs.Choice.{pick}
 use Rattle.level.specs.Lists.{those}
 use Rattle.level.specs.Level.{grains}
 use Rattle.records.specs.declared.Heat.TheVariants.{Hot, Warm, Cold}
+use Rattle.records.specs.declared.Refusal.TheVariants.{OpeningField}
 use Rattle.records.specs.Heats.{heat_of, heat_number}
 use Rattle.course.specs.Lists.{place_of, rates_of, replaced}
 use Rattle.course.specs.declared.Heading.{Heading}
@@ -13,15 +16,17 @@ use Rattle.course.specs.Course.{passed, in_use, rate_at}
 use Rattle.course_rates.specs.declared.Route.{Route}
 use Rattle.course_rates.specs.Ways.{has_passed, lists_by}
 
--- a number's heat has the place of the number
-pub place_by_heat : (n : ℕ) → place_of (heat_number (heat_of n)) ≡ place_of n
+-- a number's heat, cold for one that no record can have, has the place of the number
+pub place_by_heat : (n : ℕ) → place_of (heat_number (result_unwrap_or (heat_of n) Cold)) ≡ place_of n
 unfolding place_of
-place_by_heat n = go (eqb n 1) (eqb n 2)
+place_by_heat n = go (eqb n 1) (eqb n 2) (eqb n 3)
   where
-    go : (a b : Bool) → place_of (heat_number (pick a Hot (pick b Warm Cold))) ≡ pick a 0 (pick b 1 2)
-    go true b = refl
-    go false true = refl
-    go false false = refl
+    go : (a b c : Bool) → place_of (heat_number (result_unwrap_or (pick a (Ok Hot) (pick b (Ok Warm) (pick c (Ok Cold) (Err OpeningField)))) Cold)) ≡
+        pick a 0 (pick b 1 2)
+    go true b c = refl
+    go false true c = refl
+    go false false true = refl
+    go false false false = refl
 
 -- the breaks that the level v has passed, counted one by one
 module _ (h : Heading) (v : ℕ) where

@@ -29,12 +29,13 @@ fn place_of(heat: records::Heat) -> usize
     }
 }
 
-// The start-up column of a heat.
+// The start-up column of a heat. A number that no record can have reads like cold.
 #[tactic(auto, unfolding(course::specs::Lists::column_for), using(crate::proofs::Rates::place_by_heat))]
 pub fn column_for(u: records::UnitData, heat: u32) -> records::Column
     ensures { result ≡ column_for u heat }
 {
-    u.columns[place_of(records::Heat::from(heat))]
+    let known = records::Heat::try_from(heat);
+    u.columns[place_of(known.unwrap_or(records::Heat::Cold))]
 }
 
 // Whether a course rises or falls. One that begins at its target has no way to go, and falls.

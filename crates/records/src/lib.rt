@@ -84,7 +84,7 @@ pub struct UnitData {
     pub deload: Deload,
 }
 
-// The heats of a start, with the paper's numbers. (A course keeps the number, since callers may hand in any.)
+// The heats of a start, with the paper's numbers. (The structs' fields keep the number, since callers may hand in any.)
 #[derive(Clone, Copy)]
 pub enum Heat {
     Hot = 1,
@@ -92,18 +92,20 @@ pub enum Heat {
     Cold = 3,
 }
 
-impl From<u32> for Heat {
+impl TryFrom<u32> for Heat {
     ghost use Rattle.std.specs.Prelude.{◌≡◌};
     ghost use Rattle.records.specs.Heats.{heat_of};
 
-    ghost from_gives = { λ n h. h ≡ heat_of n };
+    type Error = Refusal;
 
-    // A number that no record can have reads like cold.
-    fn from(number: u32) -> Self {
+    ghost try_from_gives = { λ n r. r ≡ heat_of n };
+
+    fn try_from(number: u32) -> Result<Self, Refusal> {
         match number {
-            1 => Heat::Hot,
-            2 => Heat::Warm,
-            _ => Heat::Cold,
+            1 => Ok(Heat::Hot),
+            2 => Ok(Heat::Warm),
+            3 => Ok(Heat::Cold),
+            _ => Err(Refusal::OpeningField),
         }
     }
 }

@@ -6,7 +6,7 @@ ghost use Rattle.records.specs.Fields.{opening_fits, figures_fit};
 ghost use Rattle.records.specs.Records.{issue_of};
 ghost use Rattle.records_fields.specs.Decoded.{opening_read, instruction_read};
 
-use records::{Effect, Instruction, Opening, Refusal};
+use records::{Effect, Heat, Instruction, Opening, Refusal};
 
 // The highest that a level in kW, a rate in kW a minute and the seconds off may be.
 const MOST_KW: u32 = 2000000;
@@ -24,7 +24,7 @@ fn opening_fits(o: &Opening) -> bool
 {
     u64::from(o.level) <= level::Level::LARGEST
         && o.target <= MOST_KW
-        && (1 <= o.heat && o.heat <= 3)
+        && Heat::try_from(o.heat).is_ok()
         && o.off <= MOST_OFF
 }
 
