@@ -34,8 +34,10 @@ pub struct Level {
 impl Level {
     // Grains in a kW.
     pub const GRAINS_IN_A_KW: u64 = 60;
-    // The largest level that a record may state: 2,000,000 kW.
-    pub const LARGEST: u64 = 120000000;
+    // The largest level that a record may state, in kW and in grains.
+    pub const MOST_KW: u32 = 2000000;
+
+    pub const LARGEST: u64 = Level::GRAINS_IN_A_KW * Level::MOST_KW as u64;
 
     // A function with a name, and no `From<u32>`: the name says the unit.
     pub fn from_kw(kw: u32) -> Level

@@ -8,16 +8,13 @@ ghost use Rattle.profile_areas.specs.Watching.{off_starting, off_between};
 
 // ---- the seconds off
 
-// The most seconds off that are counted.
-const MOST_OFF: u32 = 10000000;
-
 // The seconds off where a course begins.
 #[tactic(auto, unfolding(profile::specs::State::held, crate::specs::Watching::off_starting))]
 pub fn off_starting(c: course::Course, off: u32) -> u32
     ensures { result ≡ off_starting c off }
 {
     if c.start.grains == 0 {
-        off.min(MOST_OFF)
+        off.min(records::MOST_OFF)
     } else {
         0
     }
@@ -30,7 +27,7 @@ pub fn off_between(p: course_walk::Place, q: course_walk::Place, off: u32) -> u3
     ensures { result ≡ off_between p q off }
 {
     if p.level == 0 && q.level == 0 {
-        off.saturating_add(q.second - p.second).min(MOST_OFF)
+        off.saturating_add(q.second - p.second).min(records::MOST_OFF)
     } else {
         0
     }

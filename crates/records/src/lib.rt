@@ -10,6 +10,11 @@ pub const INSTRUCTION_SIZE: usize = 22;
 
 pub const CLOSE_SIZE: usize = 1;
 
+// The highest that a rate in kW a minute may be, and the seconds off, of which more are not counted. Of a level it is `Level::MOST_KW`.
+pub const MOST_RATE: u32 = 200000;
+
+pub const MOST_OFF: u32 = 10000000;
+
 // The kinds of records, with their numbers.
 #[derive(Clone, Copy)]
 pub enum Kind {

@@ -6,14 +6,9 @@ ghost use Rattle.records.specs.Fields.{opening_fits, figures_fit};
 ghost use Rattle.records.specs.Records.{issue_of};
 ghost use Rattle.records_fields.specs.Decoded.{opening_read, instruction_read};
 
-use records::{Effect, Heat, Instruction, Opening, Refusal};
+use level::Level;
+use records::{Effect, Heat, Instruction, MOST_OFF, MOST_RATE, Opening, Refusal};
 
-// The highest that a level in kW, a rate in kW a minute and the seconds off may be.
-const MOST_KW: u32 = 2000000;
-
-const MOST_RATE: u32 = 200000;
-
-const MOST_OFF: u32 = 10000000;
 // An issue time lies at most so many seconds before or after 06:00: a week.
 const WEEK: u32 = 604800;
 
@@ -22,8 +17,8 @@ const WEEK: u32 = 604800;
 fn opening_fits(o: &Opening) -> bool
     ensures { result ≡ opening_fits o.now }
 {
-    u64::from(o.level) <= level::Level::LARGEST
-        && o.target <= MOST_KW
+    u64::from(o.level) <= Level::LARGEST
+        && o.target <= Level::MOST_KW
         && Heat::try_from(o.heat).is_ok()
         && o.off <= MOST_OFF
 }
@@ -59,7 +54,7 @@ fn figures_fit(i: &Instruction) -> bool
     ensures { result ≡ figures_fit i.now }
 {
     if i.meaning.effect == Effect::Mwof {
-        return i.level <= MOST_KW && i.up <= MOST_RATE && i.down <= MOST_RATE;
+        return i.level <= Level::MOST_KW && i.up <= MOST_RATE && i.down <= MOST_RATE;
     }
     i.level == 0 && i.up == 0 && i.down == 0
 }

@@ -7,7 +7,8 @@ ghost use Rattle.level.specs.Lists.{some};
 ghost use Rattle.records.specs.Fields.{unit_ranges, fit_from, falls, disagrees};
 ghost use Rattle.records_unit.specs.Decoded.{unit_read, RampAt};
 
-use records::{Column, Deload, Ramp, Refusal, Trigger, UnitData};
+use level::Level;
+use records::{Column, Deload, MOST_RATE, Ramp, Refusal, Trigger, UnitData};
 
 // The 62 numbers of a unit's body.
 #[tactic(auto, unfolding(records::specs::Records::numbers))]
@@ -97,18 +98,18 @@ struct Range {
 // Levels in kW.
 const LEVEL: Range = Range {
     low: 0,
-    high: 2000000,
+    high: Level::MOST_KW,
 };
 
 const MAXIMUM: Range = Range {
     low: 1,
-    high: 2000000,
+    high: Level::MOST_KW,
 };
 
 // Rates in kW a minute, soak and dwell minutes, cooling boundaries in minutes.
 const RATE: Range = Range {
     low: 1,
-    high: 200000,
+    high: MOST_RATE,
 };
 
 const HOLD: Range = Range { low: 0, high: 1440 };
