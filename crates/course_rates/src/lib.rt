@@ -8,13 +8,12 @@ ghost use Rattle.course.specs.Lists.{place_of, column_for, replaced};
 ghost use Rattle.course.specs.Course.{passed, rate_at};
 ghost use Rattle.course_rates.specs.Ways.{GrainsOf, heading_of, ramp_for, route_of, lists_by, has_passed};
 
-// So many kW in grains.
+// So many kW in grains. It stands beside `Level::from_kw` for its contract: how many they are, and below 2^38, as a course's levels are.
 #[tactic(auto, unfolding(level::specs::Level::from_kw, level::specs::Level::grains))]
 pub fn grains_of(kw: u32) -> u64
     ensures { GrainsOf kw result }
 {
-    let l = level::Level::from_kw(kw);
-    l.grains
+    level::Level::from_kw(kw).grains
 }
 
 // The place of a heat's column.
