@@ -1,20 +1,35 @@
 -- The cases of the checks of a unit, each with its conditions as plain facts.
-use Prim.Native.Nat.{ℕ, zero, suc, ◌+◌, ◌<◌, ◌≤◌}
+use Prim.Native.Nat.{ℕ, zero, suc, ◌+◌, ◌*◌, ◌<◌, ◌≤◌}
 use native.Mathlib.Omega.{arith}
 use native.Mathlib.Numerals.{add-one}
-use mathlib.Core.Path.{◌≡◌, refl, sym, ap}
-use mathlib.Core.Bool.{Bool, true, false, ◌&&◌, ◌||◌, not, or-true}
-use mathlib.Core.List.{List, [], ◌∷◌, map}
+use mathlib.Core.Path.{◌≡◌, refl, sym, ap, ◌∙◌}
+use mathlib.Core.Bool.{Bool, true, false, ◌&&◌, ◌||◌, not, or-true, and-true, and_assoc}
+use mathlib.Core.List.{List, [], ◌∷◌, ◌++◌, map}
 use lib.Dec.{leb, ltb}
-use lib.ListN.{length, get_or, drop, get_or-map}
-use lib.Seq.{drop-cons}
+use lib.ListN.{length, get_or, take, drop}
+use lib.Seq.{drop-cons, take-suc, take_all}
 use borrow.Author.Tests.{lt-ltb, le-ltb}
-use Rattle.std.specs.List.{list_any}
+use Rattle.std.specs.List.{list_any, fold, zip}
 use Rattle.std.specs.List.Sorted.{IsNonDecreasing}
 use Rattle.std.specs.Bool.{MatchBool}
+use denote.Param.Members.{Mut, Called}
+use Rattle.std.specs.Array.{IsFromFnResultFrom}
 use Rattle.level.specs.Lists.{some}
+use Rattle.records.specs.Records.{number_at, numbers}
 use Rattle.records.specs.Fields.{Range, in_range, fit_from, falls_below, falls}
 use Rattle.records_unit.specs.declared.Range as own
+
+-- ---- the numbers of a body, made by calls in turn that each give the next
+module _ {F : Type 0} (g : Mut F (ℕ × Unit {0}) ℕ) (f : F) (b ns : List ℕ)
+    (gives : (i n : ℕ) (q : F) → Called g f (i, tt) n q → (q ≡ f) × (n ≡ number_at b (i * 4))) where
+  pub made_from : (i k : ℕ) → i + k ≡ length ns → take i ns ≡ numbers b i → IsFromFnResultFrom g f ns i k → ns ≡ numbers b (length ns)
+  unfolding numbers
+  made_from i zero e t m = let h : length ns ≡ i = omega (arith, e) in rw h (sym (take_all i ns (omega (arith, e))) ∙ t)
+  made_from i (suc k) e t (q, n, at, call, rest) =
+      let one = gives i n q call in
+      let more : take (suc i) ns ≡ numbers b (suc i) =
+      take-suc ns i 0 (omega (arith, e)) ∙ (λ j. t j ++ ((at.1 0 ∙ one.1) j ∷ [])) in
+      made_from (suc i) k (omega (arith, e)) more (rw (add-one, one.0) at rest)
 
 -- ---- the ranges, as the code has them
 abbrev own_range : Range → own.Range
@@ -23,15 +38,16 @@ own_range r = record { low = r.low; high = r.high }
 unfoldable pub own_ranges : List Range → List own.Range
 own_ranges rs = map own_range rs
 
--- one number more is looked at
-pub fit_more : (rs : List Range) (ns : List ℕ) (i : ℕ) → i < length rs → (b : Bool) →
-    let r : own.Range = get_or (own_ranges rs) i (record { low = 0; high = 0 }) in
-    (b && (leb r.low (get_or ns i 0) && leb (get_or ns i 0) r.high)) && fit_from (drop (i + 1) rs) ns (i + 1) ≡ b && fit_from (drop i rs) ns i
-unfolding fit_from in_range own_ranges
-fit_more rs ns i h false = refl
-fit_more rs ns i h true =
-    let z : Range = record { low = 0; high = 0 } in
-    rw (get_or-map own_range rs i z, add-one i, drop-cons rs i z h)
+-- each number beside its range, from the place i on
+abbrev pub looked : Bool → own.Range × ℕ → Bool
+looked b p = b && (leb p.0.low p.1 && leb p.1 p.0.high)
+
+pub all_looked : (rs : List Range) (ns : List ℕ) (i : ℕ) (b : Bool) → i + length rs ≡ length ns →
+    fold looked b (zip (own_ranges rs) (drop i ns)) ≡ (b && fit_from rs ns i)
+unfolding own_ranges fit_from in_range
+all_looked [] ns i b e = sym (and-true b)
+all_looked (r ∷ rs) ns i b e = rw (drop-cons ns i 0 (omega (arith, e)))
+    (all_looked rs ns (suc i) (looked b (own_range r, get_or ns i 0)) (omega (arith, e)) ∙ and_assoc b (in_range r (get_or ns i 0)) (fit_from rs ns (suc i)))
 
 -- ---- breaks falling: those of a list that is not sorted
 falls_none : (b : ℕ) (xs : List ℕ) → (1 ≤ length xs → b ≤ get_or xs 0 0) → ((i j : ℕ) → i ≤ j → j < length xs → get_or xs i 0 ≤ get_or xs j 0) →

@@ -11,15 +11,10 @@ use level::Level;
 use records::{Column, Deload, MOST_RATE, Ramp, Refusal, Trigger, UnitData};
 
 // The 62 numbers of a unit's body.
-#[tactic(auto, unfolding(records::specs::Records::numbers))]
 pub fn unit_numbers(body: &[u8]) -> [u32; 62]
     ensures { result ≡ numbers body.now 62 }
 {
-    let mut out = [0; 62];
-    for i in 0..62 {
-        out[i] = records_bytes::number(body, i * 4);
-    }
-    out
+    std::array::from_fn(|i| records_bytes::number(body, i * 4))
 }
 
 // The trigger whose level and minutes stand at these places.
@@ -88,7 +83,7 @@ pub fn unit_of(ns: [u32; 62]) -> UnitData
     }
 }
 
-// From the lowest to the highest that a number may be.
+// From the lowest to the highest that a number may be. No `RangeInclusive`: `a..=b` is a call, which a constant cannot hold.
 #[derive(Clone, Copy)]
 struct Range {
     low: u32,
@@ -185,16 +180,14 @@ const RANGES: [Range; 62] = [
     LEVEL, // deload break
 ];
 
-// All 62 numbers lie in their ranges. Each is looked at, whatever the ones before it say.
+// All 62 numbers lie in their ranges. Each is looked at, whatever the ones before it say, so no `all`.
 fn all_fit(ns: &[u32; 62]) -> bool
     ensures { result ≡ fit_from unit_ranges ns.now 0 }
 {
-    let mut fit = true;
-    for i in 0..62 {
-        let range = RANGES[i];
-        fit &= (range.low <= ns[i]) & (ns[i] <= range.high);
-    }
-    fit
+    RANGES.iter().zip(ns).fold(
+        true,
+        |fit, (range, n)| fit & ((range.low <= *n) & (*n <= range.high)),
+    )
 }
 
 // A break lies below the one before it.
