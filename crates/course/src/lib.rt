@@ -3,7 +3,8 @@
 
 // A course (document 01's own term): what the opening or one instruction sets going. It begins at a second of the day,
 // at the level `start` (after any step), and goes to `target` (kW), with the start-up column of `heat`. `up` and `down`
-// replace all five ramp-up or ramp-down rates (kW a minute; 0: none does).
+// replace all five ramp-up or ramp-down rates (kW a minute; 0: none does). 0 for none is the paper's own number, which a
+// record carries: so no `Option`.
 #[derive(Clone, Copy, Default)]
 pub struct Course {
     pub begin: u32,

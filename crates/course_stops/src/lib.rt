@@ -80,7 +80,7 @@ fn break_stop<const N: usize>(heading: course::Heading, v: u64, bs: [u32; N], n:
     )
 }
 
-// The level of a trigger with minutes; without them v itself, which never counts: so no branch is needed.
+// The level of a trigger with minutes; without them v itself, which never counts, so that each trigger has a level to compare.
 fn trigger_level(v: u64, g: records::Trigger) -> u64
     ensures { result ≡ pick (ltb 0 g.minutes) (grains g.level) v }
 {

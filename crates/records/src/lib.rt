@@ -169,7 +169,7 @@ pub struct Meaning {
 }
 
 // A dispatch instruction. The issue time is kept as seconds above -604,800; level in kW; up and down rate in kW a
-// minute, 0 for none given.
+// minute, 0 for none given: the paper's own number, which the record carries, so no `Option`.
 #[derive(Clone, Copy)]
 pub struct Instruction {
     pub effective: u32,

@@ -47,7 +47,8 @@ pub all_looked : (rs : List Range) (ns : List ℕ) (i : ℕ) (b : Bool) → i + 
 unfolding own_ranges fit_from in_range
 all_looked [] ns i b e = sym (and-true b)
 all_looked (r ∷ rs) ns i b e = rw (drop-cons ns i 0 (omega (arith, e)))
-    (all_looked rs ns (suc i) (looked b (own_range r, get_or ns i 0)) (omega (arith, e)) ∙ and_assoc b (in_range r (get_or ns i 0)) (fit_from rs ns (suc i)))
+    (all_looked rs ns (suc i) (looked b (own_range r, get_or ns i 0)) (omega (arith, e))
+    ∙ and_assoc b (in_range r (get_or ns i 0)) (fit_from rs ns (suc i)))
 
 -- ---- breaks falling: those of a list that is not sorted
 falls_none : (b : ℕ) (xs : List ℕ) → (1 ≤ length xs → b ≤ get_or xs 0 0) → ((i j : ℕ) → i ≤ j → j < length xs → get_or xs i 0 ≤ get_or xs j 0) →
