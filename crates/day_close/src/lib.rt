@@ -11,21 +11,18 @@ ghost use Rattle.day_close.specs.Closed.{close_read};
 
 use profile::{Finding, Taken};
 use records::Refusal;
+use validation::place_of;
 
 // ---- the fates
 
-// One fate laid over: a number that none has, and a fate of 1, change nothing.
-// Kept by its index: with `get_mut` the same test stands in an `if` within an `if let`, which is no plainer.
+// One fate laid over what validation gave: a number that has no place, and a fate of 1, which step 1 settled, change nothing.
 #[tactic(auto, using(crate::proofs::Laying::overs))]
 fn lay_fate(fates: &mut [u8], number: u32, fate: u8)
     ensures { fates.new ≡ over_fate fates.old number fate }
 {
-    if number == 0 {
-        return;
-    }
-    let at = (number - 1) as usize;
-    if at < fates.len() && fates[at] != 1 {
-        fates[at] = fate;
+    match place_of(number, fates.len()) {
+        Some(at) if fates[at] != 1 => fates[at] = fate,
+        _ => {}
     }
 }
 

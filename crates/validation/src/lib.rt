@@ -1,8 +1,9 @@
 // Which instructions are kept.
 #![tactic(auto)]
 
-ghost use Rattle.std.specs.Prelude.{◌≡◌, ◌<◌, ◌^◌};
+ghost use Rattle.std.specs.Prelude.{◌≡◌, ◌<◌, ◌^◌, MatchOption};
 ghost use Rattle.validation.specs.Kept.{effect_of, acting};
+ghost use Rattle.validation.specs.Places.{NoPlace, PlaceOf};
 
 // An instruction with its number. A carrier has the level and the rates of the MWOF that it carries.
 #[derive(Clone, Copy)]
@@ -28,4 +29,12 @@ impl Numbered {
         let lag = i.meaning.lag as u64;
         i.effective as u64 + lag
     }
+}
+
+// The place of a number among so many, where it has one: the numbers begin at 1.
+pub fn place_of(number: u32, places: usize) -> Option<usize>
+    ensures { MatchOption result (NoPlace number places) (PlaceOf number places) }
+{
+    let at = number.checked_sub(1)? as usize;
+    if at < places { Some(at) } else { None }
 }

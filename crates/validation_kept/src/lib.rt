@@ -11,9 +11,9 @@ ghost use Rattle.validation_kept.specs.Late.{late_fate_by, LateFates, settle_fat
 
 use level::INSTRUCTIONS;
 use records::Instruction;
-use validation::Numbered;
+use validation::{Numbered, place_of};
 use validation_groups::{Sequence, in_order, latest_of, none, used_in};
-use validation_sequence::{check_all, place_of};
+use validation_sequence::check_all;
 
 // What steps 1 to 4 come to: the fates by number, and those that act, in time order.
 // A fate stays a number: the paper names it so, and so it is printed; an enum would be a table each way.
@@ -73,15 +73,15 @@ fn late_fates(kept: &[Numbered], end: u32) -> [u8; INSTRUCTIONS]
     out
 }
 
-// The fate of a number, where none is settled: "the first step that settles it counts".
+// The fate of a number, where none is settled (step 3 puts its own over any): "the first step that settles it counts".
 #[tactic(auto, unfolding(crate::specs::Late::settle_fate))]
 fn settle_fate(fates: &mut [u8; INSTRUCTIONS], number: u32, fate: u8)
     ensures value { fates.new ≡ settle_fate fates.old number fate }
     ensures long { length fates.new ≡ instruction_places }
 {
-    let at = place_of(number);
-    if number != 0 && at < INSTRUCTIONS && fates[at] == 2 {
-        fates[at] = fate;
+    match place_of(number, INSTRUCTIONS) {
+        Some(at) if fates[at] == 2 => fates[at] = fate,
+        _ => {}
     }
 }
 

@@ -1,7 +1,7 @@
 // Which instructions are kept, step 3: in time order, each against the last kept one.
 #![tactic(auto)]
 
-ghost use Rattle.std.specs.Prelude.{◌≡◌, ◌-◌, [], map, length, option_to_list, option_copied, MatchOption};
+ghost use Rattle.std.specs.Prelude.{◌≡◌, [], map, length, option_to_list, option_copied, MatchOption};
 ghost use Rattle.level.specs.Numbers.{instruction_places};
 ghost use Rattle.validation.specs.Kept.{mark, repeats, turned, check};
 ghost use Rattle.validation_sequence.specs.Working.{set_fate, marked, none_checked, SetsOut, StepThree};
@@ -9,24 +9,16 @@ ghost use Rattle.validation_sequence.specs.Working.{NoSync, LatestSync, NoneWith
 
 use level::INSTRUCTIONS;
 use records::Effect;
-use validation::Numbered;
+use validation::{Numbered, place_of};
 use validation_groups::{Sequence, none};
 
-// The place of the instruction of a number: the numbers begin at 1.
-pub fn place_of(number: u32) -> usize
-    ensures { result ≡ number - 1 }
-{
-    number.saturating_sub(1) as usize
-}
-
-// The fate of a number; a number that no instruction has is passed over.
+// The fate of a number, over any that stands there; a number that has no place is passed over.
 #[tactic(auto, unfolding(crate::specs::Working::set_fate))]
 fn put_fate(fates: &mut [u8; INSTRUCTIONS], number: u32, fate: u8)
     ensures value { fates.new ≡ set_fate fates.old number fate }
     ensures long { length fates.new ≡ instruction_places }
 {
-    let at = place_of(number);
-    if number != 0 && at < INSTRUCTIONS {
+    if let Some(at) = place_of(number, INSTRUCTIONS) {
         fates[at] = fate;
     }
 }
