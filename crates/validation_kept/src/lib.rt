@@ -16,7 +16,8 @@ use validation_groups::{Sequence, in_order, latest_of, none, used_in};
 use validation_sequence::check_all;
 
 // What steps 1 to 4 come to: the fates by number, and those that act, in time order.
-// A fate stays a number: the paper names it so, and so it is printed; an enum would be a table each way.
+// A fate stays a number: the paper's fates have no other name, F prints it, and a finding may be handed in with any, of which a type of nine
+// values would ask more.
 #[derive(Clone, Copy)]
 pub struct Validation {
     pub fates: [u8; INSTRUCTIONS],
