@@ -6,6 +6,7 @@ ghost use Rattle.validation.specs.Kept.{effect_of, acting};
 ghost use Rattle.validation.specs.Places.{NoPlace, PlaceOf};
 
 // An instruction with its number. A carrier has the level and the rates of the MWOF that it carries.
+// The numbers begin at 1; a place with no instruction has 0, and any may be handed in: `place_of` gets over it. No `Option`: an instruction has one.
 #[derive(Clone, Copy)]
 pub struct Numbered {
     pub number: u32,
