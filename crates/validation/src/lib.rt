@@ -21,7 +21,7 @@ impl Numbered {
         self.instruction.meaning.effect
     }
 
-    // The second at which it acts: effective time and lag. The sum of two numbers of a record may pass 32 bits.
+    // The second at which it acts: effective time and lag. The sum of two fields of 32 bits may pass 32 bits.
     #[tactic(auto, unfolding(crate::specs::Kept::acting))]
     pub fn acting(&self) -> u64
         ensures { (result ≡ acting self.now) × (result < 2 ^ 33) }
