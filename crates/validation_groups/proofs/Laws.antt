@@ -1,6 +1,6 @@
 -- Walks over the instructions with their numbers, and the cases of the definitions, each with its conditions as plain facts.
 use mathlib.Core.Path.{◌≡◌, refl, sym, ap, ◌∙◌}
-use mathlib.Core.List.{List, [], ◌∷◌, ◌++◌, append_assoc, append-nil}
+use mathlib.Core.List.{List, [], ◌∷◌, ◌++◌, map, append_assoc, append-nil}
 use mathlib.Core.Bool.{Bool, true, false, ◌&&◌, ◌||◌, not, and-false}
 use Prim.Native.Nat.{ℕ, zero, suc, ◌+◌, ◌≤◌, ◌<◌, min, max}
 use native.Mathlib.Numerals.{add-one}
@@ -9,7 +9,8 @@ use native.Mathlib.Omega.{arith}
 use lib.Dec.{leb, ltb, eqb}
 use lib.ListN.{length, drop, get_or, length-append}
 use borrow.Author.Tests.{lt-ltb, le-ltb, lt-leb, le-leb, eq-eqb, ne_eqb}
-use Rattle.std.specs.Prelude.{Option, Some, None, option_to_list, fold}
+use Rattle.std.specs.Prelude.{Option, Some, None, option_to_list, unwrap_or, fold}
+use Rattle.std.specs.List.{filter, reduce}
 use Rattle.std.proofs.lemmas.List.{drop_more}
 use Rattle.level.specs.Choice.{pick}
 use Rattle.level.specs.Few.{Few, with_one}
@@ -23,7 +24,7 @@ use Rattle.records.specs.Codes.{same}
 use Rattle.validation.specs.declared.Numbered.{Numbered}
 use Rattle.validation.specs.Kept.{effective_of, effect_of, superseded, group, highest, or_else, present, used_of, next_time, used_from}
 use Rattle.validation_rank.specs.Best.{best_from}
-use Rattle.validation_groups.specs.Working.{no_numbered, sequence_of, issue_time_of, later_of, latest_at, earlier_of, next_time_from}
+use Rattle.validation_groups.specs.Working.{no_numbered, sequence_of, issue_time_of, later_of, latest_at}
 
 -- ---- what is left from the place i on
 module _ {A : Type 0} (xs : List A) (i : ℕ) (d : A) (h : i < length xs) where
@@ -77,6 +78,14 @@ module _ {s : Few Numbered} {rest whole : List Numbered} where
   begun_picked None b = b
 
 -- ---- step 1
+-- the latest issue time of those at the time t, by one fold over them all
+pub latest_walk : (os : List Numbered) (t best : ℕ) →
+    fold (λ a x. max a (issue_time_of x)) best (filter (λ (o : Numbered). eqb (effective_of o) t) os) ≡ fold (later_of t) best os
+unfolding later_of
+latest_walk [] t best = refl
+latest_walk (o ∷ os) t best =
+    by_bool (eqb (effective_of o) t) (λ e. rw e (latest_walk os t (max best (issue_time_of o)))) (λ e. rw e (latest_walk os t best))
+
 later_either : (e : Bool) (issue j best : ℕ) → ltb issue (pick e (max best j) best) ≡ (ltb issue best || (e && ltb issue j))
 later_either false issue j best = elim (ltb issue best) as (λ v. v ≡ (v || false)) [ true ↦ refl | false ↦ refl ]
 later_either true issue j best = elim (dec_le (suc issue) best) [
@@ -107,14 +116,6 @@ superseded_is os o =
     superseded_from os o (effective_of o) 0 refl ∙ ap (λ (b : Bool). b || superseded os o) (le-ltb (issue_time_of o) 0 (omega arith))
 
 -- ---- the next time
-next_from : (os : List Numbered) (end best t : ℕ) → best ≤ end → fold (earlier_of t) best os ≡ min best (next_time end os t)
-unfolding next_time earlier_of
-next_from [] end best t h = omega arith
-next_from (o ∷ os) end best t h = elim (dec_le t (effective_of o)) [
-  | yes p ↦ rw (le-leb t (effective_of o) p) (next_from os end (min best (effective_of o)) t (omega arith) ∙ omega arith)
-  | no p ↦ rw (lt-leb t (effective_of o) (omega arith)) (next_from os end best t h)
-]
-
 next_most : (os : List Numbered) (end t : ℕ) → next_time end os t ≤ end
 unfolding next_time
 next_most [] end t = omega arith
@@ -122,8 +123,39 @@ next_most (o ∷ os) end t =
     let ih = next_most os end t in
     by_bool (leb t (effective_of o)) (λ e. rw e (omega arith)) (λ e. rw e ih)
 
-pub next_is : (os : List Numbered) (end t : ℕ) → next_time_from end os t ≡ next_time end os t
-next_is os end t = omega (arith, next_from os end end t (omega arith), next_most os end t)
+-- from t on, and before the day's end
+abbrev pub within : ℕ → ℕ → ℕ → Bool
+within t end x = leb t x && ltb x end
+
+module _ (end t : ℕ) where
+  next_walk : (os : List Numbered) (best : ℕ) → best ≤ end →
+      fold min best (filter (within t end) (map effective_of os)) ≡ min best (next_time end os t)
+  unfolding next_time
+  next_walk [] best h = omega arith
+  next_walk (o ∷ os) best h = elim (dec_le t (effective_of o)) [
+    | no p ↦ rw (lt-leb t (effective_of o) (omega arith)) (next_walk os best h)
+    | yes p ↦ elim (dec_le (suc (effective_of o)) end) [
+      | yes q ↦
+          rw (le-leb t (effective_of o) p, lt-ltb (effective_of o) end q)
+          (next_walk os (min best (effective_of o)) (omega arith) ∙ omega arith)
+      | no q ↦
+          rw (le-leb t (effective_of o) p, le-ltb (effective_of o) end (omega arith))
+          (next_walk os best h ∙ omega (arith, next_most os end t))
+    ]
+  ]
+
+  -- the least of those within, else the day's end
+  pub next_is : (os : List Numbered) → unwrap_or (reduce min (filter (within t end) (map effective_of os))) end ≡ next_time end os t
+  unfolding next_time
+  next_is [] = refl
+  next_is (o ∷ os) = elim (dec_le t (effective_of o)) [
+    | no p ↦ rw (lt-leb t (effective_of o) (omega arith)) (next_is os)
+    | yes p ↦ elim (dec_le (suc (effective_of o)) end) [
+      | yes q ↦ rw (le-leb t (effective_of o) p, lt-ltb (effective_of o) end q) (next_walk os (effective_of o) (omega arith))
+      | no q ↦
+          rw (le-leb t (effective_of o) p, le-ltb (effective_of o) end (omega arith)) (next_is os ∙ omega (arith, next_most os end t))
+    ]
+  ]
 
 -- left at the effective time t
 unfoldable pub in_group : List Numbered → ℕ → Numbered → Bool

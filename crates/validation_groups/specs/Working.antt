@@ -1,5 +1,5 @@
 -- Working. What the code of steps 1 and 2 works with, beside the definitions.
-use Rattle.std.specs.Prelude.{ℕ, ◌+◌, ◌-◌, ◌<◌, ◌≤◌, min, max, ◌≡◌, List, [], ◌∷◌, Bool, true, ◌&&◌, not, leb, ltb, eqb, length, get_or, fold}
+use Rattle.std.specs.Prelude.{ℕ, ◌+◌, ◌-◌, ◌<◌, ◌≤◌, max, ◌≡◌, List, [], ◌∷◌, Bool, true, ◌&&◌, not, leb, ltb, eqb, length, get_or, fold}
 use Rattle.level.specs.Choice.{pick}
 use Rattle.level.specs.Few.{Few, few_of}
 use Rattle.level.specs.Numbers.{instruction_places}
@@ -29,14 +29,6 @@ later_of t best o = pick (eqb (effective_of o) t) (max best (issue_time_of o)) b
 
 abbrev pub latest_at : List Numbered → ℕ → ℕ
 latest_at os t = fold (later_of t) 0 os
-
--- the least so far, with one more looked at; the least of the times from t on, else the day's end:
--- `next_time` of the validation, from the first on (`next_is`, proofs/Laws, equates them)
-unfoldable pub earlier_of : ℕ → ℕ → Numbered → ℕ
-earlier_of t best o = pick (leb t (effective_of o)) (min best (effective_of o)) best
-
-abbrev pub next_time_from : ℕ → List Numbered → ℕ → ℕ
-next_time_from end os t = fold (earlier_of t) end os
 
 -- each time is at least the one before it, the first at least `before`; so stand they all
 unfoldable pub rising_from : ℕ → List Numbered → Bool

@@ -3,8 +3,8 @@
 
 ghost use Rattle.std.specs.Prelude.{◌≡◌, ◌+◌, ◌-◌, ◌<◌, ◌≤◌, ◌&&◌, [], length, option_to_list};
 ghost use Rattle.level.specs.Numbers.{instruction_places};
-ghost use Rattle.validation.specs.Kept.{group, used_of, used};
-ghost use Rattle.validation_groups.specs.Working.{no_numbered, sequence_of, time_at, later_of, latest_at, earlier_of, next_time_from};
+ghost use Rattle.validation.specs.Kept.{group, used_of, next_time, used};
+ghost use Rattle.validation_groups.specs.Working.{no_numbered, sequence_of, time_at, latest_at};
 ghost use Rattle.validation_groups.specs.Working.{has_time_at, follows_time, alone_at, in_time_order, Rising, LatestAsked, UsedAsked};
 
 use level::{Few, INSTRUCTIONS};
@@ -44,24 +44,15 @@ pub fn none() -> Sequence
 
 // ---- step 1: of equal effective times only the latest issue time stays
 
-// The later of the best so far and the issue time of o, where it is effective at t.
-#[tactic(auto, unfolding(crate::specs::Working::later_of))]
-fn later(t: u32, best: u32, o: &Numbered) -> u32
-    ensures { result ≡ later_of t best o.now }
-{
-    let i = o.instruction;
-    if i.effective == t {
-        best.max(i.issue)
-    } else {
-        best
-    }
-}
-
 // The latest issue time of those at the effective time t; 0 where there is none.
 fn latest_at(os: &[Numbered], t: u32) -> u32
     ensures { result ≡ latest_at os.now t }
 {
-    os.iter().fold(0, |best, o| later(t, best, o))
+    os.iter()
+        .filter(|o| o.instruction.effective == t)
+        .map(|o| o.instruction.issue)
+        .max()
+        .unwrap_or(0)
 }
 
 // There is such a place, and it has the time t.
@@ -130,20 +121,15 @@ fn used_at(os: &[Numbered], t: u32) -> Option<Numbered>
 
 // ---- those used, in time order
 
-// The earlier of the best so far and the time of o, where that is from t on.
-#[tactic(auto, unfolding(crate::specs::Working::earlier_of))]
-fn earlier(t: u32, best: u32, o: &Numbered) -> u32
-    ensures { result ≡ earlier_of t best o.now }
-{
-    let time = o.instruction.effective;
-    if t <= time { best.min(time) } else { best }
-}
-
-// The least effective time from t on; the day's end where there is none.
+// The least effective time from t on; the day's end where there is none before it.
 fn next_time(os: &[Numbered], t: u32, end: u32) -> u32
-    ensures { result ≡ next_time_from end os.now t }
+    ensures { result ≡ next_time end os.now t }
 {
-    os.iter().fold(end, |best, o| earlier(t, best, o))
+    os.iter()
+        .map(|o| o.instruction.effective)
+        .filter(|time| t <= *time && *time < end)
+        .min()
+        .unwrap_or(end)
 }
 
 // They stand in the order of their effective times.
@@ -197,7 +183,8 @@ fn used_any(os: &[Numbered], end: u32) -> Sequence
     out
 }
 
-// Those used, in the order of their effective times.
+// Those used, in the order of their effective times. Two ways: where they stand in time order, as they mostly do, one walk finds them; else
+// each next time is looked for, so that nothing is sorted.
 pub fn used_in(os: &[Numbered], end: u32, ordered: bool) -> Sequence
     requires { UsedAsked os.now ordered }
     ensures exactly { result ≡ sequence_of (used end os.now) }
