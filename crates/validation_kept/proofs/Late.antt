@@ -1,6 +1,6 @@
 -- The cases of step 4 and of the fates by number, each with its conditions as plain facts.
 use mathlib.Core.Path.{◌≡◌, refl, sym, ap, ◌∙◌}
-use mathlib.Core.List.{List, [], ◌∷◌, ◌++◌}
+use mathlib.Core.List.{List, [], ◌∷◌, ◌++◌, append_assoc}
 use mathlib.Core.Bool.{Bool, ◌||◌}
 use Prim.Native.Nat.{ℕ, zero, suc, ◌+◌, ◌≤◌, ◌<◌, min}
 use native.Mathlib.Numerals.{add-one}
@@ -8,7 +8,7 @@ use native.Mathlib.Decide.{dec_le, ℕ_discrete}
 use native.Mathlib.Omega.{arith}
 use lib.Dec.{leb, ltb}
 use lib.ListN.{length, take, drop, get_or, set, length-append, length-drop}
-use lib.Seq.{drop-drop, length-take-le, get_or-set_same, get_or-set_other}
+use lib.Seq.{drop-drop, drop-append_seam, length-take-le, get_or-set_same, get_or-set_other}
 use borrow.Author.Tests.{le-leb, lt-leb, eq-eqb, ne_eqb}
 use Rattle.std.proofs.lemmas.List.{take_more, drop_more, get_or-drop}
 use Rattle.std.specs.Prelude.{◌⊎◌}
@@ -42,6 +42,27 @@ number_more is i h =
     let e : 1 + length (take i is) ≡ i + 1 = omega (arith, length-take-le i is (omega arith)) in
     ap (numbered 1) (take_more is i no_numbered.instruction h) ∙ (number_last 1 (take i is) x
     ∙ (λ j. numbered 1 (take i is) ++ (record { number = e j; instruction = x } ∷ [])))
+
+-- ---- the first of what is left of a list from the place i on
+pub record FrontAt {A : Type 0} (xs : List A) (i : ℕ) (d x : A) (rest : List A) : Type 0 where
+  pub here : i < length xs
+  pub is : x ≡ get_or xs i d
+  pub left : rest ≡ drop (i + 1) xs
+
+pub front_at : {A : Type 0} (xs : List A) (i : ℕ) (d x : A) (rest : List A) → x ∷ rest ≡ drop i xs → FrontAt xs i d x rest
+front_at {A} xs i d x rest e =
+    let z : i + 0 ≡ i = omega arith in
+    record {
+      here = omega (arith, ap length e, length-drop i xs);
+      is = ap (λ (l : List A). get_or l 0 d) e ∙ (get_or-drop i xs 0 d ∙ ap (λ (k : ℕ). get_or xs k d) z);
+      left = ap (drop 1) e ∙ drop-drop 1 i xs;
+    }
+
+-- all are past where either list is at its end
+pub both_past : (ks : List Numbered) (late : List ℕ) (i : ℕ) (rest : List Numbered) (fates : List ℕ) → length ks ≤ length late → rest ≡ drop i ks →
+    fates ≡ drop i late → (length rest ≡ 0) ⊎ (length fates ≡ 0) → length ks ≤ i
+both_past ks late i rest fates h p q (inl e) = omega (arith, ap length p, length-drop i ks)
+both_past ks late i rest fates h p q (inr e) = omega (arith, ap length q, length-drop i late)
 
 -- ---- step 4
 leb_min : (e a own : ℕ) → (leb a own || leb e own) ≡ leb (min e a) own
@@ -111,26 +132,28 @@ late_more {end} {i} {own} {earliest} {fate} {least} {ks} {fates} h few e q m l s
   ];
 }
 
--- ---- the first of what is left of a list from the place i on
-pub record FrontAt {A : Type 0} (xs : List A) (i : ℕ) (d x : A) (rest : List A) : Type 0 where
-  pub here : i < length xs
-  pub is : x ≡ get_or xs i d
-  pub left : rest ≡ drop (i + 1) xs
+-- from the last back: those of `rest` are still to come
+pub record LateBack (end : ℕ) (ks rest : List Numbered) (count : ℕ) (fates : List ℕ) (earliest : ℕ) : Type 0 where
+  pub counted : count ≡ 0
+  pub done : List Numbered
+  pub parts : rest ++ done ≡ ks
+  pub from : LateFrom end ks (length rest) fates earliest
 
-pub front_at : {A : Type 0} (xs : List A) (i : ℕ) (d x : A) (rest : List A) → x ∷ rest ≡ drop i xs → FrontAt xs i d x rest
-front_at {A} xs i d x rest e =
-    let z : i + 0 ≡ i = omega arith in
+-- with the last of the rest
+pub late_back : {end count now own earliest fate least : ℕ} {ks rest left : List Numbered} {fates next : List ℕ} (k : Numbered) →
+    now ≡ count → rest ≡ left ++ (k ∷ []) → length ks ≤ instruction_places → (own ≡ acting k) × (own < never) →
+    fate ≡ late_fate_by end own earliest → least ≡ min earliest own → length next ≡ instruction_places → next ≡ set fates (length left) fate →
+    LateBack end ks rest count fates earliest → LateBack end ks left now next least
+late_back {ks = ks} {rest} {left} k c e few a q m l s r =
+    let parts : left ++ (k ∷ r.done) ≡ ks = sym (append_assoc left (k ∷ []) r.done) ∙ (ap (λ (xs : List Numbered). xs ++ r.done) (sym e) ∙ r.parts) in
+    let f = front_at ks (length left) no_numbered k r.done (sym (drop-append_seam left (k ∷ r.done)) ∙ ap (drop (length left)) parts) in
+    let z : length rest ≡ length left + 1 = ap length e ∙ length-append left (k ∷ []) in
     record {
-      here = omega (arith, ap length e, length-drop i xs);
-      is = ap (λ (l : List A). get_or l 0 d) e ∙ (get_or-drop i xs 0 d ∙ ap (λ (k : ℕ). get_or xs k d) z);
-      left = ap (drop 1) e ∙ drop-drop 1 i xs;
+      counted = c ∙ r.counted;
+      done = k ∷ r.done;
+      parts = parts;
+      from = late_more f.here few (a.0 ∙ ap acting f.is, a.1) q m l s (rw z at r.from);
     }
-
--- all are past where either list is at its end
-pub both_past : (ks : List Numbered) (late : List ℕ) (i : ℕ) (rest : List Numbered) (fates : List ℕ) → length ks ≤ length late → rest ≡ drop i ks →
-    fates ≡ drop i late → (length rest ≡ 0) ⊎ (length fates ≡ 0) → length ks ≤ i
-both_past ks late i rest fates h p q (inl e) = omega (arith, ap length p, length-drop i ks)
-both_past ks late i rest fates h p q (inr e) = omega (arith, ap length q, length-drop i late)
 
 -- ---- the fates by number
 fates_count : (all : List Numbered) (later : List ℕ) (i : ℕ) → length (fates_to all later i) ≡ i

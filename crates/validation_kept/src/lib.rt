@@ -24,7 +24,7 @@ pub struct Validation {
     pub acts: Sequence,
 }
 
-// Later than any acting time; `never` of the definitions. (No `Option`: that none comes after needs no case of its own so.)
+// Later than any acting time; `never` of the definitions. With it, the last kept one needs no case of its own.
 const NEVER: u64 = 8589934592;
 
 // The instructions with their numbers: from 1 as entered.
@@ -66,8 +66,8 @@ fn late_fates(kept: &[Numbered], end: u32) -> [u8; INSTRUCTIONS]
 {
     let mut out = [0; INSTRUCTIONS];
     let mut earliest = NEVER;
-    for i in (0..kept.len()).rev() {
-        let own = kept[i].acting();
+    for (i, k) in kept.iter().enumerate().rev() {
+        let own = k.acting();
         out[i] = late_fate(earliest, own, end);
         earliest = earliest.min(own);
     }
