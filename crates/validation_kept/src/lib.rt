@@ -60,13 +60,12 @@ fn late_fate(earliest: u64, own: u64, end: u32) -> u8
 }
 
 // The fates that step 4 gives the kept ones, by their places: from the last, with the earliest acting time of those after.
-fn late_fates(kept: &[Numbered], end: u32) -> [u8; INSTRUCTIONS]
-    requires { length kept.now ≤ instruction_places }
-    ensures { LateFates end kept.now result }
+fn late_fates(kept: &Sequence, end: u32) -> [u8; INSTRUCTIONS]
+    ensures { LateFates end kept.now.these result }
 {
     let mut out = [0; INSTRUCTIONS];
     let mut earliest = NEVER;
-    for (i, k) in kept.iter().enumerate().rev() {
+    for (i, k) in kept.as_slice().iter().enumerate().rev() {
         let own = k.acting();
         out[i] = late_fate(earliest, own, end);
         earliest = earliest.min(own);
@@ -88,27 +87,25 @@ fn settle_fate(fates: &mut [u8; INSTRUCTIONS], number: u32, fate: u8)
 
 // The fates with those of step 4.
 fn settle_late(
-    kept: &[Numbered],
+    kept: &Sequence,
     late: &[u8; INSTRUCTIONS],
     before: [u8; INSTRUCTIONS],
 ) -> [u8; INSTRUCTIONS]
-    requires { length kept.now ≤ instruction_places }
-    ensures { SettledBy kept.now late.now before result }
+    ensures { SettledBy kept.now.these late.now before result }
 {
     let mut out = before;
-    for (k, fate) in kept.iter().zip(late) {
+    for (k, fate) in kept.as_slice().iter().zip(late) {
         settle_fate(&mut out, k.number, *fate);
     }
     out
 }
 
 // Those of the kept ones that act, in time order, by the fates of step 4.
-fn acts_of(kept: &[Numbered], late: &[u8; INSTRUCTIONS]) -> Sequence
-    requires { length kept.now ≤ instruction_places }
-    ensures { (end : ℕ) → LateFates end kept.now late.now → result ≡ sequence_of (actors end kept.now) }
+fn acts_of(kept: &Sequence, late: &[u8; INSTRUCTIONS]) -> Sequence
+    ensures { (end : ℕ) → LateFates end kept.now.these late.now → result ≡ sequence_of (actors end kept.now.these) }
 {
     let mut out = none();
-    for (k, fate) in kept.iter().zip(late) {
+    for (k, fate) in kept.as_slice().iter().zip(late) {
         if *fate == 0 {
             out.push(*k);
         }
@@ -151,9 +148,9 @@ pub fn validate(instructions: [Instruction; INSTRUCTIONS], count: usize, end: u3
     // fate 2, until a later step settles it
     let mut marks = [2; INSTRUCTIONS];
     let kept = check_all(used.as_slice(), &mut marks);
-    let late = late_fates(kept.as_slice(), end);
-    let later = settle_late(kept.as_slice(), &late, marks);
+    let late = late_fates(&kept, end);
+    let later = settle_late(&kept, &late, marks);
     let fates = fates_of(all, ordered, &later);
-    let acts = acts_of(kept.as_slice(), &late);
+    let acts = acts_of(&kept, &late);
     Validation { fates, acts }
 }

@@ -1,4 +1,4 @@
-use Rattle.std.proofs.Common.{rules, ◌+◌, sym, ◌∙◌, arith, length-append, inl, inr}
+use Rattle.std.proofs.Common.{rules, ◌≤◌, ◌+◌, sym, ◌∙◌, ap, length, arith, length-append, inl, inr}
 use Rattle.std.proofs.lemmas.List.{drop_all}
 use Rattle.validation.specs.Kept.{actors}
 use Rattle.validation_groups.specs.Working.{no_numbered}
@@ -13,12 +13,12 @@ loop-k-init c =
       rest_is = search rules;
       fates_is = search rules;
       few = omega arith;
-      begun = λ end f. begun_none (actors end c.args.kept.now);
+      begun = λ end f. begun_none (actors end c.args.kept.now.these);
     })
 
 pub loop-k-preserved-then-fate-eq0 : goal.loop-k-preserved-then-fate-eq0
 loop-k-preserved-then-fate-eq0 c =
-    let ks = c.args.kept.now in
+    let ks = c.args.kept.now.these in
     let r = c.loop-k.invariant in
     let s = c.in-Some.ensures.steps in
     let k = front_at ks r.place no_numbered c.in-Some.k.now _ (sym s.0 ∙ r.rest_is) in
@@ -35,7 +35,7 @@ loop-k-preserved-then-fate-eq0 c =
 
 pub loop-k-preserved : goal.loop-k-preserved
 loop-k-preserved c =
-    let ks = c.args.kept.now in
+    let ks = c.args.kept.now.these in
     let r = c.loop-k.invariant in
     let s = c.in-Some.ensures.steps in
     let k = front_at ks r.place no_numbered c.in-Some.k.now _ (sym s.0 ∙ r.rest_is) in
@@ -52,8 +52,9 @@ pub returns : goal.returns
 unfolding actors
 returns c =
     let r = c.loop-k.invariant in
-    let past = both_past c.args.kept.now c.args.late.now r.place _ _ (omega arith) r.rest_is r.fates_is (elim c.in-None.ensures.steps [
+    let few : length c.args.kept.now.these ≤ length c.args.late.now = omega (arith, c.as_slice.ensures.fits, ap length c.as_slice.ensures.value) in
+    let past = both_past c.args.kept.now.these c.args.late.now r.place _ _ few r.rest_is r.fates_is (elim c.in-None.ensures.steps [
       | inl e ↦ inl e.1.0
       | inr e ↦ inr e.1.0
     ]) in
-    λ end told. begun_all (rw (drop_all r.place c.args.kept.now past) at (r.begun end told))
+    λ end told. begun_all (rw (drop_all r.place c.args.kept.now.these past) at (r.begun end told))

@@ -15,4 +15,4 @@ pub record ActsProgress (ks : List Numbered) (late : List ℕ) (rest : List Numb
   pub begun : (end : ℕ) → LateFates end ks late → Begun out (actors end (drop place ks)) (actors end ks)
 
 abbrev pub invariant-loop-k : goal.invariant-loop-k
-invariant-loop-k l = ActsProgress l.kept l.late l.k-iterator.a.rest.now l.k-iterator.b.rest.now l.out
+invariant-loop-k l = ActsProgress l.kept.these l.late l.k-iterator.a.rest.now l.k-iterator.b.rest.now l.out

@@ -1,4 +1,4 @@
-use Rattle.std.proofs.Common.{rules, ◌+◌, refl, sym, ap, ◌∙◌, arith, inl, inr}
+use Rattle.std.proofs.Common.{rules, ◌≤◌, ◌+◌, length, refl, sym, ap, ◌∙◌, arith, inl, inr}
 use Rattle.std.proofs.lemmas.List.{drop_all}
 use Rattle.validation.specs.Kept.{late_marks}
 use Rattle.validation_groups.specs.Working.{no_numbered}
@@ -11,7 +11,7 @@ loop-k-init c = record { place = 0; rest_is = search rules; fates_is = search ru
 
 pub loop-k-preserved : goal.loop-k-preserved
 loop-k-preserved c =
-    let ks = c.args.kept.now in
+    let ks = c.args.kept.now.these in
     let late = c.args.late.now in
     let r = c.loop-k.invariant in
     let s = c.in-Some.ensures.steps in
@@ -31,8 +31,9 @@ pub returns : goal.returns
 unfolding settled late_marks
 returns c =
     let r = c.loop-k.invariant in
-    let past = both_past c.args.kept.now c.args.late.now r.place _ _ (omega arith) r.rest_is r.fates_is (elim c.in-None.ensures.steps [
+    let few : length c.args.kept.now.these ≤ length c.args.late.now = omega (arith, c.as_slice.ensures.fits, ap length c.as_slice.ensures.value) in
+    let past = both_past c.args.kept.now.these c.args.late.now r.place _ _ few r.rest_is r.fates_is (elim c.in-None.ensures.steps [
       | inl e ↦ inl e.1.0
       | inr e ↦ inr e.1.0
     ]) in
-    λ end told. rw (drop_all r.place c.args.kept.now past) at (r.settles end told)
+    λ end told. rw (drop_all r.place c.args.kept.now.these past) at (r.settles end told)

@@ -14,4 +14,4 @@ pub record SettleProgress (ks : List Numbered) (late before : List ℕ) (rest : 
   pub settles : (end : ℕ) → LateFates end ks late → settled out (late_marks end (drop place ks)) ≡ settled before (late_marks end ks)
 
 abbrev pub invariant-loop-k : goal.invariant-loop-k
-invariant-loop-k l = SettleProgress l.kept l.late l.fn.before l.k-iterator.a.rest.now l.k-iterator.b.rest.now l.out
+invariant-loop-k l = SettleProgress l.kept.these l.late l.fn.before l.k-iterator.a.rest.now l.k-iterator.b.rest.now l.out

@@ -25,10 +25,8 @@ returns c =
     let tracks : Tracks kept marks (check none_checked (used end os)) =
     rw (c.as_slice.ensures.value, c.used_in-used.ensures.exactly, all) at c.check_all-kept.ensures.tracks in
     let late = c.late_fates-late.ensures in
-    let later : c.settle_late-later.result ≡ settled marks (late_marks end kept) =
-    rw c.as_slice-3.ensures.value at (c.settle_late-later.ensures end (rw (c.as_slice-3.ensures.value, ← c.as_slice-2.ensures.value) late)) in
+    let later : c.settle_late-later.result ≡ settled marks (late_marks end kept) = c.settle_late-later.ensures end late in
     let fates : c.fates_of-fates.result ≡ filled instruction_places 0 (fates_to os (settled marks (late_marks end kept)) (length os)) =
     rw (all, later) at c.fates_of-fates.ensures in
-    let acts : c.acts_of-acts.result ≡ sequence_of (actors end kept) =
-    rw c.as_slice-4.ensures.value at (c.acts_of-acts.ensures end (rw (c.as_slice-4.ensures.value, ← c.as_slice-2.ensures.value) late)) in
+    let acts : c.acts_of-acts.result ≡ sequence_of (actors end kept) = c.acts_of-acts.ensures end late in
     (λ j. record { fates = fates j; acts = acts j }) ∙ validation_is a.instructions a.count n (omega arith) c.min.ensures end kept marks tracks
