@@ -60,6 +60,7 @@ fn late_fate(earliest: u64, own: u64, end: u32) -> u8
 }
 
 // The fates that step 4 gives the kept ones, by their places: from the last, with the earliest acting time of those after.
+// They stand beside the kept ones: a `Few` of pairs would be filled from the front, and would copy each instruction.
 fn late_fates(kept: &Sequence, end: u32) -> [u8; INSTRUCTIONS]
     ensures { LateFates end kept.now.these result }
 {

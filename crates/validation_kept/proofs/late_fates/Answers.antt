@@ -1,5 +1,6 @@
-use Rattle.std.proofs.Common.{rules, ◌≡◌, length, refl, ap, arith, length-set, [], append-nil}
+use Rattle.std.proofs.Common.{rules, ◌≡◌, ◌≤◌, length, refl, ap, arith, length-set, [], append-nil}
 use Rattle.std.proofs.lemmas.List.{drop_all}
+use Rattle.level.specs.Numbers.{instruction_places}
 use Rattle.validation_kept.specs.Late.{earliest_acting}
 use Rattle.validation_kept.proofs.Late.{late_back}
 use Rattle.validation_kept.proofs.late_fates.Goals as goal
@@ -24,5 +25,6 @@ loop-i-init c =
 pub loop-i-preserved : goal.loop-i-preserved
 loop-i-preserved c =
     let s = c.in-Some.ensures.steps in
-    late_back c.in-Some.k.now s.0 s.1.0 (omega (arith, c.as_slice.ensures.fits, ap length c.as_slice.ensures.value)) c.acting-own.ensures c.late_fate.ensures c.min-earliest.ensures
+    let few : length c.args.kept.now.these ≤ instruction_places = omega (arith, c.as_slice.ensures.fits, ap length c.as_slice.ensures.value) in
+    late_back c.in-Some.k.now s.0 s.1.0 few c.acting-own.ensures c.late_fate.ensures c.min-earliest.ensures
     (simp length-set (omega (arith, c.loop-i.invariant.from.long))) (search rules) c.loop-i.invariant
