@@ -11,7 +11,7 @@ ghost use Rattle.day_close.specs.Closed.{close_read};
 
 use profile::{Finding, Taken};
 use records::Refusal;
-use validation::place_of;
+use validation::{Numbered, place_of};
 
 // ---- the fates
 
@@ -28,7 +28,7 @@ fn lay_fate(fates: &mut [u8], number: u32, fate: u8)
 
 // The fates of those that act laid over, the first of them last.
 // The fates stand beside those that act: the walk, which finds them, has no use for numbers.
-fn lay_fates(fates: &mut [u8], acts: &[validation::Numbered], own: &[u8])
+fn lay_fates(fates: &mut [u8], acts: &[Numbered], own: &[u8])
     requires { length acts.now ≡ length own.now }
     ensures { fates.new ≡ over_all fates.old (marks_of acts.now own.now) }
 {
