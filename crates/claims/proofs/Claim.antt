@@ -19,7 +19,7 @@ use Rattle.profile.specs.declared.Finding.{Finding}
 use Rattle.profile.specs.Bounds.{Low}
 use Rattle.profile.specs.Profile.{Span, spans_of, day_pieces, recorded_to, recorded_in, rounded, Chain}
 use Rattle.profile.specs.Finding.{arrays_of, quantity_at}
-use Rattle.profile.specs.Taken.{start_of, entered, own_unit, own_start}
+use Rattle.profile.specs.Taken.{start_of, entered, unit_or_zeros, start_or_zeros}
 use Rattle.profile.specs.Starts.{CoursesStart}
 use Rattle.profile.proofs.Starts.{courses_start}
 use Rattle.profile.proofs.Rates.{Fit, fit_of}
@@ -40,13 +40,13 @@ use Rattle.claims.proofs.Run.{made_after, wrote_are}
 
 -- ---- a closed day that the records rs made
 module _ (d : Day) (rs : List (List ℕ)) (m : Made d rs) (c : is_closed d ≡ true) where
-  pub unit_is : own_unit d.taken ≡ unit_in rs
-  unit_is = ap (λ (t : Taken). own_unit t) m.taken ∙ taken_unit rs
+  pub unit_is : unit_or_zeros d.taken ≡ unit_in rs
+  unit_is = ap (λ (t : Taken). unit_or_zeros t) m.taken ∙ taken_unit rs
 
   pub unit_fields : unit_answer (numbers (body_of_kind 1 rs) 62) ≡ Ok tt
   unit_fields = m.fits.unit (keeps rs m.fits (m.started c)).0
 
-  pub start_keeps : Low (own_unit (taken_in rs)) (own_start (taken_in rs))
+  pub start_keeps : Low (unit_or_zeros (taken_in rs)) (start_or_zeros (taken_in rs))
   start_keeps = (keeps rs m.fits (m.started c)).1
 
   spans_are : spans half_hours (taken_in rs) ≡ spans_from rs
@@ -92,7 +92,7 @@ module _ (d : Day) (rs : List (List ℕ)) (m : Made d rs) (c : is_closed d ≡ t
   printed_near w e =
       quantities_near half_hours (spans_from rs) chain drives (λ i. printed_kw w (suc i))
       (λ i h. ap (λ (v : List ℕ). printed_kw v (suc i)) e
-      ∙ (printed_kw_lem (fates_in d) (day_pieces (spans_of (own_unit d.taken) day_seconds (courses_in d))) (quantities_in d) (closing_in d) i (omega (arith, many))
+      ∙ (printed_kw_lem (fates_in d) (day_pieces (spans_of (unit_or_zeros d.taken) day_seconds (courses_in d))) (quantities_in d) (closing_in d) i (omega (arith, many))
       ∙ quantity_is i h))
 
   one_each : (w : List ℕ) → w ≡ printed_day d → Single w
@@ -100,7 +100,7 @@ module _ (d : Day) (rs : List (List ℕ)) (m : Made d rs) (c : is_closed d ≡ t
   one_each w e h lo hi =
       let f : printed_at w h ≡ get_or (quantities_in d) (h - 1) 0 ∷ [] =
       ap (λ (v : List ℕ). printed_at v h) e
-      ∙ printed (fates_in d) (day_pieces (spans_of (own_unit d.taken) day_seconds (courses_in d))) (quantities_in d) (closing_in d) h lo (omega (arith, many))
+      ∙ printed (fates_in d) (day_pieces (spans_of (unit_or_zeros d.taken) day_seconds (courses_in d))) (quantities_in d) (closing_in d) h lo (omega (arith, many))
       in
       f ∙ ap (λ (l : List ℕ). first_of l ∷ []) (sym f)
 
@@ -119,7 +119,7 @@ module _ (d : Day) (rs : List (List ℕ)) (m : Made d rs) (c : is_closed d ≡ t
       (subst (λ (u : UnitData).
       CoursesStart u (validated day_seconds (numbered 1 (entered (taken_in rs)))).acts (opening_in rs).level (found_from rs).courses) (taken_unit rs)
       (subst (λ (s : Start).
-      CoursesStart (own_unit (taken_in rs)) (validated day_seconds (numbered 1 (entered (taken_in rs)))).acts s.level (found_from rs).courses)
+      CoursesStart (unit_or_zeros (taken_in rs)) (validated day_seconds (numbered 1 (entered (taken_in rs)))).acts s.level (found_from rs).courses)
       (taken_start rs) (courses_start half_hours (taken_in rs))))
 
   demand : (ws : List (List ℕ)) → All (λ w. w ≡ printed_day d) ws → Demand3 (spans_from rs) (quantities_in d) ws

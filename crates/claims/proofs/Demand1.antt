@@ -21,7 +21,7 @@ use Rattle.records.specs.Records.{size_of, numbers, unit_of, opening_of, instruc
 use Rattle.records.specs.Fields.{unit_ranges, fit_from, disagrees, opening_fits, figures_fit, unit_answer, opening_answer, instruction_answer}
 use Rattle.profile.specs.declared.Taken.{Taken}
 use Rattle.profile.specs.Profile.{paper}
-use Rattle.profile.specs.Taken.{own_unit, has_unit, has_start}
+use Rattle.profile.specs.Taken.{unit_or_zeros, has_unit, has_start}
 use Rattle.day.specs.declared.Day.{Day}
 use Rattle.day.specs.declared.Stepped.{Stepped}
 use Rattle.day.specs.Day.{day_seconds, empty, found_in, day_with, is_closed}
@@ -206,7 +206,7 @@ module _ (d : Day) (rs : List (List ℕ)) (m : Made d rs) where
   unfolding answer_by before_unit not_ready
   sent s =
       ap number_of (answer_is d s)
-      ∙ (ap (λ (x : Taken). number_of (first_refusal (answers rs s (has_unit x) (has_start x) (own_unit x) x (is_closed d) (second_one x (kind_of s))
+      ∙ (ap (λ (x : Taken). number_of (first_refusal (answers rs s (has_unit x) (has_start x) (unit_or_zeros x) x (is_closed d) (second_one x (kind_of s))
       (too_many x (kind_of s))))) m.taken
       ∙ ((λ i. number_of (first_refusal (answers rs s (had_unit rs i) (had_start rs i) (taken_unit rs i) (taken_in rs) (m.closed i) (second_is rs s i)
       (many_is rs s i)))) ∙ number_is rs s))

@@ -19,7 +19,7 @@ use Rattle.records.specs.Records.{size_of, numbers, unit_of, column_of, trigger_
 use Rattle.records.specs.Fields.{unit_answer}
 use Rattle.profile.specs.declared.Taken.{Taken}
 use Rattle.profile.specs.Bounds.{Low}
-use Rattle.profile.specs.Taken.{start_of, no_taken, taken_with, has_unit, has_start, own_unit, own_start}
+use Rattle.profile.specs.Taken.{start_of, no_taken, taken_with, has_unit, has_start, unit_or_zeros, start_or_zeros}
 use Rattle.profile.specs.Profile.{paper}
 use Rattle.profile.specs.declared.Finding.{Finding}
 use Rattle.profile.specs.Finding.{no_finding, arrays_of}
@@ -193,11 +193,11 @@ unfolding has_kind body_of_kind of_kind body_of kind_of size_of
 came_of k read rs z e = by_bool (has_kind k rs) (λ h. rw h refl)
     (λ h. rw h (sym e ∙ ap (λ (l : List (List ℕ)). read (body_of (get_or l 0 []))) (sym (none_those (λ r. eqb (kind_of r) k) rs h))))
 
-pub taken_unit : (rs : List (List ℕ)) → own_unit (taken_in rs) ≡ unit_in rs
+pub taken_unit : (rs : List (List ℕ)) → unit_or_zeros (taken_in rs) ≡ unit_in rs
 unfolding taken_in unit_in numbers unit_of column_of trigger_of
 taken_unit rs = came_of 1 (λ (b : List ℕ). unit_of (numbers b 62)) rs (unit_of []) refl
 
-pub taken_start : (rs : List (List ℕ)) → own_start (taken_in rs) ≡ start_of (opening_in rs)
+pub taken_start : (rs : List (List ℕ)) → start_or_zeros (taken_in rs) ≡ start_of (opening_in rs)
 unfolding taken_in opening_in
 taken_start rs = came_of 2 (λ (b : List ℕ). start_of (opening_of b)) rs (start_of (opening_of [])) refl
 
@@ -215,9 +215,9 @@ UnitFits b = unit_answer (numbers b 62) ≡ Ok tt
 
 -- what the day starts from keeps to its unit, which came before
 abbrev LowStart : Taken → Type 0
-LowStart t = has_start t ≡ true → (has_unit t ≡ true) × Low (own_unit t) (own_start t)
+LowStart t = has_start t ≡ true → (has_unit t ≡ true) × Low (unit_or_zeros t) (start_or_zeros t)
 
-low_with : (t : Taken) (k : ℕ) (b : List ℕ) → (k ≡ 1 → has_unit t ≡ false) → (k ≡ 2 → (has_unit t ≡ true) × Low (own_unit t) (start_of (opening_of b))) →
+low_with : (t : Taken) (k : ℕ) (b : List ℕ) → (k ≡ 1 → has_unit t ≡ false) → (k ≡ 2 → (has_unit t ≡ true) × Low (unit_or_zeros t) (start_of (opening_of b))) →
     LowStart t → LowStart (taken_with t k b)
 unfolding taken_with
 low_with t k b first new old = elim (ℕ_discrete k 1) [
@@ -234,7 +234,7 @@ pub record LetInBounds (rs : List (List ℕ)) : Type 0 where
   pub few : length (instructions_in rs) ≤ instruction_places
 
 -- of a day with an opening
-pub keeps : (rs : List (List ℕ)) → LetInBounds rs → has_kind 2 rs ≡ true → (has_kind 1 rs ≡ true) × Low (own_unit (taken_in rs)) (own_start (taken_in rs))
+pub keeps : (rs : List (List ℕ)) → LetInBounds rs → has_kind 2 rs ≡ true → (has_kind 1 rs ≡ true) × Low (unit_or_zeros (taken_in rs)) (start_or_zeros (taken_in rs))
 keeps rs b h = let k = b.low (had_start rs ∙ h) in (sym (had_unit rs) ∙ k.0, k.1)
 
 -- ---- the day d is what the records rs, let in, make of an empty one
@@ -289,8 +289,8 @@ module _ (d : Day) (rs : List (List ℕ)) (s : List ℕ) (m : Made d rs) (p : Re
         (low_with (taken_in rs) kind (body_of s) (λ e. sym taken_came ∙ (p.unit e).first)
         (λ e. (
           sym taken_came ∙ (p.opening e).unit,
-          subst (λ (t : Taken). Low (own_unit t) (start_of (opening_of (body_of s)))) m.taken
-              (start_low (own_unit d.taken) (body_of s) (p.opening e).fields (p.opening e).low),
+          subst (λ (t : Taken). Low (unit_or_zeros t) (start_of (opening_of (body_of s)))) m.taken
+              (start_low (unit_or_zeros d.taken) (body_of s) (p.opening e).fields (p.opening e).low),
         ))
         m.fits.low);
     few = go;

@@ -21,7 +21,7 @@ use Rattle.profile.specs.declared.Closing.{Closing}
 use Rattle.profile.specs.Profile.{spans_of, day_pieces, recorded_in, rounded, Found, closing_by}
 use Rattle.course.specs.Course.{no_course}
 use Rattle.profile.specs.Finding.{arrays_of, quantity_at}
-use Rattle.profile.specs.Taken.{own_unit}
+use Rattle.profile.specs.Taken.{unit_or_zeros}
 use Rattle.profile.proofs.Whole.{list_same}
 use Rattle.profile.proofs.Most.{SpanBelow}
 use Rattle.profile.proofs.Found.{spans, list_length, found_quantities, quantity_from_sums, levels_below, quantities_below}
@@ -104,7 +104,7 @@ module _ (d : Day) (rs : List (List ℕ)) (m : Made d rs) (c : is_closed d ≡ t
       ∙ sym (found_quantities half_hours t))
 
   -- ---- figures
-  capacity_fits : (own_unit t).capacity ≤ (own_unit t).maximum
+  capacity_fits : (unit_or_zeros t).capacity ≤ (unit_or_zeros t).maximum
   unfolding unit_in
   capacity_fits = rw (taken_unit rs) (capacity_low ns (unit_fields d rs m c))
 
@@ -159,8 +159,8 @@ module _ (d : Day) (rs : List (List ℕ)) (m : Made d rs) (c : is_closed d ≡ t
   pub printed_is : printed_day d ≡ listing f.fates (day_pieces (spans_of (unit_in rs) day_seconds f.courses)) (quantities_in d) closing
   unfolding printed_day
   printed_is =
-      ap (λ (x : List ℕ). listing x (day_pieces (spans_of (own_unit d.taken) day_seconds (courses_in d))) (quantities_in d) (closing_in d)) fates_stored
-      ∙ (ap (λ (x : List Course). listing f.fates (day_pieces (spans_of (own_unit d.taken) day_seconds x)) (quantities_in d) (closing_in d))
+      ap (λ (x : List ℕ). listing x (day_pieces (spans_of (unit_or_zeros d.taken) day_seconds (courses_in d))) (quantities_in d) (closing_in d)) fates_stored
+      ∙ (ap (λ (x : List Course). listing f.fates (day_pieces (spans_of (unit_or_zeros d.taken) day_seconds x)) (quantities_in d) (closing_in d))
       courses_stored
       ∙ (ap (λ (x : UnitData). listing f.fates (day_pieces (spans_of x day_seconds f.courses)) (quantities_in d) (closing_in d)) (unit_is d rs m c)
       ∙ ap (listing f.fates (day_pieces (spans_of (unit_in rs) day_seconds f.courses)) (quantities_in d)) closing_stored))

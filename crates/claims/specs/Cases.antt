@@ -7,7 +7,7 @@ use Rattle.records.specs.Codes.{code_number}
 use Rattle.course.specs.declared.Piece.{Piece}
 use Rattle.profile.specs.declared.Taken.{Taken}
 use Rattle.profile.specs.Profile.{Found, spans_of, day_pieces}
-use Rattle.profile.specs.Taken.{own_unit}
+use Rattle.profile.specs.Taken.{unit_or_zeros}
 use Rattle.day.specs.declared.Day.{Day}
 use Rattle.day.specs.Day.{day_seconds, empty, fates_in, courses_in, quantities_in}
 use Rattle.day.specs.Step.{answer_by, step_by}
@@ -77,7 +77,7 @@ module _ (find : Taken → Found) where
   first_quantity rs = get_or (quantities_in (closed_by rs)) 0 0 ∷ []
 
   unfoldable pub pieces_by : List (List ℕ) → List ℕ
-  pieces_by rs = let d : Day = closed_by rs in figures (day_pieces (spans_of (own_unit d.taken) day_seconds (courses_in d)))
+  pieces_by rs = let d : Day = closed_by rs in figures (day_pieces (spans_of (unit_or_zeros d.taken) day_seconds (courses_in d)))
 
   -- the number of the answer that a record gets after others
   unfoldable pub answer_after : List (List ℕ) → List ℕ → List ℕ

@@ -18,7 +18,7 @@ use Rattle.records.specs.Records.{size_of, numbers, opening_of}
 use Rattle.records.specs.Fields.{unit_answer, opening_answer, instruction_answer}
 use Rattle.profile.specs.declared.Taken.{Taken}
 use Rattle.profile.specs.Profile.{Found}
-use Rattle.profile.specs.Taken.{has_unit, has_start, own_unit}
+use Rattle.profile.specs.Taken.{has_unit, has_start, unit_or_zeros}
 use Rattle.day.specs.declared.Day.{Day}
 use Rattle.day.specs.Day.{day_seconds, day_with, is_closed}
 use Rattle.day.specs.Step.{kind_of, body_of, a_kind, no_bytes, unknown_kind, too_few, second_one, before_unit, too_many, not_ready, field_answer, too_high, quantity_too_high, accept, settle, answer_by, step_by}
@@ -35,8 +35,8 @@ module _ (find : Taken → Found) (t : Taken) (b : List ℕ) where
       ∷ refusing (too_many t k) TooManyInstructions
       ∷ refusing (not_ready t k) NotReady
       ∷ field_answer k b
-      ∷ refusing (eqb k 2 && too_high (own_unit t) (opening_of b)) OpeningTooHigh
-      ∷ refusing (eqb k 4 && quantity_too_high (own_unit t) (find t)) QuantityTooHigh
+      ∷ refusing (eqb k 2 && too_high (unit_or_zeros t) (opening_of b)) OpeningTooHigh
+      ∷ refusing (eqb k 4 && quantity_too_high (unit_or_zeros t) (find t)) QuantityTooHigh
       ∷ [])
 
   -- that of the kind k, and of no other
@@ -80,7 +80,7 @@ module _ (t : Taken) (b : List ℕ) where
     pub first : has_start t ≡ false
     pub unit : has_unit t ≡ true
     pub fields : opening_answer b ≡ Ok tt
-    pub low : too_high (own_unit t) (opening_of b) ≡ false
+    pub low : too_high (unit_or_zeros t) (opening_of b) ≡ false
 
   pub record InstructionPasses : Type 0 where
     pub unit : has_unit t ≡ true
@@ -95,7 +95,7 @@ module _ (t : Taken) (b : List ℕ) where
     first = not_met (has_start t) SecondOne a.0;
     unit = met_not (has_unit t) BeforeUnit a.1.0;
     fields = a.1.1.0;
-    low = not_met (too_high (own_unit t) (opening_of b)) OpeningTooHigh a.1.1.1.0;
+    low = not_met (too_high (unit_or_zeros t) (opening_of b)) OpeningTooHigh a.1.1.1.0;
   }
 
   pub instruction_passes : first_refusal (instruction_refusals t b) ≡ Ok tt → InstructionPasses
@@ -108,12 +108,12 @@ module _ (t : Taken) (b : List ℕ) where
 module _ (t : Taken) (f : Found) where
   pub record ClosePasses : Type 0 where
     pub started : has_start t ≡ true
-    pub low : quantity_too_high (own_unit t) f ≡ false
+    pub low : quantity_too_high (unit_or_zeros t) f ≡ false
 
   pub close_passes : first_refusal (close_refusals t f) ≡ Ok tt → ClosePasses
   close_passes e = let a = all_accepted (close_refusals t f) e in record {
     started = met_not (has_start t) NotReady a.0;
-    low = not_met (quantity_too_high (own_unit t) f) QuantityTooHigh a.1.0;
+    low = not_met (quantity_too_high (unit_or_zeros t) f) QuantityTooHigh a.1.0;
   }
 
 -- ---- a record that no refusal meets

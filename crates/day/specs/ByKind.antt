@@ -9,7 +9,7 @@ use Rattle.records.specs.Records.{numbers, opening_of}
 use Rattle.records.specs.Fields.{unit_answer, opening_answer, instruction_answer}
 use Rattle.profile.specs.declared.Taken.{Taken}
 use Rattle.profile.specs.Profile.{Found, paper}
-use Rattle.profile.specs.Taken.{has_unit, has_start, own_unit}
+use Rattle.profile.specs.Taken.{has_unit, has_start, unit_or_zeros}
 use Rattle.day.specs.declared.Day.{Day}
 use Rattle.day.specs.Day.{day_seconds, found_in}
 use Rattle.day.specs.Step.{too_high, quantity_too_high, answer_by}
@@ -28,7 +28,7 @@ opening_refusals t b =
     refusing (has_start t) SecondOne
     ∷ refusing (not (has_unit t)) BeforeUnit
     ∷ opening_answer b
-    ∷ refusing (too_high (own_unit t) (opening_of b)) OpeningTooHigh
+    ∷ refusing (too_high (unit_or_zeros t) (opening_of b)) OpeningTooHigh
     ∷ []
 
 -- kind 3, instruction: 21, 23; 6 to 9
@@ -41,7 +41,7 @@ instruction_refusals t b =
 
 -- kind 4, close: 25; 27
 abbrev pub close_refusals : Taken → Found → List Answer
-close_refusals t f = refusing (not (has_start t)) NotReady ∷ refusing (quantity_too_high (own_unit t) f) QuantityTooHigh ∷ []
+close_refusals t f = refusing (not (has_start t)) NotReady ∷ refusing (quantity_too_high (unit_or_zeros t) f) QuantityTooHigh ∷ []
 
 -- of the kind k
 unfoldable pub kind_refusals : (Taken → Found) → Taken → ℕ → List ℕ → List Answer

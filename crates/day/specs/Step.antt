@@ -12,7 +12,7 @@ use Rattle.records.specs.Records.{size_of, numbers, opening_of}
 use Rattle.records.specs.Fields.{unit_answer, opening_answer, instruction_answer}
 use Rattle.profile.specs.declared.Taken.{Taken}
 use Rattle.profile.specs.Profile.{Found, paper}
-use Rattle.profile.specs.Taken.{has_unit, has_start, own_unit}
+use Rattle.profile.specs.Taken.{has_unit, has_start, unit_or_zeros}
 use Rattle.day.specs.declared.Day.{Day}
 use Rattle.day.specs.declared.Stepped.{Stepped}
 use Rattle.day.specs.Day.{day_seconds, found_in, day_with, is_closed}
@@ -100,8 +100,8 @@ module _ (find : Taken → Found) where
       ∷ refusing (too_many t k) TooManyInstructions
       ∷ refusing (not_ready t k) NotReady
       ∷ field_answer k b
-      ∷ refusing (eqb k 2 && too_high (own_unit t) (opening_of b)) OpeningTooHigh
-      ∷ refusing (eqb k 4 && quantity_too_high (own_unit t) (find t)) QuantityTooHigh
+      ∷ refusing (eqb k 2 && too_high (unit_or_zeros t) (opening_of b)) OpeningTooHigh
+      ∷ refusing (eqb k 4 && quantity_too_high (unit_or_zeros t) (find t)) QuantityTooHigh
       ∷ [])
 
   unfoldable pub step_by : Day → List ℕ → Stepped

@@ -22,7 +22,7 @@ use Rattle.profile.specs.declared.UnderWay.{UnderWay}
 use Rattle.profile.specs.declared.Start.{Start}
 use Rattle.profile.specs.declared.Taken.{Taken}
 use Rattle.profile.specs.State.{by_rule}
-use Rattle.profile.specs.Taken.{entered, own_unit, own_start}
+use Rattle.profile.specs.Taken.{entered, unit_or_zeros, start_or_zeros}
 use Rattle.profile.specs.Effects.{Followed, start_course, under_way, course_from, state_at, follow}
 use Rattle.profile.specs.Profile.{Span, spans_of, recorded_to, recorded_in, rounded, course_of, paper, found, found_by}
 use Rattle.profile.specs.Twin.{twin_to}
@@ -75,7 +75,7 @@ module _ (t : Taken) (n : ℕ) (places : length t.instructions ≡ instruction_p
   v = validation_of t.instructions t.count end
 
   abbrev u : UnitData
-  u = own_unit t
+  u = unit_or_zeros t
 
   abbrev acts : List Numbered
   acts = (validated end (numbered 1 (entered t))).acts
@@ -92,7 +92,7 @@ module _ (t : Taken) (n : ℕ) (places : length t.instructions ≡ instruction_p
   acts_are = refl
 
   abbrev first : UnderWay
-  first = start_course u (own_start t)
+  first = start_course u (start_or_zeros t)
 
   abbrev f : Followed
   f = follow by_rule u first acts
@@ -110,14 +110,14 @@ module _ (t : Taken) (n : ℕ) (places : length t.instructions ≡ instruction_p
       let r = acting_rise end (numbered 1 (entered t)) in
       subst (λ (a : ℕ). Ordered end a acts) (sym begins) (rising_ordered end 0 acts (omega arith) (all_from acts) r.0 r.1)
 
-  starts_low : Words u (own_start t) → All LowStart (courses_from u first acts)
+  starts_low : Words u (start_or_zeros t) → All LowStart (courses_from u first acts)
   unfolding grains courses_from
   starts_low w = all_map (Below (2 ^ 32)) LowStart (λ c b. omega (arith, b.start)) courses
       (courses_below u (2 ^ 32) (omega (arith, w.capacity)) (omega (arith, w.maximum)) first acts
-      (start_below u (2 ^ 32) (omega (arith, w.capacity)) (omega (arith, w.maximum)) (own_start t) (omega (arith, w.level))
+      (start_below u (2 ^ 32) (omega (arith, w.capacity)) (omega (arith, w.maximum)) (start_or_zeros t) (omega (arith, w.level))
       (omega (arith, w.target)) (omega (arith, w.ordered))))
 
-  pub acts_fit : n ≤ most_half_hours → Words u (own_start t) → Followable u first v.acts.these n
+  pub acts_fit : n ≤ most_half_hours → Words u (start_or_zeros t) → Followable u first v.acts.these n
   acts_fit long w = rw acts_are (record { few = few_acts; long = long; ordered = in_order; starts = starts_low w })
 
   -- a fate for each of them
@@ -157,7 +157,7 @@ module _ (t : Taken) (n : ℕ) (places : length t.instructions ≡ instruction_p
   sums_are =
       let ss : List Span = spans_of u end courses in
       sym (list_same (recorded_to ss) (twin_to ss) 0 (suc n)
-      (λ j p. area_to n ss (day_tiles by_rule end u (own_start t) (numbered 1 (entered t))) j (omega arith)))
+      (λ j p. area_to n ss (day_tiles by_rule end u (start_or_zeros t) (numbered 1 (entered t))) j (omega arith)))
 
   -- what following comes to, with its fates laid over
   pub find_is : (r : FollowedDay) → FollowedBy u first v.acts.these n r → (record {
@@ -211,7 +211,7 @@ module _ (t : Taken) (n : ℕ) (long : n ≤ most_half_hours) where
   noted_quantity i h = ap rounded (noted_between i h)
 
   -- refusal 27: by the sums, and by the quantities
-  pub too_high_is : some_above (own_unit t).maximum sums n ≡ some (λ q. ltb (own_unit t).maximum q) (found paper n t).quantities
+  pub too_high_is : some_above (unit_or_zeros t).maximum sums n ≡ some (λ q. ltb (unit_or_zeros t).maximum q) (found paper n t).quantities
   unfolding some_above
-  too_high_is = ap (some (λ q. ltb (own_unit t).maximum q))
+  too_high_is = ap (some (λ q. ltb (unit_or_zeros t).maximum q))
       (list_same (quantity_at sums) (λ i. rounded (recorded_in recorded i)) 0 n (λ i h. noted_quantity i (omega arith)) ∙ sym (found_quantities n t))

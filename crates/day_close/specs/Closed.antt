@@ -7,7 +7,7 @@ use Rattle.profile.specs.declared.Taken.{Taken}
 use Rattle.profile.specs.declared.Finding.{Finding}
 use Rattle.profile.specs.Profile.{Found, paper}
 use Rattle.profile.specs.Finding.{arrays_of}
-use Rattle.profile.specs.Taken.{own_unit}
+use Rattle.profile.specs.Taken.{unit_or_zeros}
 use Rattle.day.specs.Day.{found_in}
 use Rattle.day.specs.Step.{quantity_too_high}
 
@@ -15,4 +15,4 @@ use Rattle.day.specs.Step.{quantity_too_high}
 unfoldable pub close_read : Taken → Result Finding Refusal
 close_read t =
     let f : Found = found_in paper t in
-    answered (refusing (quantity_too_high (own_unit t) f) QuantityTooHigh) (arrays_of f)
+    answered (refusing (quantity_too_high (unit_or_zeros t) f) QuantityTooHigh) (arrays_of f)

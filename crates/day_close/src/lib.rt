@@ -46,8 +46,8 @@ pub fn find(t: Taken, halves: u32) -> Finding
 {
     let v = validation_kept::validate(t.instructions, t.count, level::HALF_HOUR * halves);
     let acts = v.acts.as_slice();
-    let unit = t.own_unit();
-    let first = profile_effects::start_course(unit, t.own_start());
+    let unit = t.unit_or_zeros();
+    let first = profile_effects::start_course(unit, t.start_or_zeros());
     let f = profile_follow::follow_day(unit, first, acts, halves);
     let w = f.walk;
     let mut fates = v.fates;
@@ -72,7 +72,11 @@ pub fn find_close(taken: Taken) -> Result<Finding, Refusal>
     ensures { result ≡ close_read taken }
 {
     let found = find(taken, level::MOST_HALF_HOURS);
-    if profile_quantity::quantity_too_high(taken.own_unit(), found.sums, level::MOST_HALF_HOURS) {
+    if profile_quantity::quantity_too_high(
+        taken.unit_or_zeros(),
+        found.sums,
+        level::MOST_HALF_HOURS,
+    ) {
         return Err(Refusal::QuantityTooHigh);
     }
     Ok(found)

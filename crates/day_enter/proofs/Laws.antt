@@ -13,7 +13,7 @@ use Rattle.records.specs.Answers.{Answer, refusing, before, answered, first_refu
 use Rattle.records.specs.Records.{unit_size, opening_size, instruction_size, size_of, numbers, unit_of, opening_of, instruction_of}
 use Rattle.records.specs.Fields.{unit_answer, opening_answer, instruction_answer}
 use Rattle.profile.specs.declared.Taken.{Taken}
-use Rattle.profile.specs.Taken.{has_unit, has_start, own_unit}
+use Rattle.profile.specs.Taken.{has_unit, has_start, unit_or_zeros}
 use Rattle.day.specs.Day.{day_seconds}
 use Rattle.day.specs.Step.{too_high}
 use Rattle.day.specs.ByKind.{instruction_refusals, kind_refusals}
@@ -59,7 +59,7 @@ module _ (t : Taken) (closed : Bool) (s : List ℕ) where
   opening_front_is =
       let b : List ℕ = body opening_size s in
       let xs : List Answer = refusing (has_start t) SecondOne ∷ refusing (not (has_unit t)) BeforeUnit ∷ [] in
-      let high : Answer = refusing (too_high (own_unit t) (opening_of b)) OpeningTooHigh in
+      let high : Answer = refusing (too_high (unit_or_zeros t) (opening_of b)) OpeningTooHigh in
       ap (λ (a : Answer). before (early opening_size closed s xs) (answered (before (opening_answer b) a) (opening_of b))) (sym (last_is high))
       ∙ read_behind (opening_of b) opening_size closed s xs (opening_answer b ∷ high ∷ [])
 

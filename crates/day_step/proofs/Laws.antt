@@ -23,7 +23,7 @@ use Rattle.records.specs.Records.{unit_size, opening_size, instruction_size, clo
 use Rattle.profile.specs.declared.Start.{Start}
 use Rattle.profile.specs.declared.Taken.{Taken}
 use Rattle.profile.specs.declared.Finding.{Finding}
-use Rattle.profile.specs.Taken.{start_of, taken_with, has_unit, has_start, own_unit}
+use Rattle.profile.specs.Taken.{start_of, taken_with, has_unit, has_start, unit_or_zeros}
 use Rattle.profile.specs.Profile.{paper}
 use Rattle.profile.specs.Finding.{arrays_of}
 use Rattle.day.specs.declared.Day.{Day}
@@ -122,7 +122,7 @@ module _ (t : Taken) (closed : Bool) (s : List ℕ) where
 -- ---- a close
 module _ (d : Day) where
   abbrev high : Answer
-  high = refusing (quantity_too_high (own_unit d.taken) (found_in paper d.taken)) QuantityTooHigh
+  high = refusing (quantity_too_high (unit_or_zeros d.taken) (found_in paper d.taken)) QuantityTooHigh
 
   abbrev closed : Stepped
   closed = accept (day_with (found_in paper) d 4 []) close_size

@@ -21,7 +21,7 @@ pub fn listing(input: &[u8], out: &mut [u8]) -> Result<usize, Refusal>
         let used = take_record(&mut day, rest)?;
         rest = &rest[used..];
     }
-    listing_print::list_fitting(&day, out, listing::SUFFICES <= out.len())
+    listing_print::list_lent(&day, out, listing::SUFFICES <= out.len())
 }
 
 // The same with the result in one number, for C, which has no `Result`: the count of bytes written, or, at a refusal, its number times

@@ -7,7 +7,7 @@ use Rattle.records.specs.Answers.{Answer, accepted, refusing, answered, first_re
 use Rattle.course.specs.declared.Piece.{Piece}
 use Rattle.profile.specs.declared.Closing.{Closing}
 use Rattle.profile.specs.Profile.{spans_of, day_pieces}
-use Rattle.profile.specs.Taken.{own_unit}
+use Rattle.profile.specs.Taken.{unit_or_zeros}
 use Rattle.day.specs.declared.Day.{Day}
 use Rattle.day.specs.Day.{day_seconds, fates_in, courses_in, quantities_in, closing_in, is_closed}
 use Rattle.lines.specs.Lines.{f_line, s_line, q_line, e_line}
@@ -38,7 +38,7 @@ listing fates pieces quantities e =
     f_lines 1 fates ++ (s_lines pieces ++ (q_lines quantities ++ e_line e.level.grains e.target e.heat e.off))
 
 unfoldable pub printed_day : Day → List ℕ
-printed_day d = listing (fates_in d) (day_pieces (spans_of (own_unit d.taken) day_seconds (courses_in d))) (quantities_in d) (closing_in d)
+printed_day d = listing (fates_in d) (day_pieces (spans_of (unit_or_zeros d.taken) day_seconds (courses_in d))) (quantities_in d) (closing_in d)
 
 -- "46,080 bytes always suffice"
 abbrev pub suffices : ℕ

@@ -15,7 +15,7 @@ use Rattle.profile.specs.declared.Finding.{Finding}
 use Rattle.profile.specs.declared.Taken.{Taken}
 use Rattle.profile.specs.Finding.{no_finding}
 use Rattle.records.specs.declared.UnitData.{UnitData}
-use Rattle.profile.specs.Taken.{own_unit}
+use Rattle.profile.specs.Taken.{unit_or_zeros}
 use Rattle.day.specs.Day.{day_seconds, fates_in, courses_in, quantities_in, closing_in, finding_in}
 use Rattle.lines.specs.Text.{laid}
 use Rattle.lines.specs.Writing.{SinkLaws}
@@ -56,7 +56,7 @@ module _ {S : Type 0} {has_room : S → List ℕ → ℕ → Type 0} {takes : S 
   after_f f = put_more laws (in_parts d) before (omega arith) f
 
   -- of the unit that is read
-  pub room_s : {t : S} {u : UnitData} → u ≡ own_unit d.taken → takes s (lines_f d) most_f t →
+  pub room_s : {t : S} {u : UnitData} → u ≡ unit_or_zeros d.taken → takes s (lines_f d) most_f t →
       has_room t (courses_lines u day_seconds (take (finding_in d).started (finding_in d).courses)) most_s
   room_s is f = rw is (put_next laws next_append (after_f f) (omega arith))
 

@@ -3,7 +3,7 @@ use Rattle.std.specs.Prelude.{ℕ, ◌+◌, ◌*◌, List, take, Some}
 use Rattle.level.specs.Numbers.{most_half_hours, instruction_places, course_places}
 use Rattle.profile.specs.declared.Taken.{Taken}
 use Rattle.profile.specs.declared.Finding.{Finding}
-use Rattle.profile.specs.Taken.{own_unit}
+use Rattle.profile.specs.Taken.{unit_or_zeros}
 use Rattle.day.specs.declared.Day.{Day}
 use Rattle.day.specs.Day.{half_hours, day_seconds, closing_in, finding_in}
 use Rattle.listing_parts.specs.Rest.{fate_lines, courses_lines, quantity_lines, closing_line}
@@ -17,7 +17,7 @@ abbrev pub lines_f : Day → List ℕ
 lines_f d = fate_lines d.taken.count (finding_in d).fates
 
 abbrev pub lines_s : Day → List ℕ
-lines_s d = courses_lines (own_unit d.taken) day_seconds (take (finding_in d).started (finding_in d).courses)
+lines_s d = courses_lines (unit_or_zeros d.taken) day_seconds (take (finding_in d).started (finding_in d).courses)
 
 abbrev pub lines_q : Day → List ℕ
 lines_q d = quantity_lines half_hours (finding_in d).sums

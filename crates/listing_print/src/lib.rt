@@ -21,7 +21,7 @@ fn put_lines<S: Sink>(sink: &mut S, taken: &Taken, found: &Finding)
     listing_parts::put_fates(sink, &found.fates, taken.count);
     listing_parts::put_courses(
         sink,
-        taken.own_unit(),
+        taken.unit_or_zeros(),
         &found.courses,
         found.started,
         level::MOST_SECONDS,
@@ -55,7 +55,7 @@ fn put_day(out: &mut [u8], taken: &Taken, found: &Finding) -> usize
 
 // The listing of a day at the front of the lent slice: the count of bytes written; refused where the day is not closed or the
 // slice is too short, and then nothing is written. Where the caller knows that it fits, it is not measured.
-pub fn list_fitting(day: &Day, out: &mut [u8], fits: bool) -> Result<usize, Refusal>
+pub fn list_lent(day: &Day, out: &mut [u8], fits: bool) -> Result<usize, Refusal>
     requires { fits ≡ true → length (printed_day day.now) ≤ length out.old }
     ensures { (result ≡ list_of day.now out.old) × (out.new ≡ lent_after day.now out.old) }
 {
@@ -72,5 +72,5 @@ pub fn list_fitting(day: &Day, out: &mut [u8], fits: bool) -> Result<usize, Refu
 pub fn list(day: Day, out: &mut [u8]) -> Result<usize, Refusal>
     ensures { (result ≡ list_of day out.old) × (out.new ≡ lent_after day out.old) }
 {
-    list_fitting(&day, out, false)
+    list_lent(&day, out, false)
 }

@@ -20,7 +20,7 @@ use Rattle.records.specs.Records.{unit_size, size_of, unit_of, opening_of, instr
 use Rattle.records.specs.Fields.{fit_from, unit_ranges, disagrees, opening_fits, figures_fit, unit_answer, opening_answer, instruction_answer}
 use Rattle.profile.specs.declared.Taken.{Taken}
 use Rattle.profile.specs.Profile.{Found}
-use Rattle.profile.specs.Taken.{own_unit}
+use Rattle.profile.specs.Taken.{unit_or_zeros}
 use Rattle.day.specs.declared.Day.{Day}
 use Rattle.day.specs.declared.Stepped.{Stepped}
 use Rattle.day.specs.Day.{empty, day_seconds, day_with, is_closed}
@@ -123,7 +123,7 @@ module _ (find : Taken → Found) where
       let k : ℕ = kind_of s in
       let b : List ℕ = body_of s in
       let last : List Condition =
-      (eqb k 2 && too_high (own_unit t) (opening_of b), OpeningTooHigh) ∷ (eqb k 4 && quantity_too_high (own_unit t) (find t), QuantityTooHigh) ∷ [] in
+      (eqb k 2 && too_high (unit_or_zeros t) (opening_of b), OpeningTooHigh) ∷ (eqb k 4 && quantity_too_high (unit_or_zeros t) (find t), QuantityTooHigh) ∷ [] in
       let early : List Condition =
       (is_closed d, AfterClose)
       ∷ (second_one t k, SecondOne)

@@ -14,7 +14,7 @@ use Rattle.validation.specs.Kept.{numbered, validated}
 use Rattle.profile.specs.State.{by_rule}
 use Rattle.profile.specs.declared.Taken.{Taken}
 use Rattle.profile.specs.Bounds.{Low}
-use Rattle.profile.specs.Taken.{entered, own_unit, own_start}
+use Rattle.profile.specs.Taken.{entered, unit_or_zeros, start_or_zeros}
 use Rattle.profile.specs.Effects.{start_course}
 use Rattle.profile.specs.Profile.{Span, spans_of, level_starting, level_ending, recorded_twice, recorded_to, recorded_in, rounded, found_by, found, paper, Chain}
 use Rattle.profile.proofs.Tiles.{day_tiles}
@@ -47,11 +47,11 @@ sums_step ss i =
 module _ (n : ℕ) (t : Taken) where
   -- the spans of the day's courses
   abbrev pub spans : List Span
-  spans = spans_of (own_unit t) (half_hour * n) (found paper n t).courses
+  spans = spans_of (unit_or_zeros t) (half_hour * n) (found paper n t).courses
 
   pub found_tiles : Chain 0 spans (half_hour * n)
   unfolding found found_by
-  found_tiles = day_tiles by_rule (half_hour * n) (own_unit t) (own_start t) (numbered 1 (entered t))
+  found_tiles = day_tiles by_rule (half_hour * n) (unit_or_zeros t) (start_or_zeros t) (numbered 1 (entered t))
 
   pub found_sums : (found paper n t).sums ≡ list_from (recorded_to spans) 0 (suc n)
   unfolding found found_by
@@ -74,19 +74,19 @@ module _ (n : ℕ) (t : Taken) where
       rw (a, b, sums_step spans i)
 
   -- of a unit and a start that meet no refusal: no level exceeds the short-term maximum
-  module _ (fits : (own_unit t).capacity ≤ (own_unit t).maximum) (low : Low (own_unit t) (own_start t)) where
+  module _ (fits : (unit_or_zeros t).capacity ≤ (unit_or_zeros t).maximum) (low : Low (unit_or_zeros t) (start_or_zeros t)) where
     abbrev u : UnitData
-    u = own_unit t
+    u = unit_or_zeros t
 
-    pub found_below : All (Below (own_unit t).maximum) (found paper n t).courses
+    pub found_below : All (Below (unit_or_zeros t).maximum) (found paper n t).courses
     unfolding found found_by
     found_below =
-        courses_below u u.maximum fits (le_refl u.maximum) (start_course u (own_start t)) (validated (half_hour * n) (numbered 1 (entered t))).acts
-        (start_below u u.maximum fits (le_refl u.maximum) (own_start t) low.level low.target low.ordered)
+        courses_below u u.maximum fits (le_refl u.maximum) (start_course u (start_or_zeros t)) (validated (half_hour * n) (numbered 1 (entered t))).acts
+        (start_below u u.maximum fits (le_refl u.maximum) (start_or_zeros t) low.level low.target low.ordered)
 
-    pub levels_below : All (SpanBelow (grains (own_unit t).maximum)) spans
+    pub levels_below : All (SpanBelow (grains (unit_or_zeros t).maximum)) spans
     levels_below = spans_below u (half_hour * n) u.maximum (found paper n t).courses found_below
 
     -- so no quantity does: refusal 27 is never met
-    pub quantities_below : (i : ℕ) → rounded (recorded_in spans i) ≤ (own_unit t).maximum
+    pub quantities_below : (i : ℕ) → rounded (recorded_in spans i) ≤ (unit_or_zeros t).maximum
     quantities_below i = quantity_below u.maximum spans levels_below i

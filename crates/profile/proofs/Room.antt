@@ -41,7 +41,7 @@ use Rattle.std.specs.Prelude.{Some}
 use Rattle.std.proofs.lemmas.Option.{none-some}
 use Rattle.profile.specs.declared.Taken.{Taken}
 use Rattle.profile.specs.Bounds.{Low}
-use Rattle.profile.specs.Taken.{entered, own_unit, own_start}
+use Rattle.profile.specs.Taken.{entered, unit_or_zeros, start_or_zeros}
 use Rattle.profile.specs.Effects.{outcome_by, heat_by, course_from, under_way, start_course, begun, goes_on, replaces, state_at, follow}
 use Rattle.profile.specs.Profile.{Span, begin_of, spans_of, day_pieces, course_of, last_of, closing_by, found_by, found, paper, Chain}
 use Rattle.profile.proofs.Following.{unless_sets, follow_ind}
@@ -230,13 +230,13 @@ closing_below u end m c b w =
 -- ---- the whole
 module _ (n : ℕ) (t : Taken) where
   abbrev u : UnitData
-  u = own_unit t
+  u = unit_or_zeros t
 
   abbrev is : List Instruction
   is = entered t
 
   abbrev first : UnderWay
-  first = start_course u (own_start t)
+  first = start_course u (start_or_zeros t)
 
   abbrev acts : List Numbered
   acts = (validated (half_hour * n) (numbered 1 is)).acts
@@ -256,16 +256,16 @@ module _ (n : ℕ) (t : Taken) where
   unfolding found found_by
   fates_many = fates_length (numbered 1 is) _ (numbered 1 is) ∙ numbered_length 1 is
 
-  first_heat : (own_start t).heat ≤ 3 → first.course.heat ≤ 3
+  first_heat : (start_or_zeros t).heat ≤ 3 → first.course.heat ≤ 3
   unfolding start_course under_way course_from
   first_heat h = h
 
-  pub found_closing : (own_unit t).capacity ≤ (own_unit t).maximum → Low (own_unit t) (own_start t) →
-      ClosingBelow (own_unit t).maximum (closing_by (found paper n t).last (found paper n t).end)
+  pub found_closing : (unit_or_zeros t).capacity ≤ (unit_or_zeros t).maximum → Low (unit_or_zeros t) (start_or_zeros t) →
+      ClosingBelow (unit_or_zeros t).maximum (closing_by (found paper n t).last (found paper n t).end)
   unfolding found found_by
   found_closing fits low =
       let m : ℕ = u.maximum in
-      let below : WayBelow m first = start_below u m fits (le_refl m) (own_start t) low.level low.target low.ordered in
+      let below : WayBelow m first = start_below u m fits (le_refl m) (start_or_zeros t) low.level low.target low.ordered in
       let cs : List UnderWay = (follow by_rule u first acts).courses in
       closing_below u (half_hour * n) m (last_of first cs)
       (last_of_lem (Below m) first cs below.course (courses_below u m fits (le_refl m) first acts below))

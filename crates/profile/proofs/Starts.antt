@@ -29,7 +29,7 @@ use Rattle.std.proofs.lemmas.Option.{none-some}
 use Rattle.profile.specs.declared.Start.{Start}
 use Rattle.profile.specs.declared.Taken.{Taken}
 use Rattle.profile.specs.State.{by_rule}
-use Rattle.profile.specs.Taken.{entered, own_unit, own_start}
+use Rattle.profile.specs.Taken.{entered, unit_or_zeros, start_or_zeros}
 use Rattle.profile.specs.Effects.{outcome_by, stepped, under_way, course_from, begun, Followed, goes_on, replaces, start_course, state_at, follow}
 use Rattle.profile.specs.Profile.{course_of, found_by, found, paper}
 use Rattle.profile.specs.Starts.{trip_among, StartsFrom, StartsAfter, CoursesStart}
@@ -139,10 +139,10 @@ module _ (u : UnitData) (all : List Numbered) where
 
 -- what close finds: the first course starts from the level of the start, each other where the one before ends or from 0
 pub courses_start : (n : ℕ) (t : Taken) →
-    CoursesStart (own_unit t) (validated (half_hour * n) (numbered 1 (entered t))).acts (own_start t).level (found paper n t).courses
+    CoursesStart (unit_or_zeros t) (validated (half_hour * n) (numbered 1 (entered t))).acts (start_or_zeros t).level (found paper n t).courses
 unfolding found found_by
 courses_start n t =
     let os : List Numbered = (validated (half_hour * n) (numbered 1 (entered t))).acts in
-    let first : UnderWay = start_course (own_unit t) (own_start t) in
-    first_starts (own_unit t) os (own_start t) (follow by_rule (own_unit t) first os).courses
-    (headed (own_unit t) os first os (told os (acting_rise (half_hour * n) (numbered 1 (entered t))).0))
+    let first : UnderWay = start_course (unit_or_zeros t) (start_or_zeros t) in
+    first_starts (unit_or_zeros t) os (start_or_zeros t) (follow by_rule (unit_or_zeros t) first os).courses
+    (headed (unit_or_zeros t) os first os (told os (acting_rise (half_hour * n) (numbered 1 (entered t))).0))

@@ -15,7 +15,7 @@ use Rattle.profile.specs.declared.State.{State}
 use Rattle.profile.specs.State.{by_rule}
 use Rattle.profile.specs.Twin.{by_segments, twin_to, twin_in, twin}
 use Rattle.profile.specs.declared.Taken.{Taken}
-use Rattle.profile.specs.Taken.{entered, own_unit, own_start}
+use Rattle.profile.specs.Taken.{entered, unit_or_zeros, start_or_zeros}
 use Rattle.profile.specs.Effects.{Followed, start_course, outcome, begun, goes_on, replaces, state_at, follow}
 use Rattle.profile.specs.Profile.{Span, spans_of, rounded, recorded_to, recorded_in, course_of, last_of, found_by, found, paper, Chain}
 use Rattle.profile.proofs.Following.{follow_on, follow_new, follow_ind}
@@ -45,14 +45,14 @@ module _ (u : UnitData) where
 pub found_same : (n : ℕ) (t : Taken) → found paper n t ≡ found twin n t
 unfolding found found_by
 found_same n t =
-    let u : UnitData = own_unit t in
+    let u : UnitData = unit_or_zeros t in
     let os : List Numbered = numbered 1 (entered t) in
     let v : Validated = validated (half_hour * n) os in
-    let first : UnderWay = start_course u (own_start t) in
+    let first : UnderWay = start_course u (start_or_zeros t) in
     let g : Followed = follow by_segments u first v.acts in
     let cs : List Course = map course_of g.courses in
     let ss : List Span = spans_of u (half_hour * n) cs in
-    let c : Chain 0 ss (half_hour * n) = day_tiles by_segments (half_hour * n) u (own_start t) os in
+    let c : Chain 0 ss (half_hour * n) = day_tiles by_segments (half_hour * n) u (start_or_zeros t) os in
     ap (found_by paper n u first os v) (follow_same u first v.acts)
     ∙ (λ i. record {
       fates = fates_of os (g.marks ++ v.marks) os;

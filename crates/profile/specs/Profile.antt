@@ -15,7 +15,7 @@ use Rattle.profile.specs.declared.State.{State}
 use Rattle.profile.specs.State.{by_rule}
 use Rattle.profile.specs.Effects.{Followed, start_course, follow, state_at}
 use Rattle.profile.specs.declared.Taken.{Taken}
-use Rattle.profile.specs.Taken.{entered, own_unit, own_start}
+use Rattle.profile.specs.Taken.{entered, unit_or_zeros, start_or_zeros}
 
 -- "A course lasts from its acting second (the opening's from 0) to that of the next fate-0 instruction, else to the day's end"
 pub record Span : Type 0 where
@@ -139,6 +139,6 @@ module _ (w : Way) where
   found n t =
       let os : List Numbered = numbered 1 (entered t) in
       let v : Validated = validated (half_hour * n) os in
-      let u : UnitData = own_unit t in
-      let first : UnderWay = start_course u (own_start t) in
+      let u : UnitData = unit_or_zeros t in
+      let first : UnderWay = start_course u (start_or_zeros t) in
       found_by n u first os v (follow w.look u first v.acts)

@@ -39,11 +39,11 @@ abbrev pub has_start : Taken → Bool
 has_start t = is_some t.start
 
 -- the unit, and what its opening starts; zeros while there is none
-abbrev pub own_unit : Taken → UnitData
-own_unit t = unwrap_or t.unit (unit_of [])
+abbrev pub unit_or_zeros : Taken → UnitData
+unit_or_zeros t = unwrap_or t.unit (unit_of [])
 
-abbrev pub own_start : Taken → Start
-own_start t = unwrap_or t.start (start_of (opening_of []))
+abbrev pub start_or_zeros : Taken → Start
+start_or_zeros t = unwrap_or t.start (start_of (opening_of []))
 
 -- the instructions let in, in order
 unfoldable pub entered : Taken → List Instruction

@@ -95,19 +95,19 @@ pub fn no_unit() -> UnitData
 
 impl Taken {
     ghost use Rattle.std.specs.Prelude.{◌≡◌};
-    ghost use Rattle.profile.specs.Taken.{own_unit, own_start};
+    ghost use Rattle.profile.specs.Taken.{unit_or_zeros, start_or_zeros};
 
     // The unit; zeros while there is none.
-    pub fn own_unit(&self) -> UnitData
-        ensures { result ≡ own_unit self.now }
+    pub fn unit_or_zeros(&self) -> UnitData
+        ensures { result ≡ unit_or_zeros self.now }
     {
         self.unit.unwrap_or(no_unit())
     }
 
     // What the opening starts; zeros while there is none.
     #[tactic(auto, unfolding(crate::specs::Taken::start_of, records::specs::Records::opening_of))]
-    pub fn own_start(&self) -> Start
-        ensures { result ≡ own_start self.now }
+    pub fn start_or_zeros(&self) -> Start
+        ensures { result ≡ start_or_zeros self.now }
     {
         self.start.unwrap_or_default()
     }

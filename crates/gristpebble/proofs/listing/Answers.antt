@@ -32,8 +32,8 @@ loop-rest-preserved c =
     sym (run_taken c.loop-rest.day c.loop-rest.rest.now (c.is_none.ensures ∙ ap not c.loop-rest-test.true) _ _ c.in_ok-used.ensures)
     ∙ c.loop-rest.invariant
 
-pub list_fitting-requires : goal.list_fitting-requires
-list_fitting-requires c =
+pub list_lent-requires : goal.list_lent-requires
+list_lent-requires c =
     let ran = sym (run_last c.loop-rest.day c.loop-rest.rest.now (c.is_none.ensures ∙ ap not c.loop-rest-test.false)) ∙ c.loop-rest.invariant in
     let fits = run_fits c.args.input.now _ ran refl in
     λ f. omega (arith, leb-true suffices (length c.args.out.now) f, fits.1)
@@ -42,4 +42,4 @@ pub returns : goal.returns
 returns c =
     let ran = sym (run_last c.loop-rest.day c.loop-rest.rest.now (c.is_none.ensures ∙ ap not c.loop-rest-test.false)) ∙ c.loop-rest.invariant in
     let g = gives c.args.input.now c.args.out.now _ ran in
-    (c.list_fitting.ensures.0 ∙ g.0, c.list_fitting.ensures.1 ∙ g.1)
+    (c.list_lent.ensures.0 ∙ g.0, c.list_lent.ensures.1 ∙ g.1)

@@ -2,8 +2,8 @@ use Rattle.std.proofs.Common.{◌≤◌, length, ap, ◌∙◌, arith}
 use Rattle.listing.specs.Listing.{printed_day}
 use Rattle.listing_print.specs.Parts.{with_finding}
 use Rattle.listing_print.proofs.Whole.{printed_is, ask_open, ask_short, ask_room}
-use Rattle.listing_print.proofs.list_fitting.Goals.{else-not-fits-via-then-not-fits+else-out-day_width, else-not-fits-via-else-not-fits}
-use Rattle.listing_print.proofs.list_fitting.Goals as goal
+use Rattle.listing_print.proofs.list_lent.Goals.{else-not-fits-via-then-not-fits+else-out-day_width, else-not-fits-via-else-not-fits}
+use Rattle.listing_print.proofs.list_lent.Goals as goal
 
 pub returns-in_default : goal.returns-in_default
 returns-in_default c = ask_open c.args.day.now c.args.out.now c.in_default.is
