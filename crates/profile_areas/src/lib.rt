@@ -27,7 +27,8 @@ pub fn off_between(p: course_walk::Place, q: course_walk::Place, off: u32) -> u3
     ensures { result ≡ off_between p q off }
 {
     if p.level == 0 && q.level == 0 {
-        off.saturating_add(q.second - p.second).min(records::MOST_OFF)
+        off.saturating_add(q.second - p.second)
+            .min(records::MOST_OFF)
     } else {
         0
     }
