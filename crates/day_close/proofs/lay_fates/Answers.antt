@@ -1,16 +1,6 @@
-use Rattle.std.proofs.Common.{rules, ◌≡◌, length, ap, ◌∙◌, arith, inl, inr}
-use Rattle.day_close.specs.Laying.{over_all, marks_of}
+use Rattle.std.proofs.Common.{◌≡◌, length, ◌∙◌, inl, inr}
 use Rattle.day_close.proofs.Laying.{last_laid, all_laid}
 use Rattle.day_close.proofs.lay_fates.Goals as goal
-
-pub loop-o-init : goal.loop-o-init
-loop-o-init c =
-    let a : c.into_iter-o-iterator.result.a.iter.rest.now ≡ c.args.acts.now = search rules in
-    let b : c.into_iter-o-iterator.result.b.iter.rest.now ≡ c.args.own.now = search rules in
-    record {
-      paired = omega (arith, ap length a, ap length b, c.requires);
-      over = λ i. over_all c.args.fates.now (marks_of (a i) (b i));
-    }
 
 pub loop-o-preserved : goal.loop-o-preserved
 loop-o-preserved c =

@@ -1,20 +1,10 @@
-use Rattle.std.proofs.Common.{rules, ◌≤◌, ◌+◌, sym, ◌∙◌, ap, length, arith, length-append, inl, inr}
+use Rattle.std.proofs.Common.{◌≤◌, ◌+◌, sym, ◌∙◌, ap, length, arith, length-append, inl, inr}
 use Rattle.std.proofs.lemmas.List.{drop_all}
 use Rattle.validation.specs.Kept.{actors}
 use Rattle.validation_groups.specs.Working.{no_numbered}
-use Rattle.validation_groups.proofs.Laws.{begun_none, begun_push, begun_all}
+use Rattle.validation_groups.proofs.Laws.{begun_push, begun_all}
 use Rattle.validation_kept.proofs.Late.{actors_skip, actors_keep, front_at, both_past}
 use Rattle.validation_kept.proofs.acts_of.Goals as goal
-
-pub loop-k-init : goal.loop-k-init
-loop-k-init c =
-    rw c.none-out.ensures (record {
-      place = 0;
-      rest_is = search rules;
-      fates_is = search rules;
-      few = omega arith;
-      begun = λ end f. begun_none (actors end c.args.kept.now.these);
-    })
 
 pub loop-k-preserved-then-fate-eq0 : goal.loop-k-preserved-then-fate-eq0
 loop-k-preserved-then-fate-eq0 c =

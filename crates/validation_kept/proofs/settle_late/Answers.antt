@@ -1,13 +1,10 @@
-use Rattle.std.proofs.Common.{rules, ◌≤◌, ◌+◌, length, refl, sym, ap, ◌∙◌, arith, inl, inr}
+use Rattle.std.proofs.Common.{◌≤◌, ◌+◌, length, sym, ap, ◌∙◌, arith, inl, inr}
 use Rattle.std.proofs.lemmas.List.{drop_all}
 use Rattle.validation.specs.Kept.{late_marks}
 use Rattle.validation_groups.specs.Working.{no_numbered}
 use Rattle.validation_kept.specs.Late.{settled, settle_fate}
 use Rattle.validation_kept.proofs.Late.{settled_more, front_at, both_past}
 use Rattle.validation_kept.proofs.settle_late.Goals as goal
-
-pub loop-k-init : goal.loop-k-init
-loop-k-init c = record { place = 0; rest_is = search rules; fates_is = search rules; long = omega arith; settles = λ end f. refl }
 
 pub loop-k-preserved : goal.loop-k-preserved
 loop-k-preserved c =
