@@ -1,7 +1,6 @@
 -- What goes on with time, added to a running total that is noted at each half-hour boundary.
 use Prim.Native.Nat.{ℕ, ◌+◌, ◌*◌, ◌-◌, ◌^◌, min, ◌≤◌, ◌<◌}
 use mathlib.Core.Path.{◌≡◌, ap, ◌∙◌}
-use mathlib.Core.List.{List}
 use native.Mathlib.Decide.{dec_le}
 use native.Mathlib.Omega.{arith}
 use lib.ListN.{get_or, set, length-set}
@@ -9,14 +8,15 @@ use lib.Seq.{get_or-set_same, get_or-set_other}
 use borrow.Author.Tests.{le-leb, lt-leb}
 use Rattle.level.specs.Numbers.{half_hour, most_half_hours}
 use Rattle.level.specs.Bounds.{most_seconds}
+use Rattle.profile_areas.specs.declared.Sums.{Sums}
 use Rattle.profile_areas.specs.Passing.{Summed, summed, noted_to, Adds, SumsFit, Noted, twice_bound}
 
 -- a boundary that is reached, and one that is not
-pub noted_there : (a : Summed) (j : ℕ) → half_hour * j ≤ a.second → noted_to a j ≡ get_or a.noted j 0
+pub noted_there : (a : Summed) (j : ℕ) → half_hour * j ≤ a.second → noted_to a j ≡ get_or a.sums.noted j 0
 unfolding noted_to
 noted_there a j h = simp (le-leb (half_hour * j) a.second h)
 
-pub noted_total : (a : Summed) (j : ℕ) → a.second < half_hour * j → noted_to a j ≡ a.total
+pub noted_total : (a : Summed) (j : ℕ) → a.second < half_hour * j → noted_to a j ≡ a.sums.total
 unfolding noted_to
 noted_total a j h = simp (lt-leb (half_hour * j) a.second h)
 
@@ -35,35 +35,39 @@ pub record InHalf (b s n : ℕ) : Type 0 where
   pub on : s < n
   pub ends : n ≤ half_hour * b + half_hour
 
--- v more in such a step
-module _ {b s n t : ℕ} {xs : List ℕ} (i : InHalf b s n) (fits : SumsFit (summed s xs t)) (v : ℕ) where
-  abbrev next : Summed
-  next = summed n (set xs (b + 1) (t + v)) (t + v)
+-- v more, and noted at the boundary j
+abbrev pub with_more : Sums → ℕ → ℕ → Sums
+with_more x j v = record { noted = set x.noted j (x.total + v); total = x.total + v }
 
-  ahead : (j : ℕ) → b + 1 ≤ j → noted_to next j ≡ t + v
+-- v more in such a step
+module _ {b s n : ℕ} {x : Sums} (i : InHalf b s n) (fits : SumsFit (summed s x)) (v : ℕ) where
+  abbrev next : Summed
+  next = summed n (with_more x (b + 1) v)
+
+  ahead : (j : ℕ) → b + 1 ≤ j → noted_to next j ≡ x.total + v
   ahead j le = elim (dec_le (half_hour * j) n) [
-    | yes h ↦ noted_there next j h ∙ ap (λ (k : ℕ). get_or (set xs (b + 1) (t + v)) k 0) {x = j} {y = b + 1} (omega (arith, i.ends))
-        ∙ get_or-set_same xs (b + 1) (t + v) 0 (omega (arith, i.half, fits.places))
+    | yes h ↦ noted_there next j h ∙ ap (λ (k : ℕ). get_or (set x.noted (b + 1) (x.total + v)) k 0) {x = j} {y = b + 1} (omega (arith, i.ends))
+        ∙ get_or-set_same x.noted (b + 1) (x.total + v) 0 (omega (arith, i.half, fits.places))
     | no h ↦ noted_total next j (omega arith)
   ]
 
-  adds_on : (g : ℕ → ℕ) (a : Summed) → g s + v ≡ g n → Adds g a (summed s xs t) → Adds g a next
+  adds_on : (g : ℕ → ℕ) (a : Summed) → g s + v ≡ g n → Adds g a (summed s x) → Adds g a next
   adds_on g a e h j k = elim (dec_le (b + 1) j) [
     | yes le ↦
-        let old : t ≡ noted_to a j + g s = omega (arith, noted_total (summed s xs t) j (omega (arith, i.on, i.ends))) ∙ h j k
+        let old : x.total ≡ noted_to a j + g s = omega (arith, noted_total (summed s x) j (omega (arith, i.on, i.ends))) ∙ h j k
         ∙ ap (λ (i : ℕ). noted_to a j + g i) {x = min s (half_hour * j)} {y = s} (omega (arith, i.on, i.ends)) in
         ahead j le ∙ omega (arith, old, e) ∙ ap (λ (i : ℕ). noted_to a j + g i) {x = n} {y = min n (half_hour * j)} (omega (arith, i.ends))
     | no lt ↦
-        noted_there next j (omega (arith, i.begun, i.on)) ∙ get_or-set_other xs (b + 1) j (t + v) 0 (λ q. omega arith)
-        ∙ omega (arith, noted_there (summed s xs t) j (omega (arith, i.begun))) ∙ h j k
+        noted_there next j (omega (arith, i.begun, i.on)) ∙ get_or-set_other x.noted (b + 1) j (x.total + v) 0 (λ q. omega arith)
+        ∙ omega (arith, noted_there (summed s x) j (omega (arith, i.begun))) ∙ h j k
         ∙ ap (λ (i : ℕ). noted_to a j + g i) {x = min s (half_hour * j)} {y = min n (half_hour * j)} (omega (arith, i.begun, i.on))
   ]
 
-  pub noted_on : (g : ℕ → ℕ) {a : Summed} → g s + v ≡ g n → v ≤ (n - s) * twice_bound → Adds g a (summed s xs t) → Noted g a next
+  pub noted_on : (g : ℕ → ℕ) {a : Summed} → g s + v ≡ g n → v ≤ (n - s) * twice_bound → Adds g a (summed s x) → Noted g a next
   noted_on g {a} e low h = record {
     adds = adds_on g a e h;
     fits = record { places = simp length-set fits.places; total = omega (arith, i.on, fits.total) };
   }
 
-  pub total_fits : n ≤ most_seconds → v ≤ (n - s) * twice_bound → t + v < 2 ^ 64
+  pub total_fits : n ≤ most_seconds → v ≤ (n - s) * twice_bound → x.total + v < 2 ^ 64
   total_fits day low = omega (arith, i.on, fits.total)

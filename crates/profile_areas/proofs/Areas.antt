@@ -1,7 +1,6 @@
 -- Twice the area along a course, from one second to another, and along a level piece.
 use Prim.Native.Nat.{ℕ, min, ◌+◌, ◌*◌, ◌-◌, ◌≤◌, ◌<◌}
 use mathlib.Core.Path.{◌≡◌, refl, ap, sym, ◌∙◌}
-use mathlib.Core.List.{List}
 use native.Mathlib.Decide.{dec_le}
 use native.Mathlib.Omega.{arith}
 use Rattle.course.specs.Recorded.{area}
@@ -15,6 +14,7 @@ use Rattle.course_walk.specs.declared.Place.{Place}
 use Rattle.course_walk.specs.Walk.{moment_of, standing, twice_to}
 use Rattle.course_walk.proofs.PieceStep.{PieceStep, step_line}
 use Rattle.course_walk.proofs.Areas.{area_from, area_same, twice_here}
+use Rattle.profile_areas.specs.declared.Sums.{Sums}
 use Rattle.profile_areas.specs.Passing.{Summed, summed, Noted, line_twice, piece_rate, piece_from, Straight, AddsOn}
 use Rattle.profile_areas.proofs.Adding.{adds_same}
 use Rattle.profile_areas.proofs.Lines.{line_none, along_toward, straight_rate}
@@ -92,10 +92,10 @@ module _ {h : Heading} {l : Lists} {t n : ℕ} {p q : Place} (g : PieceStep h l 
   ]
 
 -- what a piece adds is what the course does there
-pub piece_on : (h : Heading) (l : Lists) (t n : ℕ) (p q : Place) {a : Summed} {ys : List ℕ} {total : ℕ} →
-    (p.second < q.second → PieceStep h l t n p q) → p.second ≤ q.second → Noted (piece_from h p q) a (summed q.second ys total) →
-    AddsOn h l t p a (summed q.second ys total)
-piece_on h l t n p q {a} {ys} {total} go le noted = adds_same (piece_from h p q) (λ (i : ℕ). twice_to h l t i p) a (summed q.second ys total)
+pub piece_on : (h : Heading) (l : Lists) (t n : ℕ) (p q : Place) {a : Summed} {y : Sums} →
+    (p.second < q.second → PieceStep h l t n p q) → p.second ≤ q.second → Noted (piece_from h p q) a (summed q.second y) →
+    AddsOn h l t p a (summed q.second y)
+piece_on h l t n p q {a} {y} go le noted = adds_same (piece_from h p q) (λ (i : ℕ). twice_to h l t i p) a (summed q.second y)
     (λ i k. elim (dec_le q.second p.second) [
       | yes same ↦ line_none h p.level (piece_rate p q) (i - p.second) (omega arith) ∙ sym (twice_here h l t i p (omega arith))
       | no lt ↦ line_area (go (omega arith)) i (omega arith)

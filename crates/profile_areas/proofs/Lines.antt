@@ -1,10 +1,8 @@
 -- A straight line, half-hour by half-hour.
 use Prim.Native.Nat.{ℕ, ◌+◌, ◌*◌, ◌-◌, ◌/◌, ◌^◌, min, max, ◌≤◌, ◌<◌}
 use mathlib.Core.Path.{◌≡◌, refl, ap, sym, ◌∙◌, subst}
-use mathlib.Core.List.{List}
 use native.Mathlib.Nat.{mul-le-mul_left, mul-le-mul_right, zero-mul, div-eq_of_eq-mul_right}
 use native.Mathlib.Omega.{arith}
-use lib.ListN.{set}
 use Rattle.level.specs.Numbers.{half_hour}
 use Rattle.level.specs.Bounds.{level_bound}
 use Rattle.course.specs.declared.Heading.{Heading}
@@ -13,8 +11,9 @@ use Rattle.course.specs.Course.{toward, gap}
 use Rattle.course.specs.Headings.{Along}
 use Rattle.course_walk.specs.declared.Place.{Place}
 use Rattle.course_walk.specs.Walk.{Reaches}
+use Rattle.profile_areas.specs.declared.Sums.{Sums}
 use Rattle.profile_areas.specs.Passing.{Summed, summed, Noted, line_twice, line_from, piece_rate, piece_from, StaysLow, Straight, LineAhead, PieceAhead, twice_bound}
-use Rattle.profile_areas.proofs.Adding.{noted_none, InHalf, noted_on, total_fits}
+use Rattle.profile_areas.proofs.Adding.{noted_none, InHalf, with_more, noted_on, total_fits}
 
 -- no time, no area
 pub line_none : (h : Heading) (v r k : ℕ) → k ≡ 0 → line_twice h v r k ≡ 0
@@ -65,10 +64,10 @@ module _ (v r k m d : ℕ) (le : k + m ≤ d) where
 -- ---- along a line, half-hour by half-hour
 
 -- the line is added up to `at`, where the half-hour after the boundary b begins, or the line does or ends; v is its level there
-pub record AlongLine (h : Heading) (level rate from to : ℕ) (a : Summed) (xs : List ℕ) (b at v t : ℕ) : Type 0 where
+pub record AlongLine (h : Heading) (level rate from to : ℕ) (a : Summed) (x : Sums) (b at v : ℕ) : Type 0 where
   pub boundary : from / half_hour ≤ b
   pub here : at ≡ max from (min (half_hour * b) to)
-  pub noted : Noted (line_from h level rate from) a (summed at xs t)
+  pub noted : Noted (line_from h level rate from) a (summed at x)
   pub there : v ≡ toward h level ((at - from) * rate)
 
 -- a step of it to n, where the half-hour ends, or the line, and to the level w: it lies in one half-hour, the levels stay low, and its
@@ -84,8 +83,8 @@ pub record LineStep (h : Heading) (rate to b at v t n w : ℕ) : Type 0 where
   pub fits : t + (n - at) * (v + w) < 2 ^ 64
 
 module _ {h : Heading} {level rate from to : ℕ} where
-  pub line_begun : {xs : List ℕ} {t half : ℕ} → LineAhead h level rate from to (summed from xs t) → half ≡ from / half_hour →
-      AlongLine h level rate from to (summed from xs t) xs half from level t
+  pub line_begun : {x : Sums} {half : ℕ} → LineAhead h level rate from to (summed from x) → half ≡ from / half_hour →
+      AlongLine h level rate from to (summed from x) x half from level
   line_begun p k = record {
     boundary = omega arith;
     here = omega (arith, p.later);
@@ -93,8 +92,8 @@ module _ {h : Heading} {level rate from to : ℕ} where
     there = line_start h level rate (from - from) (omega arith);
   }
 
-  module _ {a : Summed} {xs : List ℕ} {b at v t n w : ℕ} (p : LineAhead h level rate from to a)
-      (l : AlongLine h level rate from to a xs b at v t) (left : half_hour * b < to) (next : n ≡ min to ((b + 1) * half_hour))
+  module _ {a : Summed} {x : Sums} {b at v n w : ℕ} (p : LineAhead h level rate from to a)
+      (l : AlongLine h level rate from to a x b at v) (left : half_hour * b < to) (next : n ≡ min to ((b + 1) * half_hour))
       (moved : w ≡ toward h v ((n - at) * rate)) where
     abbrev k : ℕ
     k = at - from
@@ -114,7 +113,7 @@ module _ {h : Heading} {level rate from to : ℕ} where
     moves : w ≡ toward h level ((k + m) * rate)
     moves = moved ∙ ap (λ (y : ℕ). toward h y (m * rate)) l.there ∙ line_on level rate k m d on_line h p.low
 
-    pub line_step : LineStep h rate to b at v t n w
+    pub line_step : LineStep h rate to b at v x.total n w
     line_step =
         let lo : v < level_bound = omega (arith, line_low level rate k m d on_line h p.low, l.there) in
         let hi : w < level_bound = omega (arith, line_low level rate (k + m) 0 d (omega (arith, on_line)) h p.low, moves) in
@@ -135,7 +134,7 @@ module _ {h : Heading} {level rate from to : ℕ} where
         ∙ ap (λ (y : ℕ). line_twice h level rate k + m * (toward h level (k * rate) + y)) moves ∙ line_more level rate k m d on_line h p.low
         ∙ ap (line_twice h level rate) {x = k + m} {y = n - from} (omega (arith, half_step.on, l.here))
 
-    pub line_further : AlongLine h level rate from to a (set xs (b + 1) (t + m * (v + w))) (b + 1) n w (t + m * (v + w))
+    pub line_further : AlongLine h level rate from to a (with_more x (b + 1) (m * (v + w))) (b + 1) n w
     line_further = record {
       boundary = omega (arith, l.boundary);
       here = omega (arith, p.later, l.boundary);
@@ -162,7 +161,7 @@ stays Falling v m w a lv lw = omega arith
 pub straight_rate : {h : Heading} {p q : Place} → p.second < q.second → (s : Straight h p q) → piece_rate p q ≡ s.rate
 straight_rate {h} {p} {q} lt s = div-eq_of_eq-mul_right (omega arith) (way_is h p.level ((q.second - p.second) * s.rate) q.level s.along)
 
-module _ {h : Heading} {p q : Place} {xs : List ℕ} {t : ℕ} (a : PieceAhead h p q (summed p.second xs t)) (lt : p.second < q.second) where
+module _ {h : Heading} {p q : Place} {x : Sums} (a : PieceAhead h p q (summed p.second x)) (lt : p.second < q.second) where
   abbrev time : ℕ
   time = q.second - p.second
 
@@ -189,7 +188,7 @@ module _ {h : Heading} {p q : Place} {xs : List ℕ} {t : ℕ} (a : PieceAhead h
     more_low : more ≤ time * twice_bound
     more_low = mul-le-mul_left time (omega (arith, a.low, a.low_too))
 
-    pub piece_fits : t + more < 2 ^ 64
+    pub piece_fits : x.total + more < 2 ^ 64
     piece_fits = total_fits one_half a.fits more a.within more_low
 
     whole : line_from h p.level rate p.second p.second + more ≡ line_from h p.level rate p.second q.second
@@ -197,6 +196,6 @@ module _ {h : Heading} {p q : Place} {xs : List ℕ} {t : ℕ} (a : PieceAhead h
     whole = ap (λ (v : ℕ). v + more) (line_none h p.level rate (p.second - p.second) (omega arith)) ∙ omega arith
         ∙ ap (λ (v : ℕ). time * (p.level + v)) (along_toward h p.level (time * rate) q.level along)
 
-    pub piece_noted : Noted (piece_from h p q) (summed p.second xs t) (summed q.second (set xs (half + 1) (t + more)) (t + more))
+    pub piece_noted : Noted (piece_from h p q) (summed p.second x) (summed q.second (with_more x (half + 1) more))
     piece_noted = noted_on one_half a.fits more (piece_from h p q) whole more_low
         (noted_none (piece_from h p q) (λ i le. line_none h p.level rate (i - p.second) (omega arith)) a.fits).adds

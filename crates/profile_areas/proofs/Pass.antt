@@ -1,7 +1,6 @@
 -- Along a course towards a second, piece by piece.
 use Prim.Native.Nat.{ℕ, ◌*◌, ◌≤◌, ◌<◌}
 use mathlib.Core.Path.{◌≡◌, refl, sym, ◌∙◌}
-use mathlib.Core.List.{List}
 use native.Mathlib.Omega.{arith}
 use Rattle.std.specs.Prelude.{Option}
 use Rattle.level.specs.Numbers.{half_hour}
@@ -18,6 +17,7 @@ use Rattle.course_walk.specs.Walk.{Known, onward, twice_to}
 use Rattle.course_walk.proofs.PieceStep.{PieceStep, onward_step, standing_on, standing_here}
 use Rattle.course_walk.proofs.Own.{own_onward}
 use Rattle.profile_areas.specs.Watching.{off_between}
+use Rattle.profile_areas.specs.declared.Sums.{Sums}
 use Rattle.profile_areas.specs.Passing.{Summed, summed, Noted, piece_from, Watching, CourseAhead, PassProgress, Passing}
 use Rattle.profile_areas.proofs.Adding.{noted_none}
 use Rattle.profile_areas.proofs.Areas.{twice_none, stands_on, twice_through, piece_on}
@@ -36,9 +36,9 @@ pub record NextPiece (r : Route) (n : ℕ) (p q : Place) : Type 0 where
 
 module _ {r : Route} {before n : ℕ} where
   -- nothing yet
-  pub progress_start : {start : Reached} {xs : List ℕ} {total : ℕ} → CourseAhead r start n (summed start.place.second xs total) →
-      PassProgress r start.place before n (summed start.place.second xs total) xs start before total
-  progress_start {start} {xs} {total} a =
+  pub progress_start : {start : Reached} {x : Sums} → CourseAhead r start n (summed start.place.second x) →
+      PassProgress r start.place before n (summed start.place.second x) x start before
+  progress_start {start} a =
       let p : Place = start.place in
       let h : Heading = r.heading in
       let ls : Lists = lists_by r in
@@ -56,7 +56,7 @@ module _ {r : Route} {before n : ℕ} where
         watched = λ u b w. w;
       }
 
-  module _ {from : Place} {a : Summed} {ys : List ℕ} {at : Reached} {off total : ℕ} (s : PassProgress r from before n a ys at off total) where
+  module _ {from : Place} {a : Summed} {y : Sums} {at : Reached} {off : ℕ} (s : PassProgress r from before n a y at off) where
     abbrev h : Heading
     h = r.heading
 
@@ -70,7 +70,7 @@ module _ {r : Route} {before n : ℕ} where
     p = at.place
 
     -- n is reached
-    pub progress_end : n ≤ p.second → Passing r from before n a ys (record { reached = at; ahead = p; off = off; later = off; total = total })
+    pub progress_end : n ≤ p.second → Passing r from before n a y (record { reached = at; ahead = p; off = off; later = off })
     progress_end le = record {
       progress = s;
       runs = λ lt. absurd (omega arith);
@@ -90,13 +90,13 @@ module _ {r : Route} {before n : ℕ} where
 
       -- n cuts it
       pub progress_cut : n ≤ q.second →
-          Passing r from before n a ys (record { reached = at; ahead = q; off = off; later = more; total = total })
+          Passing r from before n a y (record { reached = at; ahead = q; off = off; later = more })
       progress_cut le = record { progress = s; runs = λ lt. x.is; there = omega (arith, x.step.within); ahead_low = x.low; watched = on_watch }
 
       -- it ends before n, and is added
-      pub progress_more : {rest : Option Segment} → q.second < n → Known h ls t (record { place = q; rest = rest }) → {zs : List ℕ} {sum : ℕ} →
-          Noted (piece_from h p q) (summed p.second ys total) (summed q.second zs sum) →
-          PassProgress r from before n a zs (record { place = q; rest = rest }) more sum
+      pub progress_more : {rest : Option Segment} → q.second < n → Known h ls t (record { place = q; rest = rest }) → {z : Sums} →
+          Noted (piece_from h p q) (summed p.second y) (summed q.second z) →
+          PassProgress r from before n a z (record { place = q; rest = rest }) more
       progress_more ends known noted = record {
         adds = λ j k. omega (
           arith,

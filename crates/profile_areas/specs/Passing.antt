@@ -1,5 +1,5 @@
 -- Working. Along a course with the running sum of twice its area, which is noted at each half-hour boundary.
-use Rattle.std.specs.Prelude.{ℕ, ◌+◌, ◌*◌, ◌-◌, ◌/◌, min, ◌≤◌, ◌<◌, ◌≡◌, List, leb, length, get_or}
+use Rattle.std.specs.Prelude.{ℕ, ◌+◌, ◌*◌, ◌-◌, ◌/◌, min, ◌≤◌, ◌<◌, ◌≡◌, leb, length, get_or}
 use Rattle.level.specs.Choice.{pick}
 use Rattle.level.specs.Numbers.{half_hour, most_half_hours, boundary_places}
 use Rattle.level.specs.Bounds.{most_seconds, level_bound}
@@ -15,22 +15,22 @@ use Rattle.course_walk.specs.declared.Place.{Place}
 use Rattle.course_walk.specs.declared.Reached.{Reached}
 use Rattle.course_rates.specs.Ways.{target_of, route_of, lists_by}
 use Rattle.course_walk.specs.Walk.{moment_of, Known, onward, standing, twice_to}
+use Rattle.profile_areas.specs.declared.Sums.{Sums}
 use Rattle.profile_areas.specs.declared.Passed.{Passed}
 
 -- ---- sums
 
--- a day summed up to a second: what is noted at the half-hour boundaries, and the running total
+-- the sums of a day, and the second that they go up to
 pub record Summed : Type 0 where
   pub second : ℕ
-  pub noted : List ℕ
-  pub total : ℕ
+  pub sums : Sums
 
-abbrev pub summed : ℕ → List ℕ → ℕ → Summed
-summed s xs t = record { second = s; noted = xs; total = t }
+abbrev pub summed : ℕ → Sums → Summed
+summed s x = record { second = s; sums = x }
 
 -- up to the boundary j: what is noted there, or the total where the boundary is not reached yet
 unfoldable pub noted_to : Summed → ℕ → ℕ
-noted_to a j = pick (leb (half_hour * j) a.second) (get_or a.noted j 0) a.total
+noted_to a j = pick (leb (half_hour * j) a.second) (get_or a.sums.noted j 0) a.sums.total
 
 -- from a to b the sums up to each boundary have grown by f, which tells how much lies before a second
 abbrev pub Adds : (ℕ → ℕ) → Summed → Summed → Type 0
@@ -42,8 +42,8 @@ twice_bound = 2 * level_bound
 
 -- a place for each boundary, and a total that so many seconds may come to
 pub record SumsFit (a : Summed) : Type 0 where
-  pub places : length a.noted ≡ boundary_places
-  pub total : a.total ≤ a.second * twice_bound
+  pub places : length a.sums.noted ≡ boundary_places
+  pub total : a.sums.total ≤ a.second * twice_bound
 
 -- the sums a have become b: they have grown by f, and fit
 pub record Noted (f : ℕ → ℕ) (a b : Summed) : Type 0 where
@@ -119,11 +119,10 @@ pub record Watching (u : UnitData) (r : Route) (before : ℕ) (p : Place) (off :
   pub off_is : off ≡ (watch (trajectory_of u r.course) before (p.second - r.course.begin)).off
 
 -- what has been passed on the way from a place towards the second n, up to where the course is reached, which lies before n unless the way
--- began there: the sums a have become ys and the total
-pub record PassProgress (r : Route) (from : Place) (before n : ℕ) (a : Summed) (ys : List ℕ) (at : Reached)
-    (off total : ℕ) : Type 0 where
-  pub adds : AddsOn r.heading (lists_by r) (target_of r) from a (summed at.place.second ys total)
-  pub fits : SumsFit (summed at.place.second ys total)
+-- began there: the sums a have become x
+pub record PassProgress (r : Route) (from : Place) (before n : ℕ) (a : Summed) (x : Sums) (at : Reached) (off : ℕ) : Type 0 where
+  pub adds : AddsOn r.heading (lists_by r) (target_of r) from a (summed at.place.second x)
+  pub fits : SumsFit (summed at.place.second x)
   pub known : Known r.heading (lists_by r) (target_of r) at
   pub later : from.second ≤ at.place.second
   pub within : at.place.second ≤ n
@@ -134,8 +133,8 @@ pub record PassProgress (r : Route) (from : Place) (before n : ℕ) (a : Summed)
   pub watched : (u : UnitData) (b : ℕ) → Watching u r b from before → Watching u r b at.place off
 
 -- what has come of going on past every piece that ends before the second n, with the place at n
-pub record Passing (r : Route) (from : Place) (before n : ℕ) (a : Summed) (ys : List ℕ) (s : Passed) : Type 0 where
-  pub progress : PassProgress r from before n a ys s.reached s.off s.total
+pub record Passing (r : Route) (from : Place) (before n : ℕ) (a : Summed) (x : Sums) (s : Passed) : Type 0 where
+  pub progress : PassProgress r from before n a x s.reached s.off
   pub runs : s.reached.place.second < n → s.ahead ≡ onward r.heading (lists_by r) (target_of r) n s.reached.place
   pub there : s.ahead.second ≡ n
   pub ahead_low : s.ahead.level < level_bound

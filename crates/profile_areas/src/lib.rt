@@ -36,80 +36,69 @@ pub fn off_between(p: course_walk::Place, q: course_walk::Place, off: u32) -> u3
 
 // ---- areas
 
-// A level that goes straight on by `rate` a second, from one second to another: half-hour by half-hour its area is added to the
-// total, and the total noted at the boundary ahead, where it stays once the boundary is passed.
-fn note_line(
-    sums: &mut [u64; level::BOUNDARIES],
-    total: u64,
-    heading: course::Heading,
-    level: u64,
-    rate: u64,
-    from: u32,
-    to: u32,
-) -> u64
-    requires { LineAhead heading level rate from to (summed from sums.old total) }
-    ensures { Noted (line_from heading level rate from) (summed from sums.old total) (summed to sums.new result) }
-{
-    let mut at = from;
-    let mut v = level;
-    let mut sum = total;
-    for half in from / level::HALF_HOUR..to.div_ceil(level::HALF_HOUR) {
-        let n = to.min((half + 1) * level::HALF_HOUR);
-        let time = (n - at) as u64;
-        let w = course_walk::moved(heading, v, time * rate);
-        sum += time * (v + w);
-        sums[half as usize + 1] = sum;
-        at = n;
-        v = w;
-    }
-    sum
+// Twice the area of a day up to a second: what is noted at each half-hour boundary, and the total up to now.
+#[derive(Clone, Copy)]
+pub struct Sums {
+    pub noted: [u64; level::BOUNDARIES],
+    pub total: u64,
 }
 
-// The straight piece of a course from p to q, added to the total. A piece within one half-hour is one product.
-#[tactic(auto, unfolding(course::specs::Course::gap))]
-pub fn note_piece(
-    sums: &mut [u64; level::BOUNDARIES],
-    total: u64,
-    heading: course::Heading,
-    p: course_walk::Place,
-    q: course_walk::Place,
-) -> u64
-    requires { PieceAhead heading p q (summed p.second sums.old total) }
-    ensures { Noted (piece_from heading p q) (summed p.second sums.old total) (summed q.second sums.new result) }
-{
-    if q.second <= p.second {
-        return total;
+impl Sums {
+    // A level that goes straight on by `rate` a second, from one second to another: half-hour by half-hour its area is added to the
+    // total, and the total noted at the boundary ahead, where it stays once the boundary is passed.
+    fn note_line(&mut self, heading: course::Heading, level: u64, rate: u64, from: u32, to: u32)
+        requires { LineAhead heading level rate from to (summed from self.old) }
+        ensures { Noted (line_from heading level rate from) (summed from self.old) (summed to self.new) }
+    {
+        let mut at = from;
+        let mut v = level;
+        for half in from / level::HALF_HOUR..to.div_ceil(level::HALF_HOUR) {
+            let n = to.min((half + 1) * level::HALF_HOUR);
+            let time = (n - at) as u64;
+            let w = course_walk::moved(heading, v, time * rate);
+            self.total += time * (v + w);
+            self.noted[half as usize + 1] = self.total;
+            at = n;
+            v = w;
+        }
     }
-    let half = p.second / level::HALF_HOUR + 1;
-    let time = (q.second - p.second) as u64;
-    if half * level::HALF_HOUR < q.second {
-        let way = p.level.abs_diff(q.level);
-        return note_line(
-            sums,
-            total,
-            heading,
-            p.level,
-            way / time,
-            p.second,
-            q.second,
-        );
+
+    // The straight piece of a course from p to q, added to the total. A piece within one half-hour is one product.
+    #[tactic(auto, unfolding(course::specs::Course::gap))]
+    pub fn note_piece(
+        &mut self,
+        heading: course::Heading,
+        p: course_walk::Place,
+        q: course_walk::Place,
+    )
+        requires { PieceAhead heading p q (summed p.second self.old) }
+        ensures { Noted (piece_from heading p q) (summed p.second self.old) (summed q.second self.new) }
+    {
+        if q.second <= p.second {
+            return;
+        }
+        let half = p.second / level::HALF_HOUR + 1;
+        let time = (q.second - p.second) as u64;
+        if half * level::HALF_HOUR < q.second {
+            let way = p.level.abs_diff(q.level);
+            self.note_line(heading, p.level, way / time, p.second, q.second);
+        } else {
+            self.total += time * (p.level + q.level);
+            self.noted[half as usize] = self.total;
+        }
     }
-    let sum = total + time * (p.level + q.level);
-    sums[half as usize] = sum;
-    sum
 }
 
 // ---- along a course
 
-// How far a course was followed on the way to a second: where the last piece ended before it, the place at that second, the
-// seconds off at both, and the total at the first.
+// How far a course was followed on the way to a second: where the last piece ended before it, the place at that second, and the
+// seconds off at both.
 #[derive(Clone, Copy)]
 pub struct Passed {
     pub reached: course_walk::Reached,
     pub ahead: course_walk::Place,
     pub off: u32,
     pub later: u32,
-    pub total: u64,
 }
 
 // From where a course was reached towards the second n: every piece that ends before n is added. The one that n cuts is not:
@@ -117,19 +106,17 @@ pub struct Passed {
 // place at both of its calls, in the loop over those that act and at the day's end.
 #[inline(always)]
 pub fn pass_to(
-    sums: &mut [u64; level::BOUNDARIES],
-    before: u64,
+    sums: &mut Sums,
     r: &course_rates::Route,
     from: course_walk::Reached,
     begun: u32,
     n: u32,
 ) -> Passed
-    requires { CourseAhead r.now from n (summed from.place.second sums.old before) }
-    ensures { Passing r.now from.place begun n (summed from.place.second sums.old before) sums.new result }
+    requires { CourseAhead r.now from n (summed from.place.second sums.old) }
+    ensures { Passing r.now from.place begun n (summed from.place.second sums.old) sums.new result }
 {
     let mut at = from;
     let mut off = begun;
-    let mut total = before;
     while at.place.second < n {
         let p = at.place;
         let next = course_walk::walk_on(r, at, n);
@@ -141,10 +128,9 @@ pub fn pass_to(
                 ahead: q,
                 off,
                 later,
-                total,
             };
         }
-        total = note_piece(sums, total, r.heading, p, q);
+        sums.note_piece(r.heading, p, q);
         off = later;
         at = next;
     }
@@ -154,6 +140,5 @@ pub fn pass_to(
         ahead: p,
         off,
         later: off,
-        total,
     }
 }

@@ -120,7 +120,7 @@ module _ (u : UnitData) (r : Route) (own : r ≡ route_of u r.course) where
       begins : (a : ℕ) → a ≡ (beginning r.course a).second
       begins a = refl
 
-module _ (u : UnitData) (now : UnderWay) (total : ℕ) where
+module _ (u : UnitData) (now : UnderWay) where
   abbrev route : Route
   route = route_of u now.course
 
@@ -133,7 +133,7 @@ module _ (u : UnitData) (now : UnderWay) (total : ℕ) where
   course_is = refl
 
   pub set_out_sum : (end : ℕ) (os : List Numbered) (j : ℕ) →
-      pieces_to (spans_of u end (courses_from u now os)) (half_hour * j) ≡ sum_after u end now (set_out u now total) os j
+      pieces_to (spans_of u end (courses_from u now os)) (half_hour * j) ≡ sum_after u end now (set_out u now) os j
   unfolding sum_after set_out reached_at spans_of pieces_to route_of
   set_out_sum end os j =
       let n : ℕ = min (end_of u end now os) (half_hour * j) in
@@ -141,7 +141,7 @@ module _ (u : UnitData) (now : UnderWay) (total : ℕ) where
       ∙ ap (λ (k : ℕ). k + pieces_to (spans_of u end (courses_after u now os)) (half_hour * j)) (course_area u route own n)
 
   -- a course set out on is where its rule says
-  pub out_on : LowStart now.course → OnIt u now (set_out u now total)
+  pub out_on : LowStart now.course → OnIt u now (set_out u now)
   unfolding set_out reached_at beginning route_of
   out_on low =
       let w = watching_start u route now.off own in

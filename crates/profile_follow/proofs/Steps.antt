@@ -30,6 +30,7 @@ use Rattle.course_walk.specs.declared.Place.{Place}
 use Rattle.course_rates.specs.Ways.{target_of, lists_by}
 use Rattle.course_walk.specs.Walk.{reached_at, beginning, onward}
 use Rattle.course_walk.proofs.PieceStep.{PieceStep, onward_step}
+use Rattle.profile_areas.specs.declared.Sums.{Sums}
 use Rattle.profile_areas.specs.declared.Passed.{Passed}
 use Rattle.profile_areas.specs.Passing.{summed, noted_to, SumsFit, Noted, piece_from, Passing}
 use Rattle.profile_areas.proofs.Adding.{noted_there, noted_total}
@@ -61,15 +62,15 @@ last_step {g} {q} {n} cut sh lt =
 
 -- those that act all told, and those that are left; the walk so far, the course under way with its lists, and the sums
 pub record FollowProgress (u : UnitData) (end : ℕ) (first : UnderWay) (all left : List Numbered) (w : Walk) (g : OnCourse)
-    (ys : List ℕ) : Type 0 where
+    (x : Sums) : Type 0 where
   pub walked : WalkProgress u w left (follow by_rule u first all)
   pub few : length w.courses.these ≤ length w.fates.these + 1
   pub on : OnIt u w.now g
   pub ordered : Ordered end g.reached.place.second left
   pub starts : All LowStart (courses_from u w.now left)
   pub sums : (j : ℕ) → j ≤ most_half_hours →
-      noted_to (sums_at g ys) j + sum_after u end w.now g left j ≡ pieces_to (spans_of u end (courses_from u first all)) (half_hour * j)
-  pub fits : SumsFit (sums_at g ys)
+      noted_to (sums_at g x) j + sum_after u end w.now g left j ≡ pieces_to (spans_of u end (courses_from u first all)) (half_hour * j)
+  pub fits : SumsFit (sums_at g x)
 
 -- ---- at 06:00
 
@@ -78,40 +79,43 @@ zeros zero j = refl
 zeros (suc n) zero = refl
 zeros (suc n) (suc j) = zeros n j
 
-nothing : (s j : ℕ) → noted_to (summed s (replicate boundary_places 0) 0) j ≡ 0
+abbrev no_sums : Sums
+no_sums = record { noted = replicate boundary_places 0; total = 0 }
+
+nothing : (s j : ℕ) → noted_to (summed s no_sums) j ≡ 0
 nothing s j = elim (dec_le (half_hour * j) s) [
-  | yes h ↦ noted_there (summed s (replicate boundary_places 0) 0) j h ∙ zeros boundary_places j
-  | no h ↦ noted_total (summed s (replicate boundary_places 0) 0) j (omega arith)
+  | yes h ↦ noted_there (summed s no_sums) j h ∙ zeros boundary_places j
+  | no h ↦ noted_total (summed s no_sums) j (omega arith)
 ]
 
 pub progress_start : {u : UnitData} {end : ℕ} {first : UnderWay} {all : List Numbered} {w : Walk} {g : OnCourse} →
-    w ≡ walk_of first (record { marks = []; courses = first ∷ [] }) → g ≡ set_out u first 0 →
+    w ≡ walk_of first (record { marks = []; courses = first ∷ [] }) → g ≡ set_out u first →
     Ordered end first.course.begin all → All LowStart (courses_from u first all) →
-    FollowProgress u end first all all w g (replicate boundary_places 0)
+    FollowProgress u end first all all w g no_sums
 unfolding walk_of set_out reached_at beginning
 progress_start {u} {end} {first} {all} {w} {g} a e ord low = rw (a, e) (record {
   walked = walked_start u first all;
   few = omega arith;
-  on = out_on u first 0 (rw (from_head u first all) at low).0;
+  on = out_on u first (rw (from_head u first all) at low).0;
   ordered = ord;
   starts = low;
-  sums = λ j h. omega (arith, nothing first.course.begin j, set_out_sum u first 0 end all j);
+  sums = λ j h. omega (arith, nothing first.course.begin j, set_out_sum u first end all j);
   fits = record { places = refl; total = omega arith };
 })
 
 -- ---- up to the next acting second, or the day's end
-module _ {u : UnitData} {end : ℕ} {first : UnderWay} {all left : List Numbered} {w : Walk} {g : OnCourse} {ys : List ℕ}
-    (f : FollowProgress u end first all left w g ys) where
+module _ {u : UnitData} {end : ℕ} {first : UnderWay} {all left : List Numbered} {w : Walk} {g : OnCourse} {x : Sums}
+    (f : FollowProgress u end first all left w g x) where
   abbrev next : ℕ
   next = second_of end left
 
   pub order : NextActs end g.reached.place.second left
   order = ordered_next end g.reached.place.second left f.ordered
 
-  pub progress_pass : {s : Passed} {zs : List ℕ} → Passing g.route g.reached.place g.off next (sums_at g ys) zs s →
-      FollowProgress u end first all left w (went_to g s) zs
+  pub progress_pass : {s : Passed} {z : Sums} → Passing g.route g.reached.place g.off next (sums_at g x) z s →
+      FollowProgress u end first all left w (went_to g s) z
   unfolding sum_after
-  progress_pass {s} {zs} passing =
+  progress_pass {s} passing =
       let p = passing.progress in
       record {
         walked = f.walked;
@@ -132,7 +136,7 @@ module _ {u : UnitData} {end : ℕ} {first : UnderWay} {all left : List Numbered
 
 -- ---- an instruction acts
 module _ {u : UnitData} {end : ℕ} {first : UnderWay} {all : List Numbered} {act : Numbered} {left : List Numbered} {w : Walk} {g : OnCourse}
-    {ys : List ℕ} (f : FollowProgress u end first all (act ∷ left) w g ys) where
+    {x : Sums} (f : FollowProgress u end first all (act ∷ left) w g x) where
   abbrev whole : Followed
   whole = follow by_rule u first all
 
@@ -149,7 +153,7 @@ module _ {u : UnitData} {end : ℕ} {first : UnderWay} {all : List Numbered} {ac
   p = g.reached.place
 
   -- without effect: the course goes on
-  pub progress_on : comes_to by_rule u w.now act ≡ None → FollowProgress u end first all left (went_on w) g ys
+  pub progress_on : comes_to by_rule u w.now act ≡ None → FollowProgress u end first all left (went_on w) g x
   unfolding sum_after went_on
   progress_on e =
       let same : courses_after u w.now (act ∷ left) ≡ courses_after u w.now left = after_on u w.now act left e in
@@ -160,7 +164,7 @@ module _ {u : UnitData} {end : ℕ} {first : UnderWay} {all : List Numbered} {ac
         ordered = ordered_less end p.second (acting act) left f.ordered.0 f.ordered.1;
         starts = subst (All LowStart) (from_head u w.now (act ∷ left) ∙ ap (λ (cs : List Course). w.now.course ∷ cs) same
             ∙ sym (from_head u w.now left)) f.starts;
-        sums = subst (λ (cs : List Course). (j : ℕ) → j ≤ most_half_hours → noted_to (sums_at g ys) j
+        sums = subst (λ (cs : List Course). (j : ℕ) → j ≤ most_half_hours → noted_to (sums_at g x) j
             + (twice_on g.route (min (begin_of end cs) (half_hour * j)) p + pieces_to (spans_of u end cs) (half_hour * j))
             ≡ pieces_to (spans_of u end (courses_from u first all)) (half_hour * j)) same f.sums;
         fits = f.fits;
@@ -184,31 +188,31 @@ module _ {u : UnitData} {end : ℕ} {first : UnderWay} {all : List Numbered} {ac
     begins_here : then.course.begin ≡ q.second
     begins_here = begins_there u w.now act set ∙ sym cut.there
 
-    pub progress_new : {zs : List ℕ} {total : ℕ} {d : UnderWay} {g' : OnCourse} → d ≡ then → g' ≡ set_out u d total →
-        Noted (piece_from h p q) (sums_at g ys) (summed q.second zs total) → FollowProgress u end first all left (replaced_by w d) g' zs
+    pub progress_new : {z : Sums} {d : UnderWay} {g' : OnCourse} → d ≡ then → g' ≡ set_out u d →
+        Noted (piece_from h p q) (sums_at g x) (summed q.second z) → FollowProgress u end first all left (replaced_by w d) g' z
     unfolding set_out reached_at beginning replaced_by
-    progress_new {zs} {total} {d} {g'} is out-is noted =
+    progress_new {z} {d} {g'} is out-is noted =
         rw (out-is, is) (record {
           walked = walked_new u w act left whole f.walked set new;
           few = simp length-append (omega (arith, f.few));
-          on = out_on u then total (rw (from_head u then left) at later_starts).0;
+          on = out_on u then (rw (from_head u then left) at later_starts).0;
           ordered = subst (λ (k : ℕ). Ordered end k left) (sym (begins_here ∙ cut.there)) f.ordered.1;
           starts = later_starts;
           sums = λ j k. omega (
             arith,
             f.sums j k,
             by_end j,
-            subst (λ (i : ℕ). noted_to (summed i zs total) j ≡ noted_to (sums_at g ys) j + twice_on g.route (min q.second (half_hour * j)) p)
+            subst (λ (i : ℕ). noted_to (summed i z) j ≡ noted_to (sums_at g x) j + twice_on g.route (min q.second (half_hour * j)) p)
                 (sym begins_here)
                 (piece_on h ls t q.second p q (last_step cut f.on.watching.short) (omega (arith, f.ordered.0, cut.there)) noted j k),
-            set_out_sum u then total end left j,
+            set_out_sum u then end left j,
           );
-          fits = subst (λ (k : ℕ). SumsFit (summed k zs total)) (sym begins_here) noted.fits;
+          fits = subst (λ (k : ℕ). SumsFit (summed k z)) (sym begins_here) noted.fits;
         })
 
 -- ---- the day's end
-module _ {u : UnitData} {halves : ℕ} {first : UnderWay} {all : List Numbered} {w : Walk} {g : OnCourse} {ys : List ℕ}
-    {q : Place} (v : FollowProgress u (half_hour * halves) first all [] w g ys) (long : halves ≤ most_half_hours)
+module _ {u : UnitData} {halves : ℕ} {first : UnderWay} {all : List Numbered} {w : Walk} {g : OnCourse} {x : Sums}
+    {q : Place} (v : FollowProgress u (half_hour * halves) first all [] w g x) (long : halves ≤ most_half_hours)
     (cut : CutAt g q (half_hour * halves)) where
   abbrev end : ℕ
   end = half_hour * halves
@@ -224,28 +228,29 @@ module _ {u : UnitData} {halves : ℕ} {first : UnderWay} {all : List Numbered} 
   sum_last j = (λ k. twice_there (min ((end_none u end w.now ∙ sym cut.there) k) (half_hour * j))
       + pieces_to (spans_of u end (after_none u w.now k)) (half_hour * j)) ∙ omega arith
 
-  module _ {zs : List ℕ} {total : ℕ} (noted : Noted (piece_from g.route.heading g.reached.place q) (sums_at g ys) (summed q.second zs total))
+  module _ {z : Sums} (noted : Noted (piece_from g.route.heading g.reached.place q) (sums_at g x) (summed q.second z))
     where
       -- what is noted at a boundary of the day
-      noted_at : (j : ℕ) → j ≤ halves → get_or zs j 0 ≡ twin_to ss j
+      noted_at : (j : ℕ) → j ≤ halves → get_or z.noted j 0 ≡ twin_to ss j
       unfolding twin_to
       noted_at j h = omega (
         arith,
         v.sums j (omega arith),
         sum_last j,
-        noted_there (summed q.second zs total) j (omega (arith, cut.there)),
+        noted_there (summed q.second z) j (omega (arith, cut.there)),
         piece_on g.route.heading (lists_by g.route) (target_of g.route) q.second g.reached.place q
             (last_step cut v.on.watching.short) (omega (arith, v.ordered, cut.there)) noted j (omega arith),
       )
 
-      all_noted : take (suc halves) zs ≡ list_from (twin_to ss) 0 (suc halves)
+      all_noted : take (suc halves) z.noted ≡ list_from (twin_to ss) 0 (suc halves)
       all_noted =
-          let m : length (take (suc halves) zs) ≡ suc halves = length-take-le (suc halves) zs (omega (arith, noted.fits.places)) in
-          places_same 0 (take (suc halves) zs) (list_from (twin_to ss) 0 (suc halves)) (m ∙ sym (list_length (twin_to ss) 0 (suc halves)))
-          (λ j h. get_or-take (suc halves) zs j 0 (omega (arith, m)) ∙ noted_at j (omega (arith, m)) ∙ ap (twin_to ss) {x = j} {y = 0 + j} (omega arith)
-          ∙ sym (list_at (twin_to ss) 0 (suc halves) j (omega (arith, m))))
+          let m : length (take (suc halves) z.noted) ≡ suc halves = length-take-le (suc halves) z.noted (omega (arith, noted.fits.places)) in
+          places_same 0 (take (suc halves) z.noted) (list_from (twin_to ss) 0 (suc halves)) (m ∙ sym (list_length (twin_to ss) 0 (suc halves)))
+          (λ j h. get_or-take (suc halves) z.noted j 0 (omega (arith, m)) ∙ noted_at j (omega (arith, m))
+          ∙ ap (twin_to ss) {x = j} {y = 0 + j} (omega arith) ∙ sym (list_at (twin_to ss) 0 (suc halves) j (omega (arith, m))))
 
-      pub progress_end : {s : State} {r : FollowedDay} → s ≡ state_at by_rule u w.now end → r ≡ ended w zs s halves → FollowedBy u first all halves r
+      pub progress_end : {s : State} {r : FollowedDay} → s ≡ state_at by_rule u w.now end → r ≡ ended w z.noted s halves →
+          FollowedBy u first all halves r
       unfolding walk_all walk_of ended
       progress_end state e =
           let all-walked : w ≡ walk_of (last_in u first all) (follow by_rule u first all) =

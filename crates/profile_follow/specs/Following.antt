@@ -18,6 +18,7 @@ use Rattle.course_rates.specs.Ways.{target_of, route_of, lists_by}
 use Rattle.course_walk.specs.declared.Place.{Place}
 use Rattle.course_walk.specs.Walk.{reached_at, Known, beginning, twice_to}
 use Rattle.profile_areas.specs.Watching.{off_starting}
+use Rattle.profile_areas.specs.declared.Sums.{Sums}
 use Rattle.profile_areas.specs.declared.Passed.{Passed}
 use Rattle.profile_areas.specs.Passing.{Summed, summed, Watching}
 use Rattle.profile_follow.specs.declared.Walk.{Walk}
@@ -25,24 +26,23 @@ use Rattle.profile_follow.specs.declared.OnCourse.{OnCourse}
 use Rattle.profile_follow.specs.declared.FollowedDay.{FollowedDay}
 use Rattle.profile_follow.specs.Walk.{walk_all}
 
--- a course at its beginning, with the total up to there
-unfoldable pub set_out : UnitData → UnderWay → ℕ → OnCourse
-set_out u now total =
+-- a course at its beginning
+unfoldable pub set_out : UnitData → UnderWay → OnCourse
+set_out u now =
     let r : Route = route_of u now.course in
     record {
       route = r;
       reached = reached_at r.heading (lists_by r) (target_of r) (beginning now.course now.course.begin);
       off = off_starting now.course now.off;
-      total = total;
     }
 
 -- the same course further on
 abbrev pub went_to : OnCourse → Passed → OnCourse
-went_to g s = record { route = g.route; reached = s.reached; off = s.off; total = s.total }
+went_to g s = record { route = g.route; reached = s.reached; off = s.off }
 
 -- the day summed up to where it is reached
-abbrev pub sums_at : OnCourse → List ℕ → Summed
-sums_at g ys = summed g.reached.place.second ys g.total
+abbrev pub sums_at : OnCourse → Sums → Summed
+sums_at g x = summed g.reached.place.second x
 
 -- where the first of those left acts, else the day's end
 abbrev pub second_of : ℕ → List Numbered → ℕ

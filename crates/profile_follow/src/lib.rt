@@ -10,6 +10,7 @@ ghost use Rattle.profile_follow.specs.Following.{set_out, went_to, Followable, e
 use course::Course;
 use level::{COURSES, Few, INSTRUCTIONS};
 use profile::{State, UnderWay};
+use profile_areas::Sums;
 use records::UnitData;
 use validation::Numbered;
 
@@ -60,21 +61,19 @@ impl Walk {
     }
 }
 
-// How far the course under way is followed: its route, where it was reached, the seconds off there, and twice the area of the
-// day up to there.
+// How far the course under way is followed: its route, where it was reached, and the seconds off there.
 #[derive(Clone, Copy)]
 pub struct OnCourse {
     pub route: course_rates::Route,
     pub reached: course_walk::Reached,
     pub off: u32,
-    pub total: u64,
 }
 
 impl OnCourse {
-    // A course at its beginning, with the total up to there.
+    // A course at its beginning.
     #[tactic(auto, unfolding(crate::specs::Following::set_out, course_rates::specs::Ways::route_of, course_walk::specs::Walk::beginning))]
-    fn set_out(u: UnitData, now: UnderWay, total: u64) -> OnCourse
-        ensures { result ≡ set_out u now total }
+    fn set_out(u: UnitData, now: UnderWay) -> OnCourse
+        ensures { result ≡ set_out u now }
     {
         let route = course_rates::Route::new(u, now.course);
         let reached = course_walk::begin_at(&route, 0);
@@ -83,7 +82,6 @@ impl OnCourse {
             route,
             reached,
             off,
-            total,
         }
     }
 
@@ -94,7 +92,6 @@ impl OnCourse {
         OnCourse {
             reached: s.reached,
             off: s.off,
-            total: s.total,
             ..self
         }
     }
@@ -141,11 +138,14 @@ pub fn follow_day(u: UnitData, first: UnderWay, acts: &[Numbered], halves: u32) 
     ensures { FollowedBy u first acts.now halves result }
 {
     let mut w = Walk::begin(first);
-    let mut g = OnCourse::set_out(u, first, 0);
-    let mut sums = [0u64; level::BOUNDARIES];
+    let mut g = OnCourse::set_out(u, first);
+    let mut sums = Sums {
+        noted: [0; level::BOUNDARIES],
+        total: 0,
+    };
     for o in acts {
         let t = o.acting() as u32;
-        let s = profile_areas::pass_to(&mut sums, g.total, &g.route, g.reached, g.off, t);
+        let s = profile_areas::pass_to(&mut sums, &g.route, g.reached, g.off, t);
         let state = state_at(s.ahead, s.later);
         match profile_effects::outcome_of(u, w.now, *o, state) {
             None => {
@@ -153,23 +153,15 @@ pub fn follow_day(u: UnitData, first: UnderWay, acts: &[Numbered], halves: u32) 
                 g = g.further(s);
             }
             Some(set) => {
-                let p = s.reached.place;
-                let total = profile_areas::note_piece(
-                    &mut sums,
-                    s.total,
-                    g.route.heading,
-                    p,
-                    s.ahead,
-                );
+                sums.note_piece(g.route.heading, s.reached.place, s.ahead);
                 let next = profile_effects::begin_course(u, *o, set, state);
                 w.replace(next);
-                g = OnCourse::set_out(u, next, total);
+                g = OnCourse::set_out(u, next);
             }
         }
     }
     let end = level::HALF_HOUR * halves;
-    let s = profile_areas::pass_to(&mut sums, g.total, &g.route, g.reached, g.off, end);
-    let p = s.reached.place;
-    profile_areas::note_piece(&mut sums, s.total, g.route.heading, p, s.ahead);
-    end_day(w, sums, state_at(s.ahead, s.later), halves)
+    let s = profile_areas::pass_to(&mut sums, &g.route, g.reached, g.off, end);
+    sums.note_piece(g.route.heading, s.reached.place, s.ahead);
+    end_day(w, sums.noted, state_at(s.ahead, s.later), halves)
 }

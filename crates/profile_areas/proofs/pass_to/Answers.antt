@@ -18,8 +18,8 @@ returns-then-n-q c =
     let x = next_piece c.loop-at.invariant c.loop-at-test.true to.onward to.low in
     progress_cut c.loop-at.invariant x c.off_between-later.ensures (omega arith)
 
-pub note_piece-total-requires : goal.note_piece-total-requires
-note_piece-total-requires c =
+pub note_piece-requires : goal.note_piece-requires
+note_piece-requires c =
     let to = c.walk_on-next.ensures in
     let x = next_piece c.loop-at.invariant c.loop-at-test.true to.onward to.low in
     record {
@@ -41,4 +41,4 @@ pub loop-at-preserved : goal.loop-at-preserved
 loop-at-preserved c =
     let to = c.walk_on-next.ensures in
     let x = next_piece c.loop-at.invariant c.loop-at-test.true to.onward to.low in
-    progress_more c.loop-at.invariant x c.off_between-later.ensures (omega arith) to.known c.note_piece-total.ensures
+    progress_more c.loop-at.invariant x c.off_between-later.ensures (omega arith) to.known c.note_piece.ensures

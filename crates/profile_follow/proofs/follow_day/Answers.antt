@@ -22,8 +22,8 @@ overflow_cast-t c =
 pub pass_to-s-requires : goal.pass_to-s-requires
 pass_to-s-requires c = course_ahead c.requires.long (one_acts c.loop-o.invariant c.loop-o-test.true) c.acting-t.ensures.0
 
-pub note_piece-total-requires : goal.note_piece-total-requires
-note_piece-total-requires c =
+pub note_piece-requires : goal.note_piece-requires
+note_piece-requires c =
     piece_ahead c.requires.long (one_acts c.loop-o.invariant c.loop-o-test.true) c.acting-t.ensures.0 c.pass_to-s.ensures
 
 pub loop-o-preserved : goal.loop-o-preserved
@@ -40,16 +40,16 @@ loop-o-preserved c =
           rw (w.w-is, w.g-is, w.sums-is, w.replace.ensures) (record {
             acted = simp length-append (omega (arith, c.loop-o.invariant.acted));
             progress = progress_new x.progress (x.comes c.outcome_of.ensures w.in-Some.is) x.cut
-                (x.begins w.in-Some.set w.begin_course-next.ensures) w.set_out-g-in-Some.ensures w.note_piece-total.ensures;
+                (x.begins w.in-Some.set w.begin_course-next.ensures) w.set_out-g-in-Some.ensures w.note_piece.ensures;
           })
     ]
 
-pub note_piece-requires : goal.note_piece-requires
-note_piece-requires c = piece_ahead c.requires.long (none_left c.loop-o.invariant c.loop-o-test.false) refl c.pass_to-s-2.ensures
+pub note_piece-requires-2 : goal.note_piece-requires-2
+note_piece-requires-2 c = piece_ahead c.requires.long (none_left c.loop-o.invariant c.loop-o-test.false) refl c.pass_to-s-2.ensures
 
 pub returns : goal.returns
 returns c =
     let f = none_left c.loop-o.invariant c.loop-o-test.false in
     progress_end (gone_on c.requires.long f refl c.pass_to-s-2.ensures) c.requires.long
-    (cut_at c.requires.long f refl c.pass_to-s-2.ensures) c.note_piece.ensures (c.state_at.ensures ∙ state_there c.requires.long f refl c.pass_to-s-2.ensures)
-    c.end_day.ensures
+    (cut_at c.requires.long f refl c.pass_to-s-2.ensures) c.note_piece-2.ensures
+    (c.state_at.ensures ∙ state_there c.requires.long f refl c.pass_to-s-2.ensures) c.end_day.ensures
