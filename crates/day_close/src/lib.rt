@@ -39,7 +39,8 @@ fn lay_fates(fates: &mut [u8], acts: &[Numbered], own: &[u8])
 
 // ---- what close finds
 
-// From what was taken, in a day of so many half-hours. A count above the places that there are reads like them all.
+// From what was taken, in a day of so many half-hours. A count above the places that there are reads like them all. (At most 48
+// half-hours are asked here and of three functions below it; no type holds that, since each of them goes by the number alone.)
 pub fn find(t: Taken, halves: u32) -> Finding
     requires { halves ≤ most_half_hours }
     ensures { result ≡ arrays_of (found paper halves t) }

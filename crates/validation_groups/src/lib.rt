@@ -184,7 +184,8 @@ fn used_any(os: &[Numbered], end: u32) -> Sequence
 }
 
 // Those used, in the order of their effective times. Two ways: where they stand in time order, as they mostly do, one walk finds them; else
-// each next time is looked for, so that nothing is sorted.
+// each next time is looked for, so that nothing is sorted. Which it is, `in_order` finds once; it goes beside the slice, since a struct of
+// both would be made for three calls.
 pub fn used_in(os: &[Numbered], end: u32, ordered: bool) -> Sequence
     requires { UsedAsked os.now ordered }
     ensures exactly { result ≡ sequence_of (used end os.now) }
