@@ -15,7 +15,7 @@ use validation::{Numbered, place_of};
 
 // ---- the fates
 
-// One fate laid over what validation gave: a number that has no place, and a fate of 1, which step 1 settled, change nothing.
+// One fate laid over what validation gave; nothing where the number has no place, or where step 1 settled the fate: a 1 stays.
 #[tactic(auto, using(crate::proofs::Laying::overs))]
 fn lay_fate(fates: &mut [u8], number: u32, fate: u8)
     ensures { fates.new ≡ over_fate fates.old number fate }
@@ -40,7 +40,7 @@ fn lay_fates(fates: &mut [u8], acts: &[Numbered], own: &[u8])
 // ---- what close finds
 
 // From what was taken, in a day of so many half-hours. A count above the places that there are reads like them all. (At most 48
-// half-hours are asked here and of three functions below it; no type holds that, since each of them goes by the number alone.)
+// half-hours are asked by four public functions, this among them; no type holds that, since each of them goes by the number alone.)
 pub fn find(t: Taken, halves: u32) -> Finding
     requires { halves ≤ most_half_hours }
     ensures { result ≡ arrays_of (found paper halves t) }
