@@ -6,7 +6,7 @@ ghost use Rattle.level.specs.Level.{grains};
 ghost use Rattle.records.specs.Heats.{heat_number};
 ghost use Rattle.course.specs.Lists.{place_of, column_for, replaced};
 ghost use Rattle.course.specs.Course.{passed, rate_at};
-ghost use Rattle.course_rates.specs.Ways.{GrainsOf, heading_of, ramp_for, route_of, lists_by, has_passed};
+ghost use Rattle.course_rates.specs.Ways.{GrainsOf, heading_of, ramp_for, route_with, route_of, lists_by, has_passed};
 
 // So many kW in grains. It stands beside `Level::from_kw` for its contract: how many they are, and below 2^38, as a course's levels are.
 #[tactic(auto, unfolding(level::specs::Level::from_kw, level::specs::Level::grains))]
@@ -18,7 +18,7 @@ pub fn grains_of(kw: u32) -> u64
 
 // The place of a heat's column.
 #[tactic(auto, unfolding(course::specs::Lists::place_of))]
-fn place_of(heat: records::Heat) -> usize
+fn place_for(heat: records::Heat) -> usize
     ensures { (result ≡ place_of (heat_number heat)) × (result < 3) }
 {
     match heat {
@@ -28,13 +28,21 @@ fn place_of(heat: records::Heat) -> usize
     }
 }
 
-// The start-up column of a heat. A number that no record can have reads like cold.
-#[tactic(auto, unfolding(course::specs::Lists::column_for), using(crate::proofs::Rates::place_by_heat))]
+// The same by the heat's number. One that no record can have reads like cold.
+#[tactic(auto, using(crate::proofs::Rates::place_by_heat))]
+pub fn place_of(heat: u32) -> usize
+    ensures { (result ≡ place_of heat) × (result < 3) }
+{
+    let known = records::Heat::try_from(heat);
+    place_for(known.unwrap_or(records::Heat::Cold))
+}
+
+// The start-up column of a heat.
+#[tactic(auto, unfolding(course::specs::Lists::column_for))]
 pub fn column_for(u: records::UnitData, heat: u32) -> records::Column
     ensures { result ≡ column_for u heat }
 {
-    let known = records::Heat::try_from(heat);
-    u.columns[place_of(known.unwrap_or(records::Heat::Cold))]
+    u.columns[place_of(heat)]
 }
 
 // Whether a course rises or falls. One that begins at its target has no way to go, and falls.
@@ -48,7 +56,7 @@ pub fn heading_of(c: course::Course) -> course::Heading
 }
 
 // The ramp of a heading: ramp-up for a rising course, ramp-down for a falling one.
-fn ramp_for(u: records::UnitData, heading: course::Heading) -> records::Ramp
+pub fn ramp_for(u: records::UnitData, heading: course::Heading) -> records::Ramp
     ensures { result ≡ ramp_for u heading }
 {
     match heading {
@@ -110,7 +118,13 @@ impl Route {
     pub fn new(u: records::UnitData, c: course::Course) -> Route
         ensures { result ≡ route_of u c }
     {
-        let heading = heading_of(c);
+        Route::headed(u, c, heading_of(c))
+    }
+
+    // The same with the ramp of either heading.
+    pub fn headed(u: records::UnitData, c: course::Course, heading: course::Heading) -> Route
+        ensures { result ≡ route_with u c heading }
+    {
         let column = column_for(u, c.heat);
         let ramp = ramp_for(u, heading);
         let dwells = u.dwells;

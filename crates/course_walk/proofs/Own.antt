@@ -1,6 +1,6 @@
 -- A course's own lists do for it what the unit's do: a heading never looks at the other's ramp.
 use Prim.Native.Nat.{ℕ, zero, suc, ◌+◌, ◌-◌, min}
-use mathlib.Core.Path.{◌≡◌, refl, ap, sym, subst}
+use mathlib.Core.Path.{◌≡◌, refl, ap, sym, ◌∙◌, subst}
 use mathlib.Core.List.{List, [], ◌∷◌, ◌++◌}
 use lib.Dec.{ltb, eqb}
 use lib.ListN.{length}
@@ -15,7 +15,7 @@ use Rattle.course.specs.Course.{Moment, toward, gap, in_use, rate_at, breaks_in_
 use Rattle.course.specs.Pieces.{piece, pieces_of}
 use Rattle.course_rates.specs.declared.Route.{Route}
 use Rattle.course_walk.specs.declared.Place.{Place}
-use Rattle.course_rates.specs.Ways.{lists_in, heading_of, route_with, route_of, lists_by}
+use Rattle.course_rates.specs.Ways.{lists_in, route_with, route_of, lists_by}
 use Rattle.course_stops.specs.Ahead.{segment_to, segment_from}
 use Rattle.course_walk.specs.Walk.{moment_of, after_hold, after_rest, along, onward, segments_from, pieces_left, twice_to}
 use Rattle.course_walk.proofs.Areas.{area_same}
@@ -75,29 +75,52 @@ unfolding rate_at in_use candidates breaks_in_use triggers next_stop hold_at lis
 own_alike u c Rising = record { rate = λ v. refl; all = λ t. refl; next = λ t v. refl; hold = λ t v. refl }
 own_alike u c Falling = record { rate = λ v. refl; all = λ t. refl; next = λ t v. refl; hold = λ t v. refl }
 
-module _ (u : UnitData) (r : Route) (own : r ≡ route_of u r.course) where
+module _ (u : UnitData) (r : Route) where
   abbrev l : Lists
   l = lists_by r
 
   abbrev m : Lists
   m = lists_in u r.course
 
-  pub alike : Alike r.heading l m
-  unfolding route_of
-  alike = subst (λ (x : Route). Alike x.heading (lists_by x) m) (sym own) (own_alike u r.course (heading_of r.course))
+  -- by either heading
+  module _ (own : r ≡ route_with u r.course r.heading) where
+    pub headed_alike : Alike r.heading l m
+    headed_alike = subst (λ (x : Route). Alike x.heading (lists_by x) m) (sym own) (own_alike u r.course r.heading)
 
-  pub own_segments : (t v : ℕ) → segments_from r.heading l t v ≡ segments_from r.heading m t v
-  own_segments t v = alike_segments r.heading l m alike t v
+    pub headed_segments : (t v : ℕ) → segments_from r.heading l t v ≡ segments_from r.heading m t v
+    headed_segments t v = alike_segments r.heading l m headed_alike t v
 
-  module _ (t n : ℕ) (p : Place) where
-    pub own_onward : onward r.heading l t n p ≡ onward r.heading m t n p
-    own_onward = alike_onward r.heading l m alike t n p
+    module _ (t n : ℕ) (p : Place) where
+      pub headed_onward : onward r.heading l t n p ≡ onward r.heading m t n p
+      headed_onward = alike_onward r.heading l m headed_alike t n p
 
-    pub own_twice : twice_to r.heading l t n p ≡ twice_to r.heading m t n p
-    own_twice = alike_twice r.heading l m alike t n p
+      pub headed_twice : twice_to r.heading l t n p ≡ twice_to r.heading m t n p
+      headed_twice = alike_twice r.heading l m headed_alike t n p
 
-    pub own_left : pieces_left r.heading l t n p ≡ pieces_left r.heading m t n p
-    unfolding pieces_left
-    own_left =
-        let held : ℕ = min (p.second + p.left) n in
-        ap (λ (ls : List Segment). piece p.second held p.level p.level ++ pieces_of r.heading n held p.level ls) (own_segments t p.level)
+      pub headed_left : pieces_left r.heading l t n p ≡ pieces_left r.heading m t n p
+      unfolding pieces_left
+      headed_left =
+          let held : ℕ = min (p.second + p.left) n in
+          ap (λ (ls : List Segment). piece p.second held p.level p.level ++ pieces_of r.heading n held p.level ls) (headed_segments t p.level)
+
+  -- so by the course's own heading
+  module _ (own : r ≡ route_of u r.course) where
+    headed : r ≡ route_with u r.course r.heading
+    unfolding route_of
+    headed = own ∙ ap (route_with u r.course) (sym (ap (λ (x : Route). x.heading) own))
+
+    pub alike : Alike r.heading l m
+    alike = headed_alike headed
+
+    pub own_segments : (t v : ℕ) → segments_from r.heading l t v ≡ segments_from r.heading m t v
+    own_segments = headed_segments headed
+
+    module _ (t n : ℕ) (p : Place) where
+      pub own_onward : onward r.heading l t n p ≡ onward r.heading m t n p
+      own_onward = headed_onward headed t n p
+
+      pub own_twice : twice_to r.heading l t n p ≡ twice_to r.heading m t n p
+      own_twice = headed_twice headed t n p
+
+      pub own_left : pieces_left r.heading l t n p ≡ pieces_left r.heading m t n p
+      own_left = headed_left headed t n p

@@ -47,7 +47,7 @@ fn take_instruction(taken: &mut Taken, closed: bool, input: &[u8]) -> Result<usi
 }
 
 // A close of the day.
-fn take_close(day: &mut Day) -> Result<usize, Refusal>
+pub fn take_close(day: &mut Day) -> Result<usize, Refusal>
     ensures { stepped result day.new ≡ close_taken (found_in paper) day.old }
 {
     day_enter::close_front(day.taken.start.is_some(), day.found.is_some())?;

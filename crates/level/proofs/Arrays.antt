@@ -8,6 +8,16 @@ use lib.ListN.{length, get_or, take, set, replicate, length-append, length-repli
 use lib.Seq.{get_or-take, length-take-le, take-take, take-append_seam, take-append-le, take-set-lt, set-append_seam, set-append_left}
 use Rattle.level.specs.Lists.{filled}
 
+get_or_none : {A : Type 0} (n j : ℕ) (z : A) → get_or (replicate n z) j z ≡ z
+get_or_none zero j z = refl
+get_or_none (suc n) zero z = refl
+get_or_none (suc n) (suc j) z = get_or_none n j z
+
+get_or_behind : {A : Type 0} (xs ys : List A) (z : A) (j : ℕ) → length xs ≤ j → ((i : ℕ) → get_or ys i z ≡ z) → get_or (xs ++ ys) j z ≡ z
+get_or_behind [] ys z j h e = e j
+get_or_behind (x ∷ xs) ys z zero h e = absurd (omega arith)
+get_or_behind (x ∷ xs) ys z (suc j) h e = get_or_behind xs ys z j (omega arith) e
+
 module _ {A : Type 0} (z : A) (n : ℕ) (xs : List A) where
   pub filled_length : length (filled n z xs) ≡ n
   unfolding filled
@@ -16,6 +26,10 @@ module _ {A : Type 0} (z : A) (n : ℕ) (xs : List A) where
   pub filled_at : (j : ℕ) (d : A) → j < length xs → j < n → get_or (filled n z xs) j d ≡ get_or xs j d
   unfolding filled
   filled_at j d h k = get_or-take n (xs ++ replicate n z) j d k ∙ get_or-append xs (replicate n z) d j h
+
+  pub filled_past : (j : ℕ) → length xs ≤ j → j < n → get_or (filled n z xs) j z ≡ z
+  unfolding filled
+  filled_past j h k = get_or-take n (xs ++ replicate n z) j z k ∙ get_or_behind xs (replicate n z) z j h (λ i. get_or_none n i z)
 
 -- the same at each place, the same array
 pub places_same : {A : Type 0} (d : A) (xs ys : List A) → length xs ≡ length ys → ((j : ℕ) → j < length xs → get_or xs j d ≡ get_or ys j d) → xs ≡ ys

@@ -226,7 +226,7 @@ module _ (f : ℕ → ℕ) where
   end_here k i zero h e = absurd (omega arith)
   end_here k i (suc n) h e = simp (ne_eqb (f i) k e)
 
-  end_none : (k i n : ℕ) → n ≤ 0 → run_end f k i n ≡ i
+  pub end_none : (k i n : ℕ) → n ≤ 0 → run_end f k i n ≡ i
   unfolding run_end
   end_none k i zero h = refl
   end_none k i (suc n) h = absurd (omega arith)

@@ -4,7 +4,7 @@ use mathlib.Core.Path.{◌≡◌, refl, ap, sym, ◌∙◌, subst}
 use mathlib.Core.List.{List, [], ◌++◌}
 use native.Mathlib.Omega.{arith}
 use borrow.Author.Tests.{lt-ltb, le-ltb}
-use lib.ListN.{length, take}
+use lib.ListN.{length, take, length-append}
 use Rattle.std.specs.Prelude.{Option, None, Some, Ok, Err, option_copied}
 use Rattle.std.specs.Borrow.{Bor}
 use Rattle.std.specs.Option.{unwrap_or}
@@ -19,7 +19,7 @@ use Rattle.profile.specs.Taken.{unit_or_zeros}
 use Rattle.day.specs.Day.{day_seconds, fates_in, courses_in, quantities_in, closing_in, finding_in}
 use Rattle.lines.specs.Text.{laid}
 use Rattle.lines.specs.Writing.{SinkLaws}
-use Rattle.lines.proofs.Laying.{Next, next_append, next_last}
+use Rattle.lines.proofs.Laying.{Next, next_append, next_last, next_length}
 use Rattle.lines.proofs.Sinks.{Putting, put_none, put_next, put_more, put_all}
 use Rattle.listing.specs.Listing.{listing, printed_day, list_answer, list_of, lent_after}
 use Rattle.listing_print.specs.Parts.{lines_f, lines_s, lines_q, line_e, most_f, most_s, most_q, most_e, most_bytes, with_finding}
@@ -35,9 +35,13 @@ abbrev pub from_s : Day → List ℕ
 from_s d = lines_s d ++ from_q d
 
 module _ (d : Day) where
-  in_parts : Next (printed_day d) (lines_f d) (from_s d)
+  pub in_parts : Next (printed_day d) (lines_f d) (from_s d)
   unfolding printed_day listing courses_lines closing_line fates_in courses_in quantities_in
   in_parts = record { parts = refl }
+
+  -- their widths add up
+  pub day_length : length (printed_day d) ≡ length (lines_f d) + length (lines_s d) + length (lines_q d) + length (line_e d)
+  day_length = omega (arith, next_length in_parts, length-append (lines_s d) (from_q d), length-append (lines_q d) (line_e d))
 
 -- ---- each part put after the parts before it, into a sink that was s and has room for all
 module _ {S : Type 0} {has_room : S → List ℕ → ℕ → Type 0} {takes : S → List ℕ → ℕ → S → Type 0} (laws : SinkLaws has_room takes)

@@ -2,7 +2,7 @@
 #![tactic(auto)]
 
 ghost use Rattle.std.specs.Prelude.{◌≡◌, []};
-ghost use Rattle.records.specs.Records.{unit_of};
+ghost use Rattle.records.specs.Records.{unit_of, opening_of};
 
 use course::Course;
 use records::{Instruction, Opening, UnitData};
@@ -93,6 +93,14 @@ pub fn no_unit() -> UnitData
     UnitData::default()
 }
 
+// An opening of zeros.
+#[tactic(auto, unfolding(records::specs::Records::opening_of))]
+pub fn no_opening() -> Opening
+    ensures { result ≡ opening_of [] }
+{
+    Opening::default()
+}
+
 impl Taken {
     ghost use Rattle.std.specs.Prelude.{◌≡◌};
     ghost use Rattle.profile.specs.Taken.{unit_or_zeros, start_or_zeros};
@@ -105,11 +113,10 @@ impl Taken {
     }
 
     // What the opening starts; zeros while there is none.
-    #[tactic(auto, unfolding(crate::specs::Taken::start_of, records::specs::Records::opening_of))]
     pub fn start_or_zeros(&self) -> Start
         ensures { result ≡ start_or_zeros self.now }
     {
-        self.start.unwrap_or_default()
+        self.start.unwrap_or(Start::from(no_opening()))
     }
 }
 

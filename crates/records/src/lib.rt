@@ -210,6 +210,8 @@ impl Refusal {
     pub fn number(self) -> u8
         ensures { result ≡ refusal_number self }
     {
-        self as u8
+        // (Named, so that the edits that plant another number tell it from the two above.)
+        let refusal = self;
+        refusal as u8
     }
 }

@@ -146,17 +146,14 @@ fn used_ordered(os: &[Numbered], end: u32) -> Sequence
 {
     let mut out = none();
     for run in os.chunk_by(|a, b| a.instruction.effective == b.instruction.effective) {
-        let first = run[0];
+        let first = &run[0];
         let t = first.instruction.effective;
         if end <= t {
             return out;
         }
-        let used = if run.len() == 1 {
-            Some(first)
-        } else {
-            used_at(os, t)
-        };
-        if let Some(o) = used {
+        if run.len() == 1 {
+            out.push(*first);
+        } else if let Some(o) = used_at(os, t) {
             out.push(o);
         }
     }

@@ -81,7 +81,7 @@ overtaken_is o [] h = sym (lt-leb never (acting o) h)
 overtaken_is o (l ∷ os) h =
     ap (λ (b : Bool). leb (acting l) (acting o) || b) (overtaken_is o os h) ∙ leb_min (earliest_acting os) (acting l) (acting o)
 
-late_is : (end own earliest : ℕ) (o : Numbered) (os : List Numbered) → own ≡ acting o → own < never → earliest ≡ earliest_acting os →
+pub late_is : (end own earliest : ℕ) (o : Numbered) (os : List Numbered) → own ≡ acting o → own < never → earliest ≡ earliest_acting os →
     late_fate_by end own earliest ≡ late_fate end o os
 unfolding late_fate_by late_fate
 late_is end own earliest o os e h k = rw (k, e, overtaken_is o os (rw e at h))
@@ -90,7 +90,7 @@ module _ (ks : List Numbered) (i : ℕ) (h : i < length ks) where
   abbrev one : Numbered
   one = get_or ks i no_numbered
 
-  acting_more : min (earliest_acting (drop (i + 1) ks)) (acting one) ≡ earliest_acting (drop i ks)
+  pub acting_more : min (earliest_acting (drop (i + 1) ks)) (acting one) ≡ earliest_acting (drop i ks)
   unfolding earliest_acting
   acting_more = rw (drop_more ks i no_numbered h)
 

@@ -165,7 +165,7 @@ module _ (is : List Instruction) (few : length is ≤ instruction_places) (later
       (λ j. ih j ++ (pick (superseded os o) 1 (e j) ∷ []))
       ∙ (sym (fates_last os ms (take i os) o) ∙ ap (fates_of os ms) (sym (take-suc os i no_numbered (omega (arith, numbered_length 1 is)))))
 
-  fates_all : fates_to (numbered 1 is) later (length (numbered 1 is)) ≡ fates_of (numbered 1 is) ms (numbered 1 is)
+  pub fates_all : fates_to (numbered 1 is) later (length (numbered 1 is)) ≡ fates_of (numbered 1 is) ms (numbered 1 is)
   fates_all =
       ap (fates_to (numbered 1 is) later) (numbered_length 1 is) ∙ (fates_upto (length is) (omega arith)
       ∙ ap (fates_of (numbered 1 is) ms) (take_all (length is) (numbered 1 is) (omega (arith, numbered_length 1 is))))
@@ -175,11 +175,11 @@ module _ (end : ℕ) (os ks : List Numbered) (fates : List ℕ) (t : Tracks ks f
   in_time : ks ≡ turned (check none_checked (used end os)).kept []
   in_time = sym (turned_back ks) ∙ ap (λ (l : List Numbered). turned l []) t.stack
 
-  acts_are : actors end ks ≡ (validated end os).acts
+  pub acts_are : actors end ks ≡ (validated end os).acts
   unfolding validated kept_of
   acts_are = ap (actors end) in_time
 
-  marks_are : Reads (settled fates (late_marks end ks)) (validated end os).marks
+  pub marks_are : Reads (settled fates (late_marks end ks)) (validated end os).marks
   unfolding validated kept_of
   marks_are =
       let m : Checked = check none_checked (used end os) in

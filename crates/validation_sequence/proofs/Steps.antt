@@ -15,7 +15,7 @@ use Rattle.records.specs.Codes.{same}
 use Rattle.validation.specs.declared.Numbered.{Numbered}
 use Rattle.validation.specs.Kept.{effect_of, Mark, mark, repeats, from_sync, before_sync, turned, Checked, failed, check_one, check}
 use Rattle.validation_groups.specs.Working.{no_numbered}
-use Rattle.validation_sequence.specs.Working.{set_fate, marked, none_checked, Tracks, NoneWithinHour, LatestWithinHour, FailedOne}
+use Rattle.validation_sequence.specs.Working.{set_fate, marked, none_checked, Tracks, sync_places, NoneWithinHour, LatestWithinHour, FailedOne}
 use Rattle.validation_sequence.proofs.Stack.{turned_last, from_at, before_at}
 
 -- what is matched is none
@@ -103,21 +103,24 @@ check_last m [] x = refl
 check_last m (y ∷ ys) x = check_last (check_one m y) ys x
 
 -- step 3 over the first i of those used
-pub record Checks (used : List Numbered) (i : ℕ) (kept : List Numbered) (fates : List ℕ) : Type 0 where
+pub record Checks (used : List Numbered) (i : ℕ) (kept : List Numbered) (syncs fates : List ℕ) : Type 0 where
   pub fewer : length kept ≤ i
   pub long : length fates ≡ instruction_places
+  pub noted : syncs ≡ sync_places 0 kept
   pub tracks : Tracks kept fates (check none_checked (take i used))
 
-pub checks_none : (used : List Numbered) → Checks used 0 [] (replicate instruction_places 2)
-unfolding check turned marked
-checks_none used = record { fewer = omega arith; long = refl; tracks = record { stack = refl; settled = refl } }
+pub checks_none : (used : List Numbered) → Checks used 0 [] [] (replicate instruction_places 2)
+unfolding check turned marked sync_places
+checks_none used = record { fewer = omega arith; long = refl; noted = refl; tracks = record { stack = refl; settled = refl } }
 
 -- with the one at the place i
-pub checks_more : {used next_kept : List Numbered} {next : List ℕ} {i : ℕ} → i < length used → length next_kept ≤ i + 1 →
-    length next ≡ instruction_places → Tracks next_kept next (check_one (check none_checked (take i used)) (get_or used i no_numbered)) →
-    Checks used (i + 1) next_kept next
-checks_more {used} {i = i} h few long t = record {
+pub checks_more : {used next_kept : List Numbered} {syncs next : List ℕ} {i : ℕ} → i < length used → length next_kept ≤ i + 1 →
+    length next ≡ instruction_places → syncs ≡ sync_places 0 next_kept →
+    Tracks next_kept next (check_one (check none_checked (take i used)) (get_or used i no_numbered)) →
+    Checks used (i + 1) next_kept syncs next
+checks_more {used} {i = i} h few long noted t = record {
   fewer = few;
   long = long;
+  noted = noted;
   tracks = rw (take_more used i no_numbered h, check_last none_checked (take i used) (get_or used i no_numbered)) t;
 }

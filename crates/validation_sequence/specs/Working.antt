@@ -38,6 +38,11 @@ pub record LatestSync (ks : List Numbered) (at : ℕ) : Type 0 where
   pub is : same (effect_of (get_or ks at no_numbered)) Sync ≡ true
   pub after : NoSyncFrom ks (at + 1)
 
+-- the places of the SYNCs among these, of which the first stands at the place i
+unfoldable pub sync_places : ℕ → List Numbered → List ℕ
+sync_places i [] = []
+sync_places i (k ∷ ks) = pick (same (effect_of k) Sync) (i ∷ sync_places (i + 1) ks) (sync_places (i + 1) ks)
+
 -- the latest SYNC is not within the hour, or is, and stands at this place
 abbrev pub NoneWithinHour : List Numbered → Numbered → Type 0
 NoneWithinHour ks o = sync_within_hour (effective_of o) (turned ks []) ≡ false
